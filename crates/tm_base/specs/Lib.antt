@@ -1,0 +1,6 @@
+pub mod formers
+pub mod Cells
+pub mod Expanded
+pub mod Layout
+pub mod Valid
+pub mod Transmutes

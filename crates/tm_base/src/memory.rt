@@ -1,0 +1,3 @@
+/// There wasn't enough memory.
+#[derive(Clone, Copy, PartialEq, Eq, Debug)]
+pub struct Memory;
