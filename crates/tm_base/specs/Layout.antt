@@ -134,7 +134,7 @@ unfoldable mutual
   layout_of (prim p) = prim_layout p
   layout_of never = empty_layout
   layout_of unit = empty_layout
-  layout_of (tuple fields) = empty_layout
+  layout_of (tuple members) = empty_layout
   layout_of (array t n) = record { size = n * (layout_of t).size; align = (layout_of t).align }
   layout_of (nonzero p) = prim_layout p
   layout_of phantom = empty_layout
@@ -148,7 +148,7 @@ unfoldable mutual
 
   pub variant_layouts : Variants → List (List Layout)
   variant_layouts no_variants = []
-  variant_layouts (variant value fields rest) = field_layouts fields ∷ variant_layouts rest
+  variant_layouts (variant value members rest) = field_layouts members ∷ variant_layouts rest
 
 abbrev pub size_of : Expanded → ℕ
 size_of t = (layout_of t).size

@@ -4,3 +4,4 @@ pub mod Expanded
 pub mod Layout
 pub mod Valid
 pub mod Transmutes
+pub mod Trees

@@ -52,7 +52,7 @@ all_public (field public t rest) = public && all_public rest
 
 -- a struct or a union may be made: private types keep their words, or each field is public
 abbrev pub IsOpen : Bool → Fields → Type 0
-IsOpen keep fields = IsTrue (keep || all_public fields)
+IsOpen keep members = IsTrue (keep || all_public members)
 
 -- Where the fields of an enum's variants begin: with `repr(C)` in a union of their own, which is
 -- behind the tag; else right behind the tag, in one struct with it.
@@ -75,7 +75,7 @@ module _ (A : ℕ → ℕ → Type 0) (keep : Bool) where
     Valid (prim p) w = PrimValid p w
     Valid never w = ⊥
     Valid unit w = w ≡ []
-    Valid (tuple fields) w = ⊥
+    Valid (tuple members) w = ⊥
     Valid (array t n) w = Times n (Valid t) w
     Valid (nonzero p) w = AreBytes (prim_size p) w × (0 < number_of w)
     Valid phantom w = w ≡ []
@@ -88,11 +88,11 @@ module _ (A : ℕ → ℕ → Type 0) (keep : Bool) where
     -- the fields of a `repr(transparent)` struct but one have no bytes, so they too may stand in order
     pub StructValid : Option ℕ → Variants → Word → Type 0
     StructValid packed no_variants w = ⊥
-    StructValid packed (variant value fields others) w = IsOpen keep fields × FieldsValid packed 0 fields w
+    StructValid packed (variant value members others) w = IsOpen keep members × FieldsValid packed 0 members w
 
     pub UnionValid : Variants → Word → Type 0
     UnionValid no_variants w = ⊥
-    UnionValid (variant value fields others) w = IsOpen keep fields × SomeFieldValid fields w
+    UnionValid (variant value members others) w = IsOpen keep members × SomeFieldValid members w
 
     -- What is left of a word at a place inside its struct: free bytes up to the first field, the field,
     -- and what is left behind it; behind the last field, free bytes.
@@ -114,9 +114,9 @@ module _ (A : ℕ → ℕ → Type 0) (keep : Bool) where
     -- the tag of one of the variants, free bytes up to where fields begin, and its fields
     pub SomeVariantValid : Option Primitive → ℕ → ℕ → Variants → Word → Type 0
     SomeVariantValid tag begin first no_variants w = ⊥
-    SomeVariantValid tag begin first (variant value fields rest) w =
+    SomeVariantValid tag begin first (variant value members rest) w =
         ((front : Word) × (gap : Word) × (others : Word) × (w ≡ front ++ (gap ++ others))
         × IsTag (tag_layout tag).size value front
         × (length front + length gap ≡ begin) × All IsFree gap
-        × FieldsValid None first fields others)
+        × FieldsValid None first members others)
         ⊎ SomeVariantValid tag begin first rest w
