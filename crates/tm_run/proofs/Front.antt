@@ -94,10 +94,10 @@ named q r from to text (Some z) other strip make others h =
 pub Name-name_at : (r : Primitive) (from to : List ℕ) → name_at from ≡ Some (r, to) → Name r from to
 Name-name_at r from to h =
     named p.Bool r from to (codes "bool") (stripped (codes "bool") from) _ (Text-stripped (codes "bool") from) (λ z e. e)
-      (named p.U8 r from to (codes "u8") (stripped (codes "u8") from) _ (Text-stripped (codes "u8") from) (λ z e. e)
-        (named p.U16 r from to (codes "u16") (stripped (codes "u16") from) _ (Text-stripped (codes "u16") from) (λ z e. e)
-          (named p.U32 r from to (codes "u32") (stripped (codes "u32") from) _ (Text-stripped (codes "u32") from) (λ z e. e)
-            (named p.U64 r from to (codes "u64") (stripped (codes "u64") from) None (Text-stripped (codes "u64") from) (λ z e. e) (λ e. cc))))) h
+    (named p.U8 r from to (codes "u8") (stripped (codes "u8") from) _ (Text-stripped (codes "u8") from) (λ z e. e)
+    (named p.U16 r from to (codes "u16") (stripped (codes "u16") from) _ (Text-stripped (codes "u16") from) (λ z e. e)
+    (named p.U32 r from to (codes "u32") (stripped (codes "u32") from) _ (Text-stripped (codes "u32") from) (λ z e. e)
+    (named p.U64 r from to (codes "u64") (stripped (codes "u64") from) None (Text-stripped (codes "u64") from) (λ z e. e) (λ e. cc))))) h
 
 -- a digit isn't white space
 digit-no_space : (b : ℕ) → is_ascii_digit b ≡ true → is_space b ≡ false
@@ -127,7 +127,7 @@ AreDigits-digits_at [] = record { split = refl; digits = refl; ends = refl }
 AreDigits-digits_at (b ∷ bs) = by (is_ascii_digit b) refl (AreDigits-digits_at bs)
   where
     by : (s : Bool) → is_ascii_digit b ≡ s → AreDigits bs (digits_at bs)
-      → AreDigits (b ∷ bs) (if s then (b ∷ (digits_at bs).0, (digits_at bs).1) else ([], b ∷ bs))
+        → AreDigits (b ∷ bs) (if s then (b ∷ (digits_at bs).0, (digits_at bs).1) else ([], b ∷ bs))
     by true e again = record { split = ap (λ v. b ∷ v) again.split; digits = rw e again.digits; ends = again.ends }
     by false e again = record { split = refl; digits = refl; ends = e }
 
@@ -153,10 +153,10 @@ in_Number n from to (digits, rest) are h = by (nat_lt 0 (length digits) && nat_l
   where
     by : (s : Bool) → (nat_lt 0 (length digits) && nat_le (length digits) 4) ≡ s → if◌then◌else◌ {A = Found ℕ} s (Some (digits_value 10 digits, rest)) None ≡ Some (n, to) → Number n from to
     by true e h =
-      let pair = Some-injective (digits_value 10 digits, rest) (n, to) h in
-      let same : rest ≡ to = ap (λ v. v.1) pair in
-      let bounds = few_back (length digits) e in
-      (digits, are.split ∙ ap (λ v. digits ++ v) same, subst (λ (v : List ℕ). starts_with_digit v ≡ false) same are.ends, are.digits, bounds.0, bounds.1, ap (λ v. v.0) pair)
+        let pair = Some-injective (digits_value 10 digits, rest) (n, to) h in
+        let same : rest ≡ to = ap (λ v. v.1) pair in
+        let bounds = few_back (length digits) e in
+        (digits, are.split ∙ ap (λ v. digits ++ v) same, subst (λ (v : List ℕ). starts_with_digit v ≡ false) same are.ends, are.digits, bounds.0, bounds.1, ap (λ v. v.0) pair)
     by false e h = cc
 
 pub Number-number_at : (n : ℕ) (from to : List ℕ) → number_at from ≡ Some (n, to) → (Gap ⨾ Number n) from to

@@ -1,2 +1,4 @@
+pub mod BytesLemmas
 pub mod Front
 pub mod Spelling
+pub mod VerdictLemmas

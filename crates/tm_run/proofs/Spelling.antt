@@ -155,8 +155,8 @@ TypeBehindWord-type_at g from to h = by (behind (codes "[") from) (starts_with_s
     by (Some inside) s e f h = inr (array_type g from to inside e h)
     by None false e f h = cc
     by None true e f h =
-      let (q, same, found) = prim_of-some (name_at (skipped from)) g to h in
-      inl (q, same, (skipped from, Space-Gap from (skipped from) f (skipped-front from) (Gap-skipped from), Name-name_at q (skipped from) to found))
+        let (q, same, found) = prim_of-some (name_at (skipped from)) g to h in
+        inl (q, same, (skipped from, Space-Gap from (skipped from) f (skipped-front from) (Gap-skipped from), Name-name_at q (skipped from) to found))
 
 -- a question
 question_at-Question : (ask : Ask) (from to : List ℕ) → Question ask from to → question_at from ≡ Some (ask, to)
@@ -183,7 +183,7 @@ Question-question_at ask from to h =
     let (d, gap2, arrow) = Text-behind (codes "=>") c e e3 in
     let (g, gap3, semi) = Text-behind (codes ";") f z e5 in
     let all : Question made from z =
-      (refl, (a, gap1, (b, word, (c, TypeBehindWord-type_at src b c e2, (d, gap2, (e, arrow, (f, Type-type_at dst e f e4, (g, gap3, semi)))))))) in
+    (refl, (a, gap1, (b, word, (c, TypeBehindWord-type_at src b c e2, (d, gap2, (e, arrow, (f, Type-type_at dst e f e4, (g, gap3, semi)))))))) in
     subst (λ (x : Ask). Question x from to) same (subst (λ (x : List ℕ). Question made from x) rest all)
 
 -- a question begins with a letter
@@ -221,13 +221,13 @@ Questions-questions_at zero asks from h = by (skipped from) refl h
 Questions-questions_at (suc n) asks from h = by (skipped from) refl (λ others rest k. Questions-questions_at n others rest k) h
   where
     by : (s : List ℕ) → skipped from ≡ s → ((others : List Ask) (rest : List ℕ) → questions_at n rest ≡ Some others → (length others ≤ n) × Questions others rest [])
-      → last_or (and_then (question_at from) (λ (a, r). consed a (questions_at n r))) s ≡ Some asks → (length asks ≤ suc n) × Questions asks from []
+        → last_or (and_then (question_at from) (λ (a, r). consed a (questions_at n r))) s ≡ Some asks → (length asks ≤ suc n) × Questions asks from []
     by [] e again h = no_questions from (suc n) asks e h
     by (b ∷ bs) e again h =
-      let ((ask, rest), found, k) = and_then-some (question_at from) _ asks h in
-      let (others, e2, same) = consed-some ask (questions_at n rest) asks k in
-      let (few, spelled) = again others rest e2 in
-      subst (λ (x : List Ask). (length x ≤ suc n) × Questions x from []) (sym same) (omega arith, (rest, Question-question_at ask from rest found, spelled))
+        let ((ask, rest), found, k) = and_then-some (question_at from) _ asks h in
+        let (others, e2, same) = consed-some ask (questions_at n rest) asks k in
+        let (few, spelled) = again others rest e2 in
+        subst (λ (x : List Ask). (length x ≤ suc n) × Questions x from []) (sym same) (omega arith, (rest, Question-question_at ask from rest found, spelled))
 
 -- the questions that are found in a whole file are the ones that it spells
 pub questions_at-Spells : (file : List ℕ) (asks : List Ask) → Spells file asks → questions_at 256 file ≡ Some asks
@@ -273,8 +273,8 @@ pub questions_at-more : (n : ℕ) (asks : List Ask) (ask : Ask) (rest others : L
 questions_at-more n asks ask rest others h e =
     let one : n + 1 ≡ suc n = omega arith in
     sym (ap (λ m. appended asks (questions_at m rest)) one
-      ∙ ap (appended asks) (questions_at-suc n rest h ∙ ap (λ found. and_then found (λ (a, r). consed a (questions_at n r))) e)
-      ∙ appended-consed asks ask (questions_at n others))
+    ∙ ap (appended asks) (questions_at-suc n rest h ∙ ap (λ found. and_then found (λ (a, r). consed a (questions_at n r))) e)
+    ∙ appended-consed asks ask (questions_at n others))
 
 -- an error that is passed on
 pub ReadsBy-err : {T U U' : Type 0} (seen : T → U') (e : FileErr) (result : Result T FileErr) (found : Option U) (whole : Option U')

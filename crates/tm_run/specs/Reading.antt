@@ -41,7 +41,7 @@ named_or p (Some rest) other = Some (p, rest)
 abbrev pub name_at : List ℕ → Found Primitive
 name_at bs =
     named_or bool' (stripped (codes "bool") bs) (named_or U8 (stripped (codes "u8") bs) (named_or U16 (stripped (codes "u16") bs)
-      (named_or U32 (stripped (codes "u32") bs) (named_or U64 (stripped (codes "u64") bs) None))))
+    (named_or U32 (stripped (codes "u32") bs) (named_or U64 (stripped (codes "u64") bs) None))))
 
 -- the digits at the front, and what stands behind them
 abbrev pub digits_at : List ℕ → List ℕ × List ℕ
@@ -83,7 +83,7 @@ asked src dst rest = Some (record { src = src; dst = dst; assume = nothing_assum
 abbrev pub question_at : List ℕ → Found Ask
 question_at bs =
     and_then (behind (codes "ask") bs) (λ a. and_then (type_at (starts_with_space a) a) (λ (src, b). and_then (behind (codes "=>") b)
-      (λ c. and_then (type_at true c) (λ (dst, d). and_then (behind (codes ";") d) (asked src dst)))))
+    (λ c. and_then (type_at true c) (λ (dst, d). and_then (behind (codes ";") d) (asked src dst)))))
 
 abbrev pub last_or : Option (List Ask) → List ℕ → Option (List Ask)
 last_or more [] = Some []

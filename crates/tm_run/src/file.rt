@@ -29,7 +29,7 @@ const MOST_QUESTIONS: usize = 256;
 
 const MOST_DIGITS: usize = 4;
 
-const MOST_ELEMENTS: u32 = 4096;
+pub const MOST_ELEMENTS: u32 = 4096;
 
 fn is_space(b: u8) -> bool
     ensures { result ≡ is_space b }

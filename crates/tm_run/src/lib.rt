@@ -1,4 +1,8 @@
 //! The whole run: from the words and bytes of an input to a report and a status.
 #![tactic(auto)]
 
+mod bytes;
 mod file;
+mod report;
+mod status;
+mod verdict;

@@ -14,7 +14,7 @@ returns-in_err-ask c =
     let more : length (skipped c.loop-turn.rest.now) ≡ 0 → ⊥ = λ h. let t : c.is_blank.result ≡ true = c.is_blank.ensures.1 h in let f : c.is_blank.result ≡ false = c.if-is_blank.false in cc in
     let left : 0 < 256 - c.loop-turn.turn = omega arith in
     ReadsBy-err (λ asks. asks) _ _ _ _ c.from_residual.ensures.1 c.in_err-ask.ensures
-      (λ bad. sym c.loop-turn.invariant ∙ ap (appended c.loop-turn.asks) (questions_at-bad (256 - c.loop-turn.turn) c.loop-turn.rest.now more left bad))
+    (λ bad. sym c.loop-turn.invariant ∙ ap (appended c.loop-turn.asks) (questions_at-bad (256 - c.loop-turn.turn) c.loop-turn.rest.now more left bad))
 
 pub loop-turn-preserved : goal.loop-turn-preserved
 loop-turn-preserved c =

@@ -1,0 +1,51 @@
+-- The types of the question file's grammar: some bytes, each of which has a number up to a greatest.
+use Rattle.std.specs.Prelude.{◌≡◌, ℕ, zero, suc, ◌≤◌, ◌<◌, ◌*◌, ◌==◌, Bool, true, false, ◌&&◌, ◌||◌, nat_le, if◌then◌else◌, Option, Some, None, IsSome, List, [], ◌∷◌}
+use Rattle.tm_base.specs.declared.ask.Ask.{Ask}
+use Rattle.tm_base.specs.declared.cell.Cell.TheVariants.{Byte}
+use Rattle.tm_base.specs.declared.ground.Ground.{Ground, out-Ground}
+use Rattle.tm_base.specs.declared.ground.Ground.TheOpen.{Ground-F}
+use Rattle.tm_base.specs.declared.ground.Primitive.{Primitive}
+use Rattle.tm_base.specs.declared.ground.Primitive.TheVariants.{Bool as bool', U8, U16, U32, U64}
+use Rattle.tm_base.specs.Cells.{Word}
+use Rattle.tm_run.specs.Files.{nothing_assumed}
+use Rattle.tm_run.specs.declared.bytes.Bytes.{Bytes}
+
+-- so many bytes, each at most so great
+abbrev pub UpTo : ℕ → ℕ → Word → Type 0
+UpTo most zero w = w ≡ []
+UpTo most (suc count) w = (b : ℕ) × (others : Word) × (w ≡ Byte b ∷ others) × (b ≤ most) × UpTo most count others
+
+abbrev pub prim_bytes : Primitive → Option Bytes
+prim_bytes bool' = Some (record { most = 1; count = 1 })
+prim_bytes U8 = Some (record { most = 255; count = 1 })
+prim_bytes U16 = Some (record { most = 255; count = 2 })
+prim_bytes U32 = Some (record { most = 255; count = 4 })
+prim_bytes U64 = Some (record { most = 255; count = 8 })
+prim_bytes _ = None
+
+abbrev pub element_bytes : Ground-F Ground → Option Bytes
+element_bytes (Ground-F.Prim p) = prim_bytes p
+element_bytes _ = None
+
+abbrev pub repeated : ℕ → Option Bytes → Option Bytes
+repeated n None = None
+repeated n (Some bytes) = if nat_le n 4096 then Some (record { most = bytes.most; count = n * bytes.count }) else None
+
+-- the bytes of a type of the grammar
+abbrev pub bytes_in : Ground-F Ground → Option Bytes
+bytes_in (Ground-F.Prim p) = prim_bytes p
+bytes_in (Ground-F.Array element n) = repeated n (element_bytes (out-Ground element))
+bytes_in _ = None
+
+abbrev pub bytes_of : Ground → Option Bytes
+bytes_of g = bytes_in (out-Ground g)
+
+-- each word of the first, fitted, is one of the second
+abbrev pub covers : Bytes → Bytes → Bool
+covers src dst = (dst.count == 0) || (nat_le dst.count src.count && nat_le src.most dst.most)
+
+-- a question between types of the grammar, where nothing is assumed
+pub record IsOfGrammar (ask : Ask) : Type 0 where
+  pub src : IsSome (bytes_of ask.src)
+  pub dst : IsSome (bytes_of ask.dst)
+  pub assume : ask.assume ≡ nothing_assumed
