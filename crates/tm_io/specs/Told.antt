@@ -1,5 +1,5 @@
--- What is taken from a source that tells which bytes it has left, and what is added to a sink that tells
--- which bytes were written. Of one that told nothing, nothing is said.
+-- What is taken from a source that tells which bytes it has left, and what is added to a sink that
+-- tells which bytes were written. Of one that told nothing, nothing is said.
 use Rattle.std.specs.Prelude.{◌≡◌, ℕ, ◌+◌, ◌<◌, ◌≤◌, Option, Some, IfSome, List, [], ◌++◌, length, drop}
 
 -- the bytes are all that were told, and none is left
@@ -14,7 +14,8 @@ TakesPast before now limit =
 -- a front of the told bytes was taken, of at most so many, and the rest is left
 abbrev pub TakesAtMost : Option (List ℕ) → Option (List ℕ) → ℕ → Type 0
 TakesAtMost before now most =
-    IfSome before (λ told. (front : List ℕ) × (rest : List ℕ) × (length front ≤ most) × (told ≡ front ++ rest) × (now ≡ Some rest))
+    IfSome before (λ told. (front : List ℕ) × (rest : List ℕ) × (length front ≤ most)
+    × (told ≡ front ++ rest) × (now ≡ Some rest))
 
 -- the bytes were added, all of them
 abbrev pub AddsAll : Option (List ℕ) → Option (List ℕ) → List ℕ → Type 0
@@ -23,4 +24,5 @@ AddsAll before now bytes = IfSome before (λ told. now ≡ Some (told ++ bytes))
 -- a prefix of the bytes was added
 abbrev pub AddsPrefix : Option (List ℕ) → Option (List ℕ) → List ℕ → Type 0
 AddsPrefix before now bytes =
-    IfSome before (λ told. (front : List ℕ) × (rest : List ℕ) × (bytes ≡ front ++ rest) × (now ≡ Some (told ++ front)))
+    IfSome before (λ told. (front : List ℕ) × (rest : List ℕ) × (bytes ≡ front ++ rest)
+    × (now ≡ Some (told ++ front)))

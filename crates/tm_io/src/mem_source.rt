@@ -1,4 +1,7 @@
-ghost use Rattle.std.specs.Prelude.{◌≡◌, Some};
+ghost use Rattle.std.specs.Prelude.{◌≡◌, Some, length, min};
+ghost use Rattle.std.specs.Io.{ReadsAtMost};
+ghost use Rattle.std.specs.Io.KnownBytes.{ReadConsumes};
+ghost use Rattle.tm_io.specs.Faults.{HasCause};
 
 use crate::failed::Failed;
 use crate::source::Source;
@@ -35,7 +38,15 @@ impl Source for MemSource {
 
     ghost faults = { λ _. 0 };
 
-    fn read(&mut self, buf: &mut [u8]) -> Result<usize, Failed> {
+    /// Takes as many bytes as the buffer has room for.
+    fn read(&mut self, buf: &mut [u8]) -> Result<usize, Failed>
+        ensures bound { ReadsAtMost result buf.new }
+        ensures bytes { ReadConsumes (Some self.old) (Some self.new) result buf.new }
+        ensures cause { HasCause 0 0 result }
+
+        // How many it takes.
+        ensures taken { result ≡ Ok (min (length buf.old) (length self.old)) }
+    {
         let count = buf.len().min(self.bytes.len() - self.start);
         let end = self.start + count;
         buf[..count].copy_from_slice(&self.bytes[self.start..end]);

@@ -1,4 +1,6 @@
-ghost use Rattle.std.specs.Prelude.{◌≡◌, ◌<◌, ◌≤◌, None, IfSome, length};
+ghost use Rattle.std.specs.Prelude.{◌≡◌, ◌<◌, ◌≤◌, None, IfOk, IfSome, OnErr, length};
+ghost use Rattle.std.specs.Io.{WritesAtMost};
+ghost use Rattle.tm_io.specs.Faults.{HasCause, raised};
 
 use crate::failed::Failed;
 use crate::sink::Sink;
@@ -35,7 +37,14 @@ impl<W: Write> Sink for StdSink<W> {
 
     ghost faults = { λ sink. sink };
 
-    fn write(&mut self, piece: &[u8]) -> Result<usize, Failed> {
+    /// Fails where the writer or its flush does, or where it takes nothing of a piece that isn't empty,
+    /// and counts that.
+    fn write(&mut self, piece: &[u8]) -> Result<usize, Failed>
+        ensures bound { WritesAtMost result piece.now }
+        ensures some { 0 < length piece.now → IfOk result (λ count. 0 < count) }
+        ensures cause { HasCause self.old self.new result }
+        ensures counted { OnErr result (self.new ≡ raised self.old) }
+    {
         match write_through(&mut self.inner, piece) {
             Some(count) => Ok(count),
             None => {

@@ -1,4 +1,6 @@
-ghost use Rattle.std.specs.Prelude.{◌≡◌, None};
+ghost use Rattle.std.specs.Prelude.{◌≡◌, None, OnErr};
+ghost use Rattle.std.specs.Io.{ReadsAtMost};
+ghost use Rattle.tm_io.specs.Faults.{HasCause, raised};
 
 use crate::failed::Failed;
 use crate::source::Source;
@@ -34,7 +36,12 @@ impl<R: Read> Source for StdSource<R> {
 
     ghost faults = { λ source. source };
 
-    fn read(&mut self, buf: &mut [u8]) -> Result<usize, Failed> {
+    /// Fails where the reader does, and counts that.
+    fn read(&mut self, buf: &mut [u8]) -> Result<usize, Failed>
+        ensures bound { ReadsAtMost result buf.new }
+        ensures cause { HasCause self.old self.new result }
+        ensures counted { OnErr result (self.new ≡ raised self.old) }
+    {
         match self.inner.read(buf) {
             Ok(count) => Ok(count),
             Err(_) => {

@@ -161,6 +161,9 @@ fn errors_say_what_went_wrong(rt: HostRuntime) -> Result<(), Fail> {
     ] {
         assert_eq!(rt; error.to_string(alloc)?.as_str(), text);
     }
-    assert_eq!(rt; SinkErr::Fault.to_string(alloc)?.as_str(), "the output can't be written");
+    assert_eq!(rt;
+        SinkErr::Fault.to_string(alloc)?.as_str(),
+        "the output can't be written"
+    );
     Ok(())
 }
