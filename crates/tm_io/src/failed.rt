@@ -1,0 +1,3 @@
+/// A source or a sink failed, and counted it.
+#[derive(Clone, Copy, PartialEq, Eq, Debug)]
+pub struct Failed;
