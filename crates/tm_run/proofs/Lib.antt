@@ -1,4 +1,5 @@
 pub mod BytesLemmas
 pub mod Front
+pub mod GrammarLemmas
 pub mod Spelling
 pub mod VerdictLemmas

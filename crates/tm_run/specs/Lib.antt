@@ -1,5 +1,6 @@
 pub mod Bytes
 pub mod Files
+pub mod Outcomes
 pub mod Reading
 pub mod Report
 pub mod Verdicts

@@ -7,7 +7,7 @@ ghost use Rattle.tm_run.specs.Reading.{ReadsBy, skipped, stripped, behind, name_
 ghost use Rattle.tm_run.specs.declared.file.FileErr.TheVariants.{OutOfMemory};
 ghost use Rattle.tm_run.specs.Files.{Asks, Spells, is_space};
 
-use std::alloc::Global;
+use std::alloc::{AllocError, Global};
 use tm_base::{Ask, Assume, Boxed, Ground, List, Memory, Primitive};
 
 /// Why no questions were read: the bytes aren't a question file, or memory was wanting.
@@ -21,6 +21,14 @@ impl From<Memory> for FileErr {
     ghost from_gives = { λ _ err. err ≡ OutOfMemory };
 
     fn from(_: Memory) -> FileErr {
+        FileErr::OutOfMemory
+    }
+}
+
+impl From<AllocError> for FileErr {
+    ghost from_gives = { λ _ err. err ≡ OutOfMemory };
+
+    fn from(_: AllocError) -> FileErr {
         FileErr::OutOfMemory
     }
 }

@@ -4,5 +4,8 @@
 mod bytes;
 mod file;
 mod report;
+mod run;
 mod status;
 mod verdict;
+
+pub use status::Status;

@@ -1,0 +1,59 @@
+-- What a run comes to: a status, and the bytes that are written.
+use Rattle.std.specs.Prelude.{◌≡◌, ℕ, ◌+◌, ◌<◌, ◌≤◌, ◌⊎◌, Option, Some, None, IfSome, List, [], ◌++◌, length, drop, codes}
+use Rattle.tm_base.specs.declared.ask.Ask.{Ask}
+use Rattle.tm_io.specs.Told.{AddsAll, AddsPrefix}
+use Rattle.tm_run.specs.Files.{Spells}
+use Rattle.tm_run.specs.Report.{line_end, report_of, status_of}
+use Rattle.tm_run.specs.Verdicts.{AreTrueVerdicts}
+use Rattle.tm_run.specs.declared.status.Status.{Status}
+use Rattle.tm_run.specs.declared.status.Status.TheVariants.{AllYes, Mixed, Usage, BadText, Limit, ReadFault, WriteFault, Memory, IllFormed}
+use Rattle.tm_run.specs.declared.verdict.Verdict.{Verdict}
+
+-- the greatest number of bytes that a file has
+abbrev pub file_bytes : ℕ
+file_bytes = 1048576
+
+abbrev pub usage_line : List ℕ
+usage_line = codes "usage: transmute_report" ++ line_end
+
+abbrev pub bad_text_line : List ℕ
+bad_text_line = codes "bad text" ++ line_end
+
+abbrev pub limit_line : List ℕ
+limit_line = codes "limit file-bytes 1048576 passed" ++ line_end
+
+-- the file is not too long and spells questions
+abbrev pub IsAccepted : List ℕ → Type 0
+IsAccepted file = (length file ≤ file_bytes) × ((asks : List Ask) × Spells file asks)
+
+-- The headline: the file is not too long and spells questions; each is answered yes exactly where every
+-- valid word of its source, fitted, is a valid word of its target; and the text is the report on these
+-- answers.
+pub record IsReport (file : List ℕ) (status : Status) (text : List ℕ) : Type 0 where
+  pub short : length file ≤ file_bytes
+  pub asks : List Ask
+  pub spelled : Spells file asks
+  pub verdicts : List Verdict
+  pub answered : AreTrueVerdicts asks verdicts
+  pub status_is : status ≡ status_of verdicts
+  pub text_is : text ≡ report_of verdicts
+
+-- What a run comes to where no read and no write fails and memory is found: by the words that it is given
+-- and the bytes of its input up to their end.
+abbrev pub IsOutcome : {W : Type 0} → List W → List ℕ → Status → List ℕ → Type 0
+IsOutcome words file Usage text = (0 < length words) × (text ≡ usage_line)
+IsOutcome words file Limit text = (length words ≡ 0) × (file_bytes < length file) × (text ≡ limit_line)
+IsOutcome words file BadText text = (length words ≡ 0) × (length file ≤ file_bytes) × (IsAccepted file → ⊥) × (text ≡ bad_text_line)
+IsOutcome words file AllYes text = (length words ≡ 0) × IsReport file AllYes text
+IsOutcome words file Mixed text = (length words ≡ 0) × IsReport file Mixed text
+IsOutcome words file ReadFault text = ⊥
+IsOutcome words file WriteFault text = ⊥
+IsOutcome words file Memory text = ⊥
+IsOutcome words file IllFormed text = ⊥
+
+-- no read and no write failed, and memory was found
+abbrev pub IsSettled : Status → Type 0
+IsSettled ReadFault = ⊥
+IsSettled WriteFault = ⊥
+IsSettled Memory = ⊥
+IsSettled _ = Unit {0}
