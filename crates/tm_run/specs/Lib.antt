@@ -3,4 +3,5 @@ pub mod Files
 pub mod Outcomes
 pub mod Reading
 pub mod Report
+pub mod Runs
 pub mod Verdicts

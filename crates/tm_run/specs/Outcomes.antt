@@ -1,5 +1,5 @@
 -- What a run comes to: a status, and the bytes that are written.
-use Rattle.std.specs.Prelude.{◌≡◌, ℕ, ◌+◌, ◌<◌, ◌≤◌, ◌⊎◌, Option, Some, None, IfSome, List, [], ◌++◌, length, drop, codes}
+use Rattle.std.specs.Prelude.{◌≡◌, ℕ, ◌+◌, ◌<◌, ◌≤◌, ◌⊎◌, Option, Some, None, IfSome, List, [], ◌++◌, length, codes}
 use Rattle.tm_base.specs.declared.ask.Ask.{Ask}
 use Rattle.tm_io.specs.Told.{AddsAll, AddsPrefix}
 use Rattle.tm_run.specs.Files.{Spells}
@@ -38,22 +38,56 @@ pub record IsReport (file : List ℕ) (status : Status) (text : List ℕ) : Type
   pub status_is : status ≡ status_of verdicts
   pub text_is : text ≡ report_of verdicts
 
+-- What is answered to a file that isn't too long: the report on it, or that it isn't one.
+abbrev pub IsFileOutcome : List ℕ → Status → List ℕ → Type 0
+IsFileOutcome file AllYes text = IsReport file AllYes text
+IsFileOutcome file Mixed text = IsReport file Mixed text
+IsFileOutcome file BadText text = (length file ≤ file_bytes) × (IsAccepted file → ⊥) × (text ≡ bad_text_line)
+IsFileOutcome file Usage text = ⊥
+IsFileOutcome file Limit text = ⊥
+IsFileOutcome file ReadFault text = ⊥
+IsFileOutcome file WriteFault text = ⊥
+IsFileOutcome file Memory text = ⊥
+IsFileOutcome file IllFormed text = ⊥
+
 -- What a run comes to where no read and no write fails and memory is found: by the words that it is given
 -- and the bytes of its input up to their end.
 abbrev pub IsOutcome : {W : Type 0} → List W → List ℕ → Status → List ℕ → Type 0
 IsOutcome words file Usage text = (0 < length words) × (text ≡ usage_line)
 IsOutcome words file Limit text = (length words ≡ 0) × (file_bytes < length file) × (text ≡ limit_line)
-IsOutcome words file BadText text = (length words ≡ 0) × (length file ≤ file_bytes) × (IsAccepted file → ⊥) × (text ≡ bad_text_line)
-IsOutcome words file AllYes text = (length words ≡ 0) × IsReport file AllYes text
-IsOutcome words file Mixed text = (length words ≡ 0) × IsReport file Mixed text
-IsOutcome words file ReadFault text = ⊥
-IsOutcome words file WriteFault text = ⊥
-IsOutcome words file Memory text = ⊥
-IsOutcome words file IllFormed text = ⊥
+IsOutcome words file status text = (length words ≡ 0) × IsFileOutcome file status text
 
 -- no read and no write failed, and memory was found
 abbrev pub IsSettled : Status → Type 0
 IsSettled ReadFault = ⊥
 IsSettled WriteFault = ⊥
 IsSettled Memory = ⊥
-IsSettled _ = Unit {0}
+IsSettled AllYes = Unit {0}
+IsSettled Mixed = Unit {0}
+IsSettled Usage = Unit {0}
+IsSettled BadText = Unit {0}
+IsSettled Limit = Unit {0}
+IsSettled IllFormed = Unit {0}
+
+-- The input is known as far as the run asks for it: the words are not in form, and no byte is asked for; or
+-- the source told its bytes.
+abbrev pub IsTold : {W : Type 0} → List W → Option (List ℕ) → List ℕ → Type 0
+IsTold words left file = (0 < length words) ⊎ (left ≡ Some file)
+
+-- the words are in form, the source told the bytes of the file, and the run is settled
+pub record IsRead {W : Type 0} (words : List W) (left : Option (List ℕ)) (file : List ℕ) (status : Status) : Type 0 where
+  pub in_form : length words ≡ 0
+  pub told : left ≡ Some file
+  pub settled : IsSettled status
+
+-- the whole text of the outcome was written
+abbrev pub WritesOutcome : {W : Type 0} → List W → List ℕ → Status → Option (List ℕ) → Option (List ℕ) → Type 0
+WritesOutcome words file status before now = (text : List ℕ) × IsOutcome words file status text × AddsAll before now text
+
+-- a front of the text of the outcome was written
+abbrev pub WritesPrefix : {W : Type 0} → List W → List ℕ → Option (List ℕ) → Option (List ℕ) → Type 0
+WritesPrefix words file before now = (status : Status) × (text : List ℕ) × IsOutcome words file status text × AddsPrefix before now text
+
+-- the whole report was written
+abbrev pub WritesReport : List ℕ → Status → Option (List ℕ) → Option (List ℕ) → Type 0
+WritesReport file status before now = (text : List ℕ) × IsReport file status text × AddsAll before now text

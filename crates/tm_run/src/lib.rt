@@ -4,8 +4,9 @@
 mod bytes;
 mod file;
 mod report;
-mod run;
+mod running;
 mod status;
 mod verdict;
 
+pub use running::run;
 pub use status::Status;

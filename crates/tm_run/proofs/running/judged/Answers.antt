@@ -2,7 +2,7 @@ use Rattle.std.proofs.Common.{◌≡◌, sym, subst, List, All}
 use Rattle.tm_base.specs.declared.ask.Ask.{Ask}
 use Rattle.tm_run.specs.Bytes.{IsOfGrammar}
 use Rattle.tm_run.proofs.GrammarLemmas.{Spells-IsOfGrammar}
-use Rattle.tm_run.proofs.run.judged.Goals as goal
+use Rattle.tm_run.proofs.running.judged.Goals as goal
 
 pub verdicts-requires : goal.verdicts-requires
 verdicts-requires c =

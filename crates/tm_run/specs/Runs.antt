@@ -1,0 +1,37 @@
+-- What a run keeps, all at once: the clauses of `run` say each of it.
+use Rattle.std.specs.Prelude.{◌≡◌, ◌≢◌, ℕ, ◌<◌, ◌≤◌, ◌⊎◌, ◌↔◌, Option, Some, List, length, drop}
+use Rattle.tm_io.specs.Faults.{Rose}
+use Rattle.tm_io.specs.Told.{AddsAll, AddsPrefix}
+use Rattle.tm_run.specs.Outcomes.{file_bytes, IsAccepted, IsFileOutcome, IsSettled, IsTold, IsRead, WritesOutcome, WritesPrefix, WritesReport}
+use Rattle.tm_run.specs.declared.status.Status.{Status}
+use Rattle.tm_run.specs.declared.status.Status.TheVariants.{Usage, BadText, Limit, ReadFault, WriteFault, Memory, IllFormed}
+
+-- A text is written whole and its status answered, or writing fails.
+pub record Finishes (status : Status) (text : List ℕ) (written written' : Option (List ℕ)) (faults faults' : ℕ) (result : Status) : Type 0 where
+  pub ends : ((result ≡ status) × AddsAll written written' text) ⊎ ((result ≡ WriteFault) × Rose faults faults')
+  pub part : AddsPrefix written written' text
+  pub risen : faults < faults' → result ≡ WriteFault
+
+-- The outcome of a file that isn't too long is written, or memory is wanting.
+abbrev pub Answers : List ℕ → Option (List ℕ) → Option (List ℕ) → ℕ → ℕ → Status → Type 0
+Answers file written written' faults faults' result =
+    ((status : Status) × (text : List ℕ) × IsSettled status × IsFileOutcome file status text × Finishes status text written written' faults faults' result)
+    ⊎ ((result ≡ Memory) × (written' ≡ written) × (faults' ≡ faults))
+
+module _ {W : Type 0} (words : List W) (left left' : Option (List ℕ)) (reads reads' : ℕ) (written written' : Option (List ℕ)) (writes writes' : ℕ) where
+  pub record Runs (status : Status) : Type 0 where
+    pub headline : (file : List ℕ) → IsRead words left file status → IsAccepted file → WritesReport file status written written'
+    pub outcome : (file : List ℕ) → IsTold words left file → IsSettled status → WritesOutcome words file status written written'
+    pub usage : IsSettled status → (status ≡ Usage ↔ (0 < length words))
+    pub limit : (file : List ℕ) → IsRead words left file status → (status ≡ Limit ↔ (file_bytes < length file))
+    pub bad_text : (file : List ℕ) → IsRead words left file status → (status ≡ BadText ↔ ((length file ≤ file_bytes) × (IsAccepted file → ⊥)))
+    pub ill_formed : status ≢ IllFormed
+    pub read_fault : status ≡ ReadFault → Rose reads reads'
+    pub read_risen : reads < reads' → status ≡ ReadFault
+    pub write_fault : status ≡ WriteFault → Rose writes writes'
+    pub write_risen : writes < writes' → status ≡ WriteFault
+    pub part : (file : List ℕ) → IsTold words left file → status ≡ WriteFault → WritesPrefix words file written written'
+    pub silent_fault : status ≡ ReadFault → written' ≡ written
+    pub silent_memory : status ≡ Memory → written' ≡ written
+    pub unread : 0 < length words → (left' ≡ left) × (reads' ≡ reads)
+    pub taken : (file : List ℕ) → length words ≡ 0 → left ≡ Some file → status ≢ ReadFault → status ≢ Memory → left' ≡ Some (drop 1048577 file)

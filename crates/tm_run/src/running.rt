@@ -1,0 +1,104 @@
+ghost use Rattle.std.specs.Prelude.{◌≡◌, ◌≢◌, ℕ, ◌<◌, ◌≤◌, ◌↔◌, Option, Some, List, IfOk, drop, length, string_bytes};
+ghost use Rattle.tm_io.specs.Faults.{Rose};
+ghost use Rattle.tm_io.specs.Told.{AddsAll};
+ghost use Rattle.tm_run.specs.Outcomes.{IsAccepted, IsReport, IsSettled, IsTold, IsRead, WritesOutcome, WritesPrefix, WritesReport, file_bytes};
+ghost use Rattle.tm_run.specs.Runs.{Finishes, Runs, Answers};
+
+use crate::file::{FileErr, questions};
+use crate::report::{report, status};
+use crate::status::Status;
+use crate::verdict::verdicts;
+use std::alloc::Global;
+use tm_io::{ReadErr, Sink, SinkErr, Source, read_all, write_all};
+
+/// The most bytes that an input may have.
+const FILE_BYTES: u32 = 1_048_576;
+
+const USAGE_LINE: &str = "usage: transmute_report\n";
+
+const BAD_TEXT_LINE: &str = "bad text\n";
+
+const LIMIT_LINE: &str = "limit file-bytes 1048576 passed\n";
+
+/// Reads questions, answers them and writes the report.
+///
+/// No word is taken: with any, the usage line is written and nothing is read. All of the source is
+/// read, up to one byte past the most that a file may have. All that is to be written is made before
+/// the first byte is. What a question file is, and what is written, is told in docs/QUESTION_FILES.md.
+pub fn run<S: Source, K: Sink>(alloc: Global, words: &[String], src: &mut S, out: &mut K) -> Status
+    // Each question of an accepted file is answered yes exactly where every valid word of its source,
+    // fitted, is a valid word of its target. `WritesReport` says it.
+    ensures headline { (file : List ℕ) → IsRead words.now (S.left src.old) file result → IsAccepted file → WritesReport file result (K.written out.old) (K.written out.new) }
+
+    // What is written, in each case, and what the status is then.
+    ensures outcome { (file : List ℕ) → IsTold words.now (S.left src.old) file → IsSettled result → WritesOutcome words.now file result (K.written out.old) (K.written out.new) }
+    ensures part { (file : List ℕ) → IsTold words.now (S.left src.old) file → result ≡ Status.WriteFault → WritesPrefix words.now file (K.written out.old) (K.written out.new) }
+    ensures silent_fault { result ≡ Status.ReadFault → K.written out.new ≡ K.written out.old }
+    ensures silent_memory { result ≡ Status.Memory → K.written out.new ≡ K.written out.old }
+
+    // The cause of each status.
+    ensures usage { IsSettled result → (result ≡ Status.Usage ↔ (0 < length words.now)) }
+    ensures limit { (file : List ℕ) → IsRead words.now (S.left src.old) file result → (result ≡ Status.Limit ↔ (file_bytes < length file)) }
+    ensures bad_text { (file : List ℕ) → IsRead words.now (S.left src.old) file result → (result ≡ Status.BadText ↔ ((length file ≤ file_bytes) × (IsAccepted file → ⊥))) }
+    ensures ill_formed { result ≢ Status.IllFormed }
+    ensures read_fault { result ≡ Status.ReadFault → Rose (S.faults src.old) (S.faults src.new) }
+    ensures read_risen { S.faults src.old < S.faults src.new → result ≡ Status.ReadFault }
+    ensures write_fault { result ≡ Status.WriteFault → Rose (K.faults out.old) (K.faults out.new) }
+    ensures write_risen { K.faults out.old < K.faults out.new → result ≡ Status.WriteFault }
+
+    // What is left of the source.
+    ensures unread { 0 < length words.now → (S.left src.new ≡ S.left src.old) × (S.faults src.new ≡ S.faults src.old) }
+    ensures taken { (file : List ℕ) → length words.now ≡ 0 → S.left src.old ≡ Some file → result ≢ Status.ReadFault → result ≢ Status.Memory → S.left src.new ≡ Some (drop 1048577 file) }
+{
+    ran(alloc, words, src, out)
+}
+
+/// The run, with all that it keeps in one clause.
+fn ran<S: Source, K: Sink>(alloc: Global, words: &[String], src: &mut S, out: &mut K) -> Status
+    ensures { Runs words.now (S.left src.old) (S.left src.new) (S.faults src.old) (S.faults src.new) (K.written out.old) (K.written out.new) (K.faults out.old) (K.faults out.new) result }
+{
+    if !words.is_empty() {
+        return finish(out, USAGE_LINE, Status::Usage);
+    }
+    match read_all(alloc, src, FILE_BYTES) {
+        Ok(file) => answer(alloc, &file, out),
+        Err(ReadErr::Fault) => Status::ReadFault,
+        Err(ReadErr::TooLong) => finish(out, LIMIT_LINE, Status::Limit),
+        Err(ReadErr::Memory) => Status::Memory,
+    }
+}
+
+/// Writes the report on a file, or the line that says that it isn't one.
+fn answer<K: Sink>(alloc: Global, file: &[u8], out: &mut K) -> Status
+    requires { length file.now ≤ 1048576 }
+    ensures { Answers file.now (K.written out.old) (K.written out.new) (K.faults out.old) (K.faults out.new) result }
+{
+    match judged(alloc, file) {
+        Ok((status, text)) => finish(out, text.as_str(), status),
+        Err(FileErr::BadText) => finish(out, BAD_TEXT_LINE, Status::BadText),
+        Err(FileErr::OutOfMemory) => Status::Memory,
+    }
+}
+
+/// The status and the text of the report on a file.
+fn judged(alloc: Global, file: &[u8]) -> Result<(Status, String), FileErr>
+    requires { length file.now ≤ 1048576 }
+    ensures report { IfOk result (λ outcome. IsReport file.now outcome.0 (string_bytes outcome.1)) }
+    ensures bad { result ≡ Err FileErr.BadText → IsAccepted file.now → ⊥ }
+{
+    let asks = questions(alloc, file)?;
+    let verdicts = verdicts(alloc, asks.as_slice())?;
+    let text = report(alloc, &verdicts)?;
+    Ok((status(&verdicts), text))
+}
+
+/// Writes a text, and says how the run ended.
+fn finish<K: Sink>(out: &mut K, text: &str, status: Status) -> Status
+    requires { IsSettled status }
+    ensures { Finishes status text.now (K.written out.old) (K.written out.new) (K.faults out.old) (K.faults out.new) result }
+{
+    match write_all(out, text.as_bytes()) {
+        Ok(()) => status,
+        Err(SinkErr::Fault) => Status::WriteFault,
+    }
+}
