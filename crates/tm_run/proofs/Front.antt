@@ -1,6 +1,6 @@
 -- What stands at the front of a text: white space, these bytes, a name, digits. The reader finds it
 -- exactly where the grammar's rule holds.
-use Rattle.std.proofs.Common.{◌≡◌, ◌==◌, ℕ, ◌+◌, ◌<◌, ◌≤◌, refl, sym, ap, ◌∙◌, subst, Bool, true, false, ◌&&◌, ◌||◌, not, nat_lt, nat_le, Option, Some, None, List, [], ◌∷◌, ◌++◌, length, append_assoc, eq-eqb, eqb-true, arith, ◌↔◌, codes, if◌then◌else◌}
+use Rattle.std.proofs.Common.{◌≡◌, ◌==◌, ℕ, ◌<◌, ◌≤◌, refl, ap, ◌∙◌, subst, Bool, true, false, ◌&&◌, ◌||◌, nat_lt, nat_le, Option, Some, None, List, [], ◌∷◌, ◌++◌, length, eq-eqb, eqb-true, arith, codes, if◌then◌else◌}
 use Rattle.std.proofs.lemmas.Bool.{and_parts}
 use Rattle.std.proofs.lemmas.Bool.Decides.{nat_tests}
 use Rattle.std.specs.Char.{is_ascii_digit}
@@ -8,7 +8,7 @@ use Rattle.std.specs.List.{list_all}
 use Rattle.std.specs.Str.Parse.{digits_value}
 use Rattle.tm_base.specs.declared.ground.Primitive.{Primitive}
 use Rattle.tm_base.specs.declared.ground.Primitive.TheVariants as p
-use Rattle.tm_run.specs.Files.{◌⨾◌, Text, is_space, Gap, Space, Name, starts_with_digit, Number}
+use Rattle.tm_run.specs.Files.{◌⨾◌, Text, is_space, Gap, Name, starts_with_digit, Number}
 use Rattle.tm_run.specs.Reading.{Found, skipped, stripped, behind, named_or, name_at, digits_at, number_in, number_at, starts_with_space}
 
 -- white space, and then what doesn't begin with it

@@ -1,9 +1,9 @@
 -- The types of a spelled file are types of the grammar.
-use Rattle.std.proofs.Common.{◌≡◌, ℕ, ◌≤◌, ◌⊎◌, inl, inr, refl, ap, subst, sym, true, nat_le, Option, Some, None, List, [], ◌∷◌, IsSome, All, arith}
+use Rattle.std.proofs.Common.{◌≡◌, ℕ, ◌≤◌, inl, inr, refl, true, nat_le, Option, Some, None, List, [], ◌∷◌, IsSome, All, arith}
 use Rattle.std.proofs.lemmas.Bool.Decides.{nat_tests}
 use Rattle.std.proofs.lemmas.List.Elements.{All-cons, All-nil}
 use Rattle.tm_base.specs.declared.ask.Ask.{Ask}
-use Rattle.tm_base.specs.declared.ground.Ground.{Ground, Prim, Array, out-Ground}
+use Rattle.tm_base.specs.declared.ground.Ground.{Ground, Prim, out-Ground}
 use Rattle.tm_base.specs.declared.ground.Ground.TheVariants.{outs-Prim, outs-Array}
 use Rattle.tm_base.specs.declared.ground.Primitive.{Primitive}
 use Rattle.tm_base.specs.declared.ground.Primitive.TheVariants as p

@@ -1,9 +1,9 @@
 -- A run that writes its outcome, and one that stops before it writes.
-use Rattle.std.proofs.Common.{◌≡◌, ◌≢◌, ◌∙◌, ℕ, ◌<◌, ◌≤◌, ◌⊎◌, inl, inr, ◌↔◌, refl, sym, ap, subst, Option, Some, None, List, [], ◌∷◌, length, drop, arith, length-drop}
+use Rattle.std.proofs.Common.{◌≡◌, ◌≢◌, ◌∙◌, ℕ, ◌<◌, ◌≤◌, ◌⊎◌, inl, inr, ◌↔◌, refl, sym, ap, subst, Option, Some, List, [], length, drop, arith, length-drop}
 use Rattle.std.proofs.lemmas.List.{nil_from_length}
 use Rattle.tm_io.specs.Faults.{Rose}
 use Rattle.tm_io.specs.Told.{TakesAll, TakesPast, AddsAll, AddsPrefix}
-use Rattle.tm_run.specs.Outcomes.{file_bytes, usage_line, limit_line, IsAccepted, IsReport, IsFileOutcome, IsOutcome, IsSettled, IsTold, IsRead, WritesOutcome, WritesPrefix, WritesReport}
+use Rattle.tm_run.specs.Outcomes.{file_bytes, usage_line, limit_line, IsAccepted, IsReport, IsFileOutcome, IsOutcome, IsSettled, IsTold}
 use Rattle.tm_run.specs.Runs.{Finishes, Answers, Runs}
 use Rattle.tm_run.specs.declared.status.Status.{Status}
 use Rattle.tm_run.specs.declared.status.Status.TheVariants.{AllYes, Mixed, Usage, BadText, Limit, ReadFault, WriteFault, Memory, IllFormed}

@@ -1,5 +1,5 @@
 -- The reader finds an array, a type, a question and all questions exactly where they are spelled.
-use Rattle.std.proofs.Common.{◌≡◌, ℕ, zero, suc, ◌+◌, ◌<◌, ◌≤◌, ◌⊎◌, inl, inr, refl, sym, ap, ◌∙◌, subst, Bool, true, false, nat_lt, nat_le, Option, Some, None, Result, Ok, Err, List, [], ◌∷◌, ◌++◌, length, append_assoc, arith, codes, if◌then◌else◌}
+use Rattle.std.proofs.Common.{◌≡◌, ℕ, zero, suc, ◌+◌, ◌<◌, ◌≤◌, inl, inr, refl, sym, ap, ◌∙◌, subst, Bool, true, false, nat_le, Option, Some, None, Result, Ok, Err, List, [], ◌∷◌, ◌++◌, length, append_assoc, arith, codes, if◌then◌else◌}
 use Rattle.std.proofs.lemmas.Bool.{and_parts}
 use Rattle.std.proofs.lemmas.List.{nil_from_length}
 use Rattle.std.proofs.lemmas.Bool.Decides.{nat_tests}
@@ -8,11 +8,11 @@ use Rattle.tm_base.specs.declared.ask.Ask.{Ask}
 use Rattle.tm_base.specs.declared.ground.Ground.{Ground, Prim, Array}
 use Rattle.tm_base.specs.declared.ground.Primitive.{Primitive}
 use Rattle.tm_base.specs.declared.ground.Primitive.TheVariants as p
-use Rattle.tm_run.specs.Files.{◌⨾◌, Text, is_space, Gap, Space, Name, Number, ArrayTail, IsArray, Type', TypeBehindWord, Question, Questions, Spells, nothing_assumed}
+use Rattle.tm_run.specs.Files.{◌⨾◌, Text, is_space, Gap, Space, Name, ArrayTail, IsArray, Type', TypeBehindWord, Question, Questions, Spells, nothing_assumed}
 use Rattle.std.specs.Result.{IsErrAnd}
 use Rattle.tm_run.specs.declared.file.FileErr.{FileErr}
 use Rattle.tm_run.specs.declared.file.FileErr.TheVariants.{BadText, OutOfMemory}
-use Rattle.tm_run.specs.Reading.{Refuses, ReadsBy, Found, and_then, skipped, stripped, behind, name_at, number_at, array_of, array_at, prim_of, array_or, type_at, starts_with_space, asked, question_at, last_or, consed, questions_at}
+use Rattle.tm_run.specs.Reading.{Refuses, ReadsBy, Found, and_then, skipped, stripped, behind, name_at, number_at, array_of, array_at, prim_of, array_or, type_at, starts_with_space, question_at, last_or, consed, questions_at}
 use Rattle.tm_run.proofs.Front.{Some-injective, skipped-gap, skipped-front, Gap-skipped, behind-Text, Text-behind, name_at-Name, Name-name_at, number_at-Number, Number-number_at}
 
 -- the first thing was found, and what followed from it

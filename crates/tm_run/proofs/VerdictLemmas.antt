@@ -1,5 +1,5 @@
 -- True answers, one after another.
-use Rattle.std.proofs.Common.{◌≡◌, ℕ, List, [], ◌∷◌, ◌++◌}
+use Rattle.std.proofs.Common.{List, [], ◌∷◌, ◌++◌}
 use Rattle.tm_base.specs.declared.ask.Ask.{Ask}
 use Rattle.tm_run.specs.Verdicts.{IsTrueVerdict, AreTrueVerdicts}
 use Rattle.tm_run.specs.declared.verdict.Verdict.{Verdict}

@@ -1,5 +1,5 @@
 -- What a run comes to: a status, and the bytes that are written.
-use Rattle.std.specs.Prelude.{◌≡◌, ℕ, ◌+◌, ◌<◌, ◌≤◌, ◌⊎◌, Option, Some, None, IfSome, List, [], ◌++◌, length, codes}
+use Rattle.std.specs.Prelude.{◌≡◌, ℕ, ◌<◌, ◌≤◌, ◌⊎◌, Option, Some, List, ◌++◌, length, codes}
 use Rattle.tm_base.specs.declared.ask.Ask.{Ask}
 use Rattle.tm_io.specs.Told.{AddsAll, AddsPrefix}
 use Rattle.tm_run.specs.Files.{Spells}

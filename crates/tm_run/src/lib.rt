@@ -6,6 +6,8 @@ mod file;
 mod report;
 mod running;
 mod status;
+#[cfg(test)]
+mod tests;
 mod verdict;
 
 pub use running::run;

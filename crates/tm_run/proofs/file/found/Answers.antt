@@ -1,5 +1,4 @@
-use Rattle.std.proofs.Common.{◌≡◌, ◌∙◌, ◌-◌, ◌+◌, ◌<◌, ◌++◌, ◌∷◌, [], ℕ, Some, None, true, false, ap, sym, append-nil, length, arith}
-use Rattle.tm_base.specs.declared.ask.Ask.{Ask}
+use Rattle.std.proofs.Common.{◌≡◌, ◌∙◌, ◌-◌, ◌+◌, ◌<◌, ◌++◌, ◌∷◌, [], Some, true, false, ap, sym, append-nil, length, arith}
 use Rattle.tm_run.specs.Reading.{skipped, questions_at}
 use Rattle.tm_run.proofs.Spelling.{appended, questions_at-none, questions_at-zero, questions_at-bad, questions_at-more, ReadsBy-err}
 use Rattle.tm_run.proofs.file.found.Goals as goal

@@ -2,7 +2,6 @@ use Rattle.std.proofs.Common.{◌≡◌, true, List, ℕ, sym, ap, subst}
 use Rattle.std.proofs.lemmas.List.Sums.{AllPass-from_list_all}
 use Rattle.std.specs.Char.{is_ascii_digit}
 use Rattle.std.specs.List.{list_all}
-use Rattle.tm_run.specs.Reading.{digits_at, skipped}
 use Rattle.tm_run.proofs.Front.{AreDigits-digits_at}
 use Rattle.tm_run.proofs.file.number.Goals as goal
 

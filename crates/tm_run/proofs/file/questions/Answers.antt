@@ -1,4 +1,4 @@
-use Rattle.std.proofs.Common.{◌≡◌, Some, None, Ok, Err, Result, IfOk, List}
+use Rattle.std.proofs.Common.{◌≡◌, None, Ok, Err, Result, IfOk, List}
 use Rattle.tm_base.specs.declared.ask.Ask.{Ask}
 use Rattle.tm_run.specs.Files.{Spells}
 use Rattle.tm_run.specs.Reading.{ReadsBy, questions_at}

@@ -1,4 +1,4 @@
-use Rattle.std.proofs.Common.{◌≡◌, sym, subst, List, All}
+use Rattle.std.proofs.Common.{sym, subst, List, All}
 use Rattle.tm_base.specs.declared.ask.Ask.{Ask}
 use Rattle.tm_run.specs.Bytes.{IsOfGrammar}
 use Rattle.tm_run.proofs.GrammarLemmas.{Spells-IsOfGrammar}

@@ -1,5 +1,4 @@
-use Rattle.std.proofs.Common.{◌≡◌, ◌≢◌, ◌==◌, ◌∙◌, ◌≤◌, ◌<◌, ℕ, zero, suc, true, false, List, Ok, Err, Result, length, refl, sym, ap, subst, arith, eqb-true}
-use Rattle.tm_io.specs.declared.reading.ReadErr.TheVariants.{Fault, TooLong}
+use Rattle.std.proofs.Common.{◌≡◌, ◌==◌, ◌∙◌, ◌≤◌, ◌<◌, ℕ, zero, suc, false, List, Err, length, refl, sym, ap, subst, arith, eqb-true}
 use Rattle.tm_run.specs.Runs.{Answers}
 use Rattle.tm_run.proofs.RunLemmas.{misused, too_long, answered}
 use Rattle.tm_run.proofs.running.ran.Goals as goal

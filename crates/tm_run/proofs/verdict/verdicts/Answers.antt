@@ -1,4 +1,4 @@
-use Rattle.std.proofs.Common.{◌≡◌, ◌∙◌, ◌+◌, ◌++◌, ◌∷◌, [], List, sym, ap, subst, take, get_or}
+use Rattle.std.proofs.Common.{◌∙◌, ◌++◌, ◌∷◌, [], List, sym, ap, subst, take}
 use Rattle.std.proofs.lemmas.List.{take_more}
 use Rattle.tm_base.specs.declared.ask.Ask.{Ask}
 use Rattle.tm_run.specs.Verdicts.{AreTrueVerdicts}

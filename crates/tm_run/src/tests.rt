@@ -1,0 +1,124 @@
+use super::*;
+use std::test::Fail;
+use tm_io::{Failed, MemSink, MemSource, Sink, Source, read_all};
+
+/// A source that gives the front of a file and then fails.
+#[derive(Drop)]
+struct BreaksOff {
+    given: bool,
+    faults: u64,
+}
+
+impl Source for BreaksOff {
+    ghost use Rattle.std.specs.Prelude.{None};
+
+    ghost left = { λ _. None };
+
+    ghost faults = { λ source. source.faults };
+
+    fn read(&mut self, buf: &mut [u8]) -> Result<usize, Failed> {
+        if self.given {
+            self.faults = self.faults.saturating_add(1);
+            return Err(Failed);
+        }
+        self.given = true;
+        let count = buf.len().min(8);
+        buf[..count].copy_from_slice(&b"ask u8 =>"[..count]);
+        Ok(count)
+    }
+}
+
+fn source(rt: &HostRuntime, text: &str) -> Result<MemSource, Fail> {
+    Ok(MemSource::new(Vec::from_slice(rt.alloc(), text.as_bytes())?))
+}
+
+fn sink(rt: &HostRuntime, room: u32) -> Result<MemSink, Fail> {
+    let sink = MemSink::with_room(rt.alloc(), room)
+        .ok()
+        .ok_or("no memory")?;
+    Ok(sink)
+}
+
+#[test]
+fn answers_with_ample_memory(rt: HostRuntime) -> Result<(), Fail> {
+    for (file, status, report) in [
+        ("", Status::AllYes, "0 yes, 0 no, 0 refused\n"),
+        (
+            "ask [u16; 2] => u32; ask u32 => [bool; 4];",
+            Status::Mixed,
+            "1: yes\n2: no\n1 yes, 1 no, 0 refused\n",
+        ),
+        ("ask u8 => $;", Status::BadText, "bad text\n"),
+    ] {
+        let mut out = sink(&rt, 100)?;
+        let ended = run(rt.alloc(), &[], &mut source(&rt, file)?, &mut out);
+        assert_eq!(rt; ended, status, "{file}");
+        assert_eq!(rt; out.written(), report.as_bytes(), "{file}");
+    }
+    Ok(())
+}
+
+#[test]
+fn a_sink_without_room_gets_a_front_of_the_report(rt: HostRuntime) -> Result<(), Fail> {
+    let mut out = sink(&rt, 3)?;
+    let ended = run(rt.alloc(), &[], &mut source(&rt, "")?, &mut out);
+    assert_eq!(rt; ended, Status::WriteFault);
+    assert_eq!(rt; out.written(), b"0 y".as_slice());
+    Ok(())
+}
+
+#[test]
+fn a_read_fault_writes_nothing(rt: HostRuntime) -> Result<(), Fail> {
+    let mut src = BreaksOff {
+        given: false,
+        faults: 0,
+    };
+    let mut out = sink(&rt, 100)?;
+    let ended = run(rt.alloc(), &[], &mut src, &mut out);
+    assert_eq!(rt; ended, Status::ReadFault);
+    assert_eq!(rt; out.written(), b"".as_slice());
+    Ok(())
+}
+
+#[test]
+fn a_word_leaves_the_source_unread(rt: HostRuntime) -> Result<(), Fail> {
+    let alloc = rt.alloc();
+    let words = vec![in alloc; String::from_str(alloc, "--summary")?]?;
+    let mut src = source(&rt, "ask u8 => u8;")?;
+    let mut out = sink(&rt, 100)?;
+    let ended = run(alloc, &words, &mut src, &mut out);
+    assert_eq!(rt; ended, Status::Usage);
+    assert_eq!(rt; out.written(), b"usage: transmute_report\n".as_slice());
+    let left = read_all(alloc, &mut src, 100)?;
+    assert_eq!(rt; left.as_slice(), b"ask u8 => u8;".as_slice());
+    Ok(())
+}
+
+#[test]
+fn one_byte_past_the_limit_is_taken(rt: HostRuntime) -> Result<(), Fail> {
+    let alloc = rt.alloc();
+    let mut src = MemSource::new(vec![in alloc; b' '; 1_048_580]?);
+    let mut out = sink(&rt, 100)?;
+    let ended = run(alloc, &[], &mut src, &mut out);
+    assert_eq!(rt; ended, Status::Limit);
+    assert_eq!(rt;
+        out.written(),
+        b"limit file-bytes 1048576 passed\n".as_slice()
+    );
+    let left = read_all(alloc, &mut src, 100)?;
+    assert_eq!(rt; left.len(), 3);
+    Ok(())
+}
+
+#[test]
+fn the_program_ends_with_these_numbers(rt: HostRuntime) {
+    assert_eq!(rt; Status::AllYes as u8, 0);
+    assert_eq!(rt; Status::Mixed as u8, 1);
+    assert_eq!(rt; Status::Usage as u8, 2);
+    assert_eq!(rt; Status::BadText as u8, 3);
+    assert_eq!(rt; Status::Limit as u8, 4);
+    assert_eq!(rt; Status::ReadFault as u8, 5);
+    assert_eq!(rt; Status::WriteFault as u8, 6);
+    assert_eq!(rt; Status::Memory as u8, 7);
+    assert_eq!(rt; Status::IllFormed as u8, 8);
+}

@@ -1,0 +1,1 @@
+for _ in $(seq 256); do printf 'ask u8 => u8;'; done
