@@ -1,0 +1,37 @@
+#!/usr/bin/env bash
+# Usage: bench/cost.sh
+# Counts the instructions of whole runs, by valgrind's callgrind: what a question costs, what its size adds,
+# and what a file costs by its length. A count is the same each time.
+set -u
+top=$(cd "$(dirname "${BASH_SOURCE[0]}")/.." && pwd)
+command -v valgrind >/dev/null || { echo "valgrind is wanted: apt-get install valgrind" >&2; exit 1; }
+"$top/bin/transmute_report" </dev/null >/dev/null || exit 1
+program=$top/crates/transmute_report/out/transmute_report
+work=$(mktemp -d)
+trap 'rm -rf "$work"' EXIT
+
+instructions() { # FILE
+    valgrind --tool=callgrind --callgrind-out-file=/dev/null "$program" <"$1" 2>&1 >/dev/null |
+        awk '/Collected/ { print $4 }'
+}
+
+questions() { # COUNT ELEMENTS
+    for _ in $(seq "$1"); do echo "ask [u64; $2] => [u64; $2];"; done >"$work/file"
+}
+
+measure() { # NAME
+    printf '%12d  %s\n' "$(instructions "$work/file")" "$1"
+}
+
+: >"$work/file"
+measure "the empty file"
+questions 1 512
+measure "1 question, arrays of 512 elements"
+questions 1 4096
+measure "1 question, arrays of 4096 elements"
+questions 64 4096
+measure "64 questions, arrays of 4096 elements"
+questions 256 4096
+measure "256 questions, arrays of 4096 elements"
+head -c 1048576 /dev/zero | tr '\0' ' ' >"$work/file"
+measure "1048576 bytes of white space"
