@@ -2,6 +2,17 @@ pub mod formers
 pub mod Cells
 pub mod Expanded
 pub mod Layout
+pub mod Integers
+pub mod Parts
+pub mod Weight
+pub mod Faults
 pub mod Valid
+pub mod Assumptions
 pub mod Transmutes
+pub mod Tables
+pub mod Reaches
+pub mod Outlives
+pub mod Compatible
+pub mod Viable
+pub mod Orders
 pub mod Trees
