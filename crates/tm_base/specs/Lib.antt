@@ -15,4 +15,9 @@ pub mod Outlives
 pub mod Compatible
 pub mod Viable
 pub mod Orders
+pub mod Places
+pub mod Rules
+pub mod Spelled
+pub mod Texts
+pub mod Answers
 pub mod Trees
