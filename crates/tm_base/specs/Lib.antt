@@ -20,4 +20,5 @@ pub mod Rules
 pub mod Spelled
 pub mod Texts
 pub mod Answers
+pub mod Whole
 pub mod Trees

@@ -1,6 +1,6 @@
 -- Canonical texts of types, as bytes. Regions are written with their declared names or `'static`. This
 -- project's form, after Rust's own.
-use Rattle.std.specs.Prelude.{ℕ, Bool, true, false, if◌then◌else◌, List, [], ◌∷◌, ◌++◌, map, Option, Some, None, slice_get, codes, decimal}
+use Rattle.std.specs.Prelude.{ℕ, Bool, true, false, if◌then◌else◌, List, [], ◌∷◌, ◌++◌, map, Option, Some, None, slice_get, unwrap_or, codes, decimal}
 use Rattle.tm_base.specs.declared.definition.Def.{Def}
 use Rattle.tm_base.specs.declared.definition.NamedRow.{NamedRow}
 use Rattle.tm_base.specs.declared.definition.RegionId.{RegionId}
@@ -57,10 +57,7 @@ tuple_text texts = codes "(" ++ separated texts ++ codes ")"
 
 module _ (tables : Tables) where
   abbrev pub region_text : RegionId → List ℕ
-  region_text region = text_or_none (slice_get tables.regions region.0) where
-    text_or_none : Option (List ℕ) → List ℕ
-    text_or_none None = []
-    text_or_none (Some text) = text
+  region_text region = unwrap_or (slice_get tables.regions region.0) []
 
   -- a name, with its regions where it has some
   abbrev pub with_regions : List ℕ → List RegionId → List ℕ

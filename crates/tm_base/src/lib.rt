@@ -14,6 +14,7 @@ mod memory;
 mod reference;
 mod text;
 mod tree;
+mod world;
 
 pub use answer::{Answer, LocalRule, RefFault, Rule, Side, Why};
 pub use ask::Ask;
@@ -27,3 +28,4 @@ pub use memory::Memory;
 pub use reference::{Equal, RefTest};
 pub use text::Text;
 pub use tree::Tree;
+pub use world::World;
