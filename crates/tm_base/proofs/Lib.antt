@@ -1,1 +1,4 @@
 pub mod TreeLemmas
+pub mod ValidLemmas
+pub mod CompatibleLemmas
+pub mod OrderLemmas

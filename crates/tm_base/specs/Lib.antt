@@ -21,4 +21,5 @@ pub mod Spelled
 pub mod Texts
 pub mod Answers
 pub mod Whole
+pub mod Worlds
 pub mod Trees

@@ -1,0 +1,90 @@
+-- The order of words is a strict order in which words of equal length compare.
+use Rattle.std.proofs.Common.{◌≡◌, ℕ, zero, suc, ◌+◌, ◌<◌, ◌≤◌, refl, sym, ◌∙◌, ap, Bool, true, false, ◌||◌, ◌&&◌, not, IsTrue, List, [], ◌∷◌, length, ◌⊎◌, inl, inr, nat_lt, ◌==◌, arith}
+use Rattle.std.proofs.lemmas.Bool.Decides.{nat_tests}
+use Rattle.tm_base.specs.declared.cell.RefId.{RefId}
+use Rattle.tm_base.specs.declared.cell.Cell.{Cell}
+use Rattle.tm_base.specs.declared.cell.Cell.TheVariants.{Byte, Uninit, Ptr}
+use Rattle.tm_base.specs.Cells.{Word}
+use Rattle.tm_base.specs.Orders.{list_less, cell_less, word_less}
+
+abbrev ref_id : ℕ → RefId
+ref_id n = record { 0 = n }
+
+-- the test of two references' cells, on the numbers alone
+tests_equal : (r t j i : ℕ) → (nat_lt r t || ((r == t) && nat_lt j i)) ≡ false → (nat_lt t r || ((t == r) && nat_lt i j)) ≡ false → r ≡ t
+tests_equal r t j i h k = grind (arith, nat_tests)
+
+tests_places : (r t j i : ℕ) → (nat_lt r t || ((r == t) && nat_lt j i)) ≡ false → (nat_lt t r || ((t == r) && nat_lt i j)) ≡ false → j ≡ i
+tests_places r t j i h k = grind (arith, nat_tests)
+
+tests_asym : (r t j i : ℕ) → (nat_lt r t || ((r == t) && nat_lt j i)) ≡ true → (nat_lt t r || ((t == r) && nat_lt i j)) ≡ false
+tests_asym r t j i h = grind (arith, nat_tests)
+
+-- two cells of which neither is less are one
+pub cell_less-total : (c d : Cell) → cell_less c d ≡ false → cell_less d c ≡ false → c ≡ d
+cell_less-total (Byte a) (Byte b) h k =
+    let same : a ≡ b = grind (arith, nat_tests) in
+    ap Byte same
+cell_less-total (Byte a) Uninit h k = cc
+cell_less-total (Byte a) (Ptr r j) h k = cc
+cell_less-total Uninit (Byte b) h k = cc
+cell_less-total Uninit Uninit h k = refl
+cell_less-total Uninit (Ptr r j) h k = cc
+cell_less-total (Ptr r j) (Byte b) h k = cc
+cell_less-total (Ptr r j) Uninit h k = cc
+cell_less-total (Ptr r j) (Ptr t i) h k =
+    let same : r.0 ≡ t.0 = tests_equal r.0 t.0 j i h k in
+    let same_ref : r ≡ t = ap ref_id same in
+    let same_place : j ≡ i = tests_places r.0 t.0 j i h k in
+    cc
+
+-- no cell is less than one that is less than it
+pub cell_less-asym : (c d : Cell) → cell_less c d ≡ true → cell_less d c ≡ false
+cell_less-asym (Byte a) (Byte b) h = grind (arith, nat_tests)
+cell_less-asym (Byte a) Uninit h = refl
+cell_less-asym (Byte a) (Ptr r j) h = refl
+cell_less-asym Uninit (Byte b) h = cc
+cell_less-asym Uninit Uninit h = cc
+cell_less-asym Uninit (Ptr r j) h = refl
+cell_less-asym (Ptr r j) (Byte b) h = cc
+cell_less-asym (Ptr r j) Uninit h = cc
+cell_less-asym (Ptr r j) (Ptr t i) h = tests_asym r.0 t.0 j i h
+
+step_total : (b c rest : Bool) → (b || (not c && rest)) ≡ false → b ≡ false
+step_total true c rest h = cc
+step_total false c rest h = refl
+
+step_rest : (b c rest : Bool) → (b || (not c && rest)) ≡ false → c ≡ false → rest ≡ false
+step_rest true c rest h e = cc
+step_rest false true rest h e = cc
+step_rest false false rest h e = h
+
+-- words of equal length of which neither is less are one
+pub word_less-total : (v w : Word) → length v ≡ length w → word_less v w ≡ false → word_less w v ≡ false → v ≡ w
+unfolding list_less
+word_less-total [] [] l h k = refl
+word_less-total [] (d ∷ ds) l h k = absurd (omega arith)
+word_less-total (c ∷ cs) [] l h k = absurd (omega arith)
+word_less-total (c ∷ cs) (d ∷ ds) l h k =
+    let above : cell_less c d ≡ false = step_total (cell_less c d) (cell_less d c) (word_less cs ds) h in
+    let below : cell_less d c ≡ false = step_total (cell_less d c) (cell_less c d) (word_less ds cs) k in
+    let same : c ≡ d = cell_less-total c d above below in
+    let others : cs ≡ ds =
+        word_less-total cs ds (omega arith)
+        (step_rest (cell_less c d) (cell_less d c) (word_less cs ds) h below)
+        (step_rest (cell_less d c) (cell_less c d) (word_less ds cs) k above) in
+    cc
+
+step_asym : (b c x y : Bool) → (b ≡ true → c ≡ false) → (x ≡ true → y ≡ false) → (b || (not c && x)) ≡ true → (c || (not b && y)) ≡ false
+step_asym true c x y f g h = rw (f refl)
+step_asym false true x y f g h = cc
+step_asym false false x y f g h = g h
+
+-- no word is less than one that is less than it
+pub word_less-asym : (v w : Word) → word_less v w ≡ true → word_less w v ≡ false
+unfolding list_less
+word_less-asym [] [] h = cc
+word_less-asym [] (d ∷ ds) h = refl
+word_less-asym (c ∷ cs) [] h = cc
+word_less-asym (c ∷ cs) (d ∷ ds) h =
+    step_asym (cell_less c d) (cell_less d c) (word_less cs ds) (word_less ds cs) (cell_less-asym c d) (word_less-asym cs ds) h
