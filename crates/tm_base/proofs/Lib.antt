@@ -2,3 +2,4 @@ pub mod TreeLemmas
 pub mod ValidLemmas
 pub mod CompatibleLemmas
 pub mod OrderLemmas
+pub mod ValidTestLemmas

@@ -8,13 +8,14 @@ pub mod Weight
 pub mod Faults
 pub mod Valid
 pub mod Assumptions
+pub mod Orders
+pub mod ValidTest
 pub mod Transmutes
 pub mod Tables
 pub mod Reaches
 pub mod Outlives
 pub mod Compatible
 pub mod Viable
-pub mod Orders
 pub mod Places
 pub mod Rules
 pub mod Spelled
