@@ -101,3 +101,164 @@ wrap_test-decides wrapper.MaybeUninit n test P each w =
     Decides-or ((length w == n) && list_all is_free w) (test w)
     (Decides-and (length w == n) (list_all is_free w) (Decides-eqb (length w) n) (all-decides is_free IsFree is_free-decides w)) (each w)
 wrap_test-decides _ n test P each w = each w
+
+-- what `field_test` tests
+abbrev FieldCut : (Word → Type 0) → (Word → Type 0) → ℕ → ℕ → Word → Type 0
+FieldCut P Q at place w =
+    (gap : Word) × (here : Word) × (others : Word) × (w ≡ gap ++ (here ++ others))
+    × (at + length gap ≡ place) × All IsFree gap × P here × Q others
+
+module _ (test rest : Word → Bool) (P Q : Word → Type 0) (each : (u : Word) → Decides (test u) (P u)) (behind : (u : Word) → Decides (rest u) (Q u)) where
+  field_test-parts : (at place n : ℕ) (w : Word) → Decides (field_test test rest at place n w)
+      ((((at + length (take (place - at) w) ≡ place) × All IsFree (take (place - at) w))
+      × P (take n (drop (place - at) w))) × Q (drop n (drop (place - at) w)))
+  field_test-parts at place n w =
+      let gap = take (place - at) w in
+      let left = drop (place - at) w in
+      let a = at + length gap == place in
+      let b = list_all is_free gap in
+      let c = test (take n left) in
+      Decides-and ((a && b) && c) (rest (drop n left))
+      (Decides-and (a && b) c
+      (Decides-and a b (Decides-eqb (at + length gap) place) (all-decides is_free IsFree is_free-decides gap)) (each (take n left))) (behind (drop n left))
+
+  field_test-decides : (at place n : ℕ) → ((u : Word) → P u → length u ≡ n) → (w : Word) → Decides (field_test test rest at place n w) (FieldCut P Q at place w)
+  field_test-decides at place n size w =
+      let parts = field_test-parts at place n w in
+      (λ h. (take (place - at) w, take n (drop (place - at) w), drop n (drop (place - at) w),
+          sym (rw (take-append-drop n (drop (place - at) w)) (take-append-drop (place - at) w)),
+          (parts.0 h).0.0.0, (parts.0 h).0.0.1, (parts.0 h).0.1, (parts.0 h).1),
+       λ (gap, here, others, e, stands, free, valid, q).
+          let wide : length gap ≡ place - at = omega arith in
+          let front : take (place - at) w ≡ gap = rw e (cut_front (place - at) gap (here ++ others) wide) in
+          let left : drop (place - at) w ≡ here ++ others = rw e (cut_back (place - at) gap (here ++ others) wide) in
+          let middle : take n (drop (place - at) w) ≡ here = rw left (cut_front n here others (size here valid)) in
+          let back : drop n (drop (place - at) w) ≡ others = rw left (cut_back n here others (size here valid)) in
+          parts.1 (((subst (λ (u : Word). at + length u ≡ place) (sym front) stands, subst (All IsFree) (sym front) free),
+              subst P (sym middle) valid), subst Q (sym back) q))
+
+  -- a word of one kind in front, and one of the other behind it
+  cut_decides : (n : ℕ) → ((u : Word) → P u → length u ≡ n) → (w : Word)
+      → Decides (test (take n w) && rest (drop n w)) ((here : Word) × (others : Word) × (w ≡ here ++ others) × P here × Q others)
+  cut_decides n size w =
+      let both = Decides-and (test (take n w)) (rest (drop n w)) (each (take n w)) (behind (drop n w)) in
+      (λ h. (take n w, drop n w, sym (take-append-drop n w), (both.0 h).0, (both.0 h).1),
+       λ (here, others, e, valid, q).
+          let front : take n w ≡ here = rw e (cut_front n here others (size here valid)) in
+          let back : drop n w ≡ others = rw e (cut_back n here others (size here valid)) in
+          both.1 (subst P (sym front) valid, subst Q (sym back) q))
+
+-- what `variant_test` tests
+abbrev VariantCut : (Word → Type 0) → (Word → Type 0) → ℕ → Word → Type 0
+VariantCut P Q begin w =
+    (front : Word) × (gap : Word) × (others : Word) × (w ≡ front ++ (gap ++ others))
+    × P front × (length front + length gap ≡ begin) × All IsFree gap × Q others
+
+module _ (test rest : Word → Bool) (P Q : Word → Type 0) (each : (u : Word) → Decides (test u) (P u)) (behind : (u : Word) → Decides (rest u) (Q u)) where
+  variant_test-parts : (n begin : ℕ) (w : Word) → Decides (variant_test test rest n begin w)
+      (((P (take n w) × (length (take n w) + length (take (begin - n) (drop n w)) ≡ begin))
+      × All IsFree (take (begin - n) (drop n w))) × Q (drop (begin - n) (drop n w)))
+  variant_test-parts n begin w =
+      let gap = take (begin - n) (drop n w) in
+      let a = test (take n w) in
+      let b = length (take n w) + length gap == begin in
+      let c = list_all is_free gap in
+      Decides-and ((a && b) && c) (rest (drop (begin - n) (drop n w)))
+      (Decides-and (a && b) c
+      (Decides-and a b (each (take n w)) (Decides-eqb (length (take n w) + length gap) begin)) (all-decides is_free IsFree is_free-decides gap))
+      (behind (drop (begin - n) (drop n w)))
+
+  variant_test-decides : (n begin : ℕ) → ((u : Word) → P u → length u ≡ n) → (w : Word) → Decides (variant_test test rest n begin w) (VariantCut P Q begin w)
+  variant_test-decides n begin size w =
+      let parts = variant_test-parts n begin w in
+      (λ h. (take n w, take (begin - n) (drop n w), drop (begin - n) (drop n w),
+          sym (rw (take-append-drop (begin - n) (drop n w)) (take-append-drop n w)),
+          (parts.0 h).0.0.0, (parts.0 h).0.0.1, (parts.0 h).0.1, (parts.0 h).1),
+       λ (front, gap, others, e, tag, stands, free, q).
+          let size_front : length front ≡ n = size front tag in
+          let wide : length gap ≡ begin - n = omega arith in
+          let first : take n w ≡ front = rw e (cut_front n front (gap ++ others) size_front) in
+          let left : drop n w ≡ gap ++ others = rw e (cut_back n front (gap ++ others) size_front) in
+          let middle : take (begin - n) (drop n w) ≡ gap = rw left (cut_front (begin - n) gap others wide) in
+          let back : drop (begin - n) (drop n w) ≡ others = rw left (cut_back (begin - n) gap others wide) in
+          parts.1 (((subst P (sym first) tag,
+              subst (λ (u : Word). length u + length (take (begin - n) (drop n w)) ≡ begin) (sym first) (subst (λ (u : Word). length front + length u ≡ begin) (sym middle) stands)),
+              subst (All IsFree) (sym middle) free), subst Q (sym back) q))
+
+tag_test-decides : (n : ℕ) (value : ℤ) (w : Word) → Decides (tag_test n value w) (IsTag n value w)
+tag_test-decides n value w = Decides-and (are_bytes n w) (number_of w == twos_complement n value) (are_bytes-decides n w) (Decides-eqb (number_of w) (twos_complement n value))
+
+-- the reference that stands first decides which one it is
+ref_decides : (A : ℕ → ℕ → Bool) (t : ℕ) (w : Word) → Decides (A (first_ref w) t && word_same w (pointer_of (first_ref w))) ((x : ℕ) × IsTrue (A x t) × (w ≡ pointer_of x))
+ref_decides A t w =
+    let both = Decides-and (A (first_ref w) t) (word_same w (pointer_of (first_ref w))) (λ h. h, λ h. h) (word_same-decides w (pointer_of (first_ref w))) in
+    (λ h. (first_ref w, (both.0 h).0, (both.0 h).1),
+     λ (x, a, e).
+        let same : first_ref w ≡ x = rw e refl in
+        both.1 (rw same a, rw same e))
+
+module _ (A : ℕ → ℕ → Bool) (keep : Bool) where
+  mutual
+    unfolding Valid valid_test
+    pub valid_test-decides : (t : Expanded) (w : Word) → Decides (valid_test A keep t w) (Valid (holds A) keep t w)
+    valid_test-decides too_deep w = (λ h. cc, λ h. elim h [ ])
+    valid_test-decides (prim p) w = prim_test-decides p w
+    valid_test-decides never w = (λ h. cc, λ h. elim h [ ])
+    valid_test-decides unit w = word_same-decides w []
+    valid_test-decides (tuple members) w = (λ h. cc, λ h. elim h [ ])
+    valid_test-decides (array t n) w = times_test-decides n (size_of t) (valid_test A keep t) (Valid (holds A) keep t) (λ u. Valid-length (holds A) keep t u) (λ u. valid_test-decides t u) w
+    valid_test-decides (nonzero p) w = Decides-and (are_bytes (prim_size p) w) (nat_lt 0 (number_of w)) (are_bytes-decides (prim_size p) w) (Decides-ltb 0 (number_of w))
+    valid_test-decides phantom w = word_same-decides w []
+    valid_test-decides (wrap k t) w = wrap_test-decides k (size_of t) (valid_test A keep t) (Valid (holds A) keep t) (λ u. valid_test-decides t u) w
+    valid_test-decides (ref t) w = ref_decides A t.0 w
+    valid_test-decides (named id Struct repr vs) w =
+        Decides-and (length w == size_of (named id Struct repr vs)) (struct_test A keep repr.packed vs w)
+        (Decides-eqb (length w) (size_of (named id Struct repr vs))) (struct_test-decides repr.packed vs w)
+    valid_test-decides (named id Union repr vs) w =
+        Decides-and (length w == size_of (named id Union repr vs)) (union_test A keep vs w)
+        (Decides-eqb (length w) (size_of (named id Union repr vs))) (union_test-decides vs w)
+    valid_test-decides (named id Enum repr vs) w =
+        Decides-and (length w == size_of (named id Enum repr vs)) (some_variant_test A keep repr.tag _ _ vs w)
+        (Decides-eqb (length w) (size_of (named id Enum repr vs))) (some_variant_test-decides repr.tag _ _ vs w)
+
+    struct_test-decides : (packed : Option ℕ) (vs : Variants) (w : Word) → Decides (struct_test A keep packed vs w) (StructValid (holds A) keep packed vs w)
+    struct_test-decides packed no_variants w = (λ h. cc, λ h. elim h [ ])
+    struct_test-decides packed (variant value members others) w =
+        Decides-and (keep || all_public members) (fields_test A keep packed 0 members w) (λ h. h, λ h. h) (fields_test-decides packed 0 members w)
+
+    union_test-decides : (vs : Variants) (w : Word) → Decides (union_test A keep vs w) (UnionValid (holds A) keep vs w)
+    union_test-decides no_variants w = (λ h. cc, λ h. elim h [ ])
+    union_test-decides (variant value members others) w =
+        Decides-and (keep || all_public members) (some_field_test A keep members w) (λ h. h, λ h. h) (some_field_test-decides members w)
+
+    fields_test-decides : (packed : Option ℕ) (at : ℕ) (members : Fields) (w : Word) → Decides (fields_test A keep packed at members w) (FieldsValid (holds A) keep packed at members w)
+    fields_test-decides packed at no_fields w = all-decides is_free IsFree is_free-decides w
+    fields_test-decides packed at (field public t rest) w =
+        let place = place_at packed at (layout_of t) in
+        field_test-decides (valid_test A keep t) (fields_test A keep packed (place + size_of t) rest)
+        (Valid (holds A) keep t) (FieldsValid (holds A) keep packed (place + size_of t) rest)
+        (λ u. valid_test-decides t u) (λ u. fields_test-decides packed (place + size_of t) rest u)
+        at place (size_of t) (λ u. Valid-length (holds A) keep t u) w
+
+    some_field_test-decides : (members : Fields) (w : Word) → Decides (some_field_test A keep members w) (SomeFieldValid (holds A) keep members w)
+    some_field_test-decides no_fields w = (λ h. cc, λ h. elim h [ ])
+    some_field_test-decides (field public t rest) w =
+        Decides-or (valid_test A keep t (take (size_of t) w) && list_all is_free (drop (size_of t) w)) (some_field_test A keep rest w)
+        (cut_decides (valid_test A keep t) (list_all is_free) (Valid (holds A) keep t) (All IsFree)
+        (λ u. valid_test-decides t u) (λ u. all-decides is_free IsFree is_free-decides u)
+        (size_of t) (λ u. Valid-length (holds A) keep t u) w)
+        (some_field_test-decides rest w)
+
+    some_variant_test-decides : (tag : Option Primitive) (begin first : ℕ) (vs : Variants) (w : Word) → Decides (some_variant_test A keep tag begin first vs w) (SomeVariantValid (holds A) keep tag begin first vs w)
+    some_variant_test-decides tag begin first no_variants w = (λ h. cc, λ h. elim h [ ])
+    some_variant_test-decides tag begin first (variant value members rest) w =
+        Decides-or (variant_test (tag_test (tag_layout tag).size value) (fields_test A keep None first members) (tag_layout tag).size begin w) (some_variant_test A keep tag begin first rest w)
+        (variant_test-decides (tag_test (tag_layout tag).size value) (fields_test A keep None first members)
+        (IsTag (tag_layout tag).size value) (FieldsValid (holds A) keep None first members)
+        (λ u. tag_test-decides (tag_layout tag).size value u) (λ u. fields_test-decides None first members u)
+        (tag_layout tag).size begin (λ u h. h.0.0) w)
+        (some_variant_test-decides tag begin first rest w)
+
+  -- the test of validity is exact
+  pub valid_test-exact : (t : Expanded) (w : Word) → IsTrue (valid_test A keep t w) ↔ Valid (holds A) keep t w
+  valid_test-exact t w = (λ h. (valid_test-decides t w).0 h, λ h. (valid_test-decides t w).1 h)
