@@ -3,3 +3,7 @@ pub mod ValidLemmas
 pub mod CompatibleLemmas
 pub mod OrderLemmas
 pub mod ValidTestLemmas
+pub mod RowTypes
+pub mod RowLayouts
+pub mod RowWords
+pub mod RowFaults
