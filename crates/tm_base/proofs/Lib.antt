@@ -7,3 +7,5 @@ pub mod RowTypes
 pub mod RowLayouts
 pub mod RowWords
 pub mod RowFaults
+pub mod JudgedLemmas
+pub mod RowCasts

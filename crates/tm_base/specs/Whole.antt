@@ -12,7 +12,7 @@ use Rattle.tm_base.specs.declared.definition.RefRow.{RefRow}
 use Rattle.tm_base.specs.declared.definition.RegionId.{RegionId}
 use Rattle.tm_base.specs.declared.definition.Repr.{Repr}
 use Rattle.tm_base.specs.declared.definition.Variant.{Variant}
-use Rattle.tm_base.specs.declared.ground.Ground.{Ground, out-Ground, Row_of-Ground, end_of-Ground, more_of-Ground, Tuple', Array', Wrap'}
+use Rattle.tm_base.specs.declared.ground.Ground.{Ground, out-Ground, Row_of-Ground, end_of-Ground, more_of-Ground, Named, Tuple', Array', Wrap'}
 use Rattle.tm_base.specs.declared.ground.Ground.TheOpen.{Ground-F}
 use Rattle.tm_base.specs.declared.ground.Primitive.{Primitive}
 use Rattle.tm_base.specs.declared.ground.Primitive.TheVariants.{I64}
@@ -33,10 +33,11 @@ unfoldable mutual
   row_types end_of-Ground = []
   row_types (more_of-Ground g gs) = written_types g ++ row_types gs
 
--- all types that a world writes: as fields, as pointees, and in its questions
+-- all types of a world: its named types, and what is written as a field, a pointee and in a question
 abbrev pub all_types : List NamedRow → List RefRow → List Ask → List Ground
 all_types named refs questions =
-    flat_map written_types (
+    map (λ k. Named (record { 0 = k })) (range_with_len 0 (length named))
+    ++ flat_map written_types (
         flat_map (λ row. flat_map (λ types. types) row.types) named
         ++ map (λ row. row.pointee) refs
         ++ flat_map (λ ask. ask.src ∷ ask.dst ∷ []) questions)
@@ -49,8 +50,14 @@ is_head_in_form named refs (Ground-F.NonZero p) = is_integer p
 is_head_in_form named refs (Ground-F.Ref r) = nat_lt r.0 refs
 is_head_in_form named refs _ = true
 
--- Besides, no part by value is deeper than the limit, and so none holds itself; and followed through
--- elements, arguments and pointees it doesn't come back to itself.
+-- What is asked of a type that is handed in with these tables: so it is of each type written in it, and
+-- no part by value is deeper than the limit.
+abbrev pub is_type_over : List Def → List NamedRow → List RefRow → Ground → Bool
+is_type_over defs named refs g =
+    list_all (λ h. is_head_in_form (length named) (length refs) (out-Ground h)) (written_types g) && is_whole (expanded defs named g)
+
+-- What holds of each type of a world: besides, followed through elements, arguments and pointees it
+-- doesn't come back to itself. That no part is deeper than the limit says that none holds itself.
 abbrev pub is_type_in_form : List Def → List NamedRow → List RefRow → Ground → Bool
 is_type_in_form defs named refs g =
     is_head_in_form (length named) (length refs) (out-Ground g) && is_whole (expanded defs named g) && ends (spelled refs g)
