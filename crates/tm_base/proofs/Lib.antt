@@ -9,3 +9,5 @@ pub mod RowWords
 pub mod RowFaults
 pub mod JudgedLemmas
 pub mod RowCasts
+pub mod LayoutLemmas
+pub mod RowReferences

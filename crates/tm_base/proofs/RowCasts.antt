@@ -35,7 +35,7 @@ bit_word (Uninit ∷ []) ((size, bytes), low) = absurd (All-head IsByte Uninit [
 bit_word (Ptr r k ∷ []) ((size, bytes), low) = absurd (All-head IsByte (Ptr r k) [] bytes)
 bit_word (c ∷ d ∷ w) ((size, bytes), low) = absurd (omega arith)
 
-two_is_no_bool : PrimValid p.Bool (Byte 2 ∷ []) → ⊥
+pub two_is_no_bool : PrimValid p.Bool (Byte 2 ∷ []) → ⊥
 two_is_no_bool ((size, bytes), low) = absurd (omega arith)
 
 -- each of the two words is one of a union of 0 and 1
@@ -62,9 +62,14 @@ unfolding Valid
 never_to_bool = inl (λ w value. value)
 
 -- the word 00 is one of `u8`
-zero_byte : IsSourceWord u8 (Byte 0 ∷ [])
+pub zero_byte : IsSourceWord u8 (Byte 0 ∷ [])
 unfolding Valid
 zero_byte = (refl, All-cons IsByte (Byte 0) [] (omega arith) (All-nil IsByte))
+
+-- and so is 02
+pub two_byte : IsSourceWord u8 (Byte 2 ∷ [])
+unfolding Valid
+two_byte = (refl, All-cons IsByte (Byte 2) [] (omega arith) (All-nil IsByte))
 
 -- Under `validity` a private type is still closed: no word of it is met.
 pub byte_to_closed : ¬ Transmutes (holds never_taken) validity_alone u8 closed

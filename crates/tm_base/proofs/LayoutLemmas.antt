@@ -1,0 +1,74 @@
+-- Rounding up, and where fields stand: behind one another, apart, and inside their type.
+use Rattle.std.proofs.Common.{◌≡◌, ℕ, zero, suc, ◌+◌, ◌-◌, ◌*◌, ◌/◌, ◌%◌, ◌<◌, ◌≤◌, refl, sym, ◌∙◌, ap, subst, true, false, Bool, ◌⊎◌, inl, inr, ⊎_elim, List, [], ◌∷◌, ◌++◌, Option, None, Some, max, min, arith}
+use Rattle.std.proofs.Math.Nat.{mul-le-mul_right, mod_self, mod-eq_of_lt, add-mul}
+use Rattle.std.proofs.lemmas.Nat.{div-add-mod'}
+use Rattle.tm_base.specs.Layout.{Layout, round_up, place_at, places, end_of, greatest_align, greatest_size, struct_layout, union_layout, raised}
+
+-- what `round_up` gives: a multiple, not below, and no lesser one
+pub record IsRoundedUp (n a m : ℕ) : Type 0 where
+  pub multiple : (k : ℕ) × (m ≡ k * a)
+  pub above : n ≤ m
+  pub least : (k : ℕ) → n ≤ k * a → m ≤ k * a
+
+round_up-exact : (n a : ℕ) → n % a ≡ 0 → round_up n a ≡ n
+round_up-exact n a e =
+    let whole : a - 0 ≡ a = omega arith in
+    rw (e, whole, mod_self a) (omega arith)
+
+round_up-past : (n a : ℕ) → 0 < n % a → n % a < a → round_up n a ≡ (n / a + 1) * a
+round_up-past n a some below =
+    let left : (a - n % a) % a ≡ a - n % a = mod-eq_of_lt (omega arith) in
+    let parts : n / a * a + n % a ≡ n = div-add-mod' n a in
+    let more : (n / a + 1) * a ≡ n / a * a + 1 * a = add-mul (n / a) 1 a in
+    rw left (omega arith)
+
+-- a multiple that isn't below n has at least as many turns as n has, and one more where n is no multiple
+turns : (n a k : ℕ) → 0 < n % a → n ≤ k * a → (n / a + 1) * a ≤ k * a
+turns n a k some above =
+    let parts : n / a * a + n % a ≡ n = div-add-mod' n a in
+    mul-le-mul_right a (below_or_not (n / a) k (λ (h : k ≤ n / a). omega (arith, mul-le-mul_right a h))) where
+  below_or_not : (q k : ℕ) → (k ≤ q → ⊥) → q + 1 ≤ k
+  below_or_not q k h = omega arith
+
+-- `round_up n a` is the least multiple of a that isn't below n
+pub round_up-least : (n a : ℕ) → 0 < a → IsRoundedUp n a (round_up n a)
+round_up-least n a some =
+    let below : n % a < a = omega arith in
+    let parts : n / a * a + n % a ≡ n = div-add-mod' n a in
+    ⊎_elim
+    (λ (e : n % a ≡ 0). record {
+      multiple = (n / a, round_up-exact n a e ∙ omega arith);
+      above = omega arith;
+      least = λ k h. rw (round_up-exact n a e) h;
+    })
+    (λ (past : 0 < n % a). record {
+      multiple = (n / a + 1, round_up-past n a past below);
+      above = omega arith;
+      least = λ k h. rw (round_up-past n a past below) (turns n a k past h);
+    })
+    (zero_or_more (n % a)) where
+  zero_or_more : (r : ℕ) → (r ≡ 0) ⊎ (0 < r)
+  zero_or_more zero = inl refl
+  zero_or_more (suc r) = inr (omega arith)
+
+-- Each field stands at the end of the one before it or behind it, and none ends past the number.
+pub Apart : ℕ → List ℕ → List Layout → ℕ → Type 0
+Apart at [] ls end = at ≤ end
+Apart at (place ∷ ps) [] end = ⊥
+Apart at (place ∷ ps) (l ∷ ls) end = (at ≤ place) × Apart (place + l.size) ps ls end
+
+pub places-apart : (packed : Option ℕ) (at : ℕ) (ls : List Layout) → Apart at (places packed at ls) ls (end_of packed at ls)
+unfolding Apart
+places-apart packed at [] = omega arith
+places-apart packed at (l ∷ ls) = (omega arith, places-apart packed (place_at packed at l + l.size) ls)
+
+pub Apart-widens : (at : ℕ) (ps : List ℕ) (ls : List Layout) (end further : ℕ) → end ≤ further → Apart at ps ls end → Apart at ps ls further
+unfolding Apart
+Apart-widens at [] ls end further h apart = omega arith
+Apart-widens at (place ∷ ps) [] end further h apart = apart
+Apart-widens at (place ∷ ps) (l ∷ ls) end further h (below, apart) = (below, Apart-widens (place + l.size) ps ls end further h apart)
+
+-- the fields of a `repr(C)` struct stand apart and inside it
+pub struct_places-apart : (packed align : Option ℕ) (ls : List Layout) → Apart 0 (places packed 0 ls) ls (struct_layout packed align ls).size
+struct_places-apart packed align ls =
+    Apart-widens 0 (places packed 0 ls) ls (end_of packed 0 ls) (struct_layout packed align ls).size (omega arith) (places-apart packed 0 ls)
