@@ -1,8 +1,10 @@
 -- Rounding up, and where fields stand: behind one another, apart, and inside their type.
-use Rattle.std.proofs.Common.{◌≡◌, ℕ, zero, suc, ◌+◌, ◌-◌, ◌*◌, ◌/◌, ◌%◌, ◌<◌, ◌≤◌, refl, sym, ◌∙◌, ap, subst, true, false, Bool, ◌⊎◌, inl, inr, ⊎_elim, List, [], ◌∷◌, ◌++◌, Option, None, Some, max, min, arith}
-use Rattle.std.proofs.Math.Nat.{mul-le-mul_right, mod_self, mod-eq_of_lt, add-mul}
+use Rattle.std.proofs.Common.{◌≡◌, ℕ, zero, suc, ◌+◌, ◌-◌, ◌*◌, ◌/◌, ◌%◌, ◌<◌, ◌≤◌, refl, sym, ◌∙◌, ap, subst, true, false, Bool, ◌⊎◌, inl, inr, ⊎_elim, List, [], ◌∷◌, ◌++◌, Option, None, Some, max, min, map, arith}
+use Rattle.std.specs.List.{AllByRecursion}
+use Rattle.std.proofs.Math.Nat.{mul-le-mul_right, mod_self, zero-mod, mod-eq_of_lt, add-mul}
 use Rattle.std.proofs.lemmas.Nat.{div-add-mod'}
-use Rattle.tm_base.specs.Layout.{Layout, round_up, place_at, places, end_of, greatest_align, greatest_size, struct_layout, union_layout, raised}
+use Rattle.tm_base.specs.declared.ground.Primitive.{Primitive}
+use Rattle.tm_base.specs.Layout.{Layout, round_up, place_at, places, end_of, greatest_align, greatest_size, struct_layout, union_layout, raised, structs, tag_layout}
 
 -- what `round_up` gives: a multiple, not below, and no lesser one
 pub record IsRoundedUp (n a m : ℕ) : Type 0 where
@@ -72,3 +74,55 @@ Apart-widens at (place ∷ ps) (l ∷ ls) end further h (below, apart) = (below,
 pub struct_places-apart : (packed align : Option ℕ) (ls : List Layout) → Apart 0 (places packed 0 ls) ls (struct_layout packed align ls).size
 struct_places-apart packed align ls =
     Apart-widens 0 (places packed 0 ls) ls (end_of packed 0 ls) (struct_layout packed align ls).size (omega arith) (places-apart packed 0 ls)
+
+-- a part that isn't larger than the greatest is inside what holds that
+sizes-inside : (size : ℕ) (ls : List Layout) → greatest_size ls ≤ size → AllByRecursion (λ l. l.size ≤ size) ls
+sizes-inside size [] h = tt
+sizes-inside size (l ∷ ls) h = (omega arith, sizes-inside size ls (omega arith))
+
+-- each field of a union is inside it
+pub union_fields-inside : (packed align : Option ℕ) (ls : List Layout) → AllByRecursion (λ l. l.size ≤ (union_layout packed align ls).size) ls
+union_fields-inside packed align ls = sizes-inside (union_layout packed align ls).size ls (omega arith)
+
+round_up-zero : (a : ℕ) → round_up 0 a ≡ 0
+round_up-zero a = round_up-exact 0 a (zero-mod a)
+
+-- a field that stands first is at 0
+first-front : (l : Layout) → place_at None 0 l ≡ 0
+first-front l = round_up-zero l.align
+
+-- where a struct that a tag begins ends
+tagged-end : (tag : Layout) (ls : List Layout) → end_of None 0 (tag ∷ ls) ≡ end_of None tag.size ls
+tagged-end tag ls =
+    let front : place_at None 0 tag + tag.size ≡ tag.size = rw (first-front tag) (omega arith) in
+    ap (λ (n : ℕ). end_of None n ls) front
+
+tagged-apart : (tag : Layout) (ls : List Layout) (size : ℕ) → (struct_layout None None (tag ∷ ls)).size ≤ size → Apart tag.size (places None tag.size ls) ls size
+tagged-apart tag ls size h =
+    let end : end_of None 0 (tag ∷ ls) ≡ end_of None tag.size ls = tagged-end tag ls in
+    Apart-widens tag.size (places None tag.size ls) ls (end_of None tag.size ls) size (omega arith) (places-apart None tag.size ls)
+
+-- Behind a tag with an integer alone, the fields of each variant stand apart and inside the enum.
+pub tagged_variants-apart : (tag : Layout) (variants : List (List Layout)) (size : ℕ) → greatest_size (structs (tag ∷ []) variants) ≤ size
+    → AllByRecursion (λ ls. Apart tag.size (places None tag.size ls) ls size) variants
+tagged_variants-apart tag [] size h = tt
+tagged_variants-apart tag (ls ∷ others) size h = (tagged-apart tag ls size (omega arith), tagged_variants-apart tag others size (omega arith))
+
+Apart-shifted : (past at : ℕ) (ps : List ℕ) (ls : List Layout) (end : ℕ) → Apart at ps ls end → Apart (past + at) (map (λ place. past + place) ps) ls (past + end)
+unfolding Apart
+Apart-shifted past at [] ls end h = omega arith
+Apart-shifted past at (place ∷ ps) [] end h = h
+Apart-shifted past at (place ∷ ps) (l ∷ ls) end (below, apart) =
+    (omega arith, subst (λ (n : ℕ). Apart n (map (λ place. past + place) ps) ls (past + end)) (sym (add_assoc' past place l.size)) (Apart-shifted past (place + l.size) ps ls end apart)) where
+  add_assoc' : (a b c : ℕ) → (a + b) + c ≡ a + (b + c)
+  add_assoc' a b c = omega arith
+
+-- With `C`, the fields of each variant stand apart in the union that is behind the tag, and inside it.
+pub union_variants-apart : (begin : ℕ) (variants : List (List Layout)) (size : ℕ) → begin + greatest_size (structs [] variants) ≤ size
+    → AllByRecursion (λ ls. Apart begin (map (λ place. begin + place) (places None 0 ls)) ls size) variants
+union_variants-apart begin [] size h = tt
+union_variants-apart begin (ls ∷ others) size h =
+    let from_begin : begin + 0 ≡ begin = omega arith in
+    (Apart-widens begin (map (λ place. begin + place) (places None 0 ls)) ls (begin + end_of None 0 ls) size (omega arith)
+        (subst (λ (n : ℕ). Apart n (map (λ place. begin + place) (places None 0 ls)) ls (begin + end_of None 0 ls)) from_begin (Apart-shifted begin 0 (places None 0 ls) ls (end_of None 0 ls) (places-apart None 0 ls))),
+     union_variants-apart begin others size (omega arith))

@@ -11,3 +11,4 @@ pub mod JudgedLemmas
 pub mod RowCasts
 pub mod LayoutLemmas
 pub mod RowReferences
+pub mod RowCycles

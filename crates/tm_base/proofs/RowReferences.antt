@@ -29,13 +29,13 @@ use Rattle.tm_base.proofs.JudgedLemmas.{IsJudged-from, LeadsIn-keeps, Contains-n
 use Rattle.tm_base.proofs.RowCasts.{nothing, zero_byte, two_byte, two_is_no_bool}
 use Rattle.tm_base.proofs.RowTypes.{repr_c, u8, the_bool, reference}
 
-abbrev the_region : RegionId
+abbrev pub the_region : RegionId
 the_region = record { 0 = 1 }
 
-abbrev ref_to : ℕ → Ground
+abbrev pub ref_to : ℕ → Ground
 ref_to r = Ref (record { 0 = r })
 
-abbrev shared : Ground → RefRow
+abbrev pub shared : Ground → RefRow
 shared g = record { mutable = false; region = the_region; pointee = g }
 
 -- 0 is &&bool, 1 is &&u8, 2 is &bool, and 3 is &u8
@@ -46,7 +46,7 @@ nested = record {
 }
 
 -- the word 02 is one of `u8` and none of `bool`
-byte_to_bool : (A : ℕ → ℕ → Type 0) → ¬ Transmutes A nothing u8 the_bool
+pub byte_to_bool : (A : ℕ → ℕ → Type 0) → ¬ Transmutes A nothing u8 the_bool
 unfolding Valid layout_of
 byte_to_bool A (inl none) = none (Byte 0 ∷ []) zero_byte
 byte_to_bool A (inr (inl (e, every))) = two_is_no_bool (every (Byte 2 ∷ []) two_byte)
