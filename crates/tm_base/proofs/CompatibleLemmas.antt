@@ -17,7 +17,7 @@ Transmutes-grows A B over assume s t (inr (inl (e, every))) =
 Transmutes-grows A B over assume s t (inr (inr (e, (w, value, fits)))) =
     inr (inr (e, (w, value, Valid-grows A B assume.safety assume.safety over (λ h. h) t _ fits)))
 
-OnRows-grows : (r t : Option RefRow) (P Q : RefRow → RefRow → Type 0) → ((r t : RefRow) → P r t → Q r t) → OnRows r t P → OnRows r t Q
+pub OnRows-grows : (r t : Option RefRow) (P Q : RefRow → RefRow → Type 0) → ((r t : RefRow) → P r t → Q r t) → OnRows r t P → OnRows r t Q
 OnRows-grows (Some r) (Some t) P Q grows h = grows r t h
 OnRows-grows (Some r) None P Q grows h = h
 OnRows-grows None t P Q grows h = h

@@ -1,10 +1,12 @@
 -- Rounding up, and where fields stand: behind one another, apart, and inside their type.
-use Rattle.std.proofs.Common.{◌≡◌, ℕ, zero, suc, ◌+◌, ◌-◌, ◌*◌, ◌/◌, ◌%◌, ◌<◌, ◌≤◌, refl, sym, ◌∙◌, ap, subst, true, false, Bool, ◌⊎◌, inl, inr, ⊎_elim, List, [], ◌∷◌, ◌++◌, Option, None, Some, max, min, map, arith}
+use Rattle.std.proofs.Common.{◌≡◌, ℕ, zero, suc, ◌+◌, ◌-◌, ◌*◌, ◌/◌, ◌%◌, ◌<◌, ◌≤◌, refl, sym, ◌∙◌, ap, subst, true, false, Bool, ◌⊎◌, inl, inr, ⊎_elim, List, [], ◌∷◌, ◌++◌, Option, None, Some, max, min, map, arith, if◌then◌else◌}
+use Rattle.std.proofs.lemmas.Bool.Decides.{nat_tests}
 use Rattle.std.specs.List.{AllByRecursion}
 use Rattle.std.proofs.Math.Nat.{mul-le-mul_right, mod_self, zero-mod, mod-eq_of_lt, add-mul}
 use Rattle.std.proofs.lemmas.Nat.{div-add-mod'}
 use Rattle.tm_base.specs.declared.ground.Primitive.{Primitive}
-use Rattle.tm_base.specs.Layout.{Layout, round_up, place_at, places, end_of, greatest_align, greatest_size, struct_layout, union_layout, raised, structs, tag_layout}
+use Rattle.tm_base.specs.Layout.{Layout, round_up, place_at, places, end_of, greatest_align, greatest_size, struct_layout, union_layout, is_trivial, transparent_layout, structs}
+use Rattle.tm_base.specs.Faults.{sized_count}
 
 -- what `round_up` gives: a multiple, not below, and no lesser one
 pub record IsRoundedUp (n a m : ℕ) : Type 0 where
@@ -126,3 +128,30 @@ union_variants-apart begin (ls ∷ others) size h =
     (Apart-widens begin (map (λ place. begin + place) (places None 0 ls)) ls (begin + end_of None 0 ls) size (omega arith)
         (subst (λ (n : ℕ). Apart n (map (λ place. begin + place) (places None 0 ls)) ls (begin + end_of None 0 ls)) from_begin (Apart-shifted begin 0 (places None 0 ls) ls (end_of None 0 ls) (places-apart None 0 ls))),
      union_variants-apart begin others size (omega arith))
+
+trivial-size : (l : Layout) → is_trivial l ≡ true → l.size ≡ 0
+trivial-size l e = grind (arith, nat_tests)
+
+unsized-step : (n : ℕ) (l : Layout) (ls : List Layout) (b : Bool) → is_trivial l ≡ b → (sized_count ls ≡ 0 → AllByRecursion (λ l. l.size ≤ n) ls)
+    → (if b then 0 else 1) + sized_count ls ≡ 0 → (l.size ≤ n) × AllByRecursion (λ l. l.size ≤ n) ls
+unsized-step n l ls true e rest h =
+    let empty : l.size ≡ 0 = trivial-size l e in
+    (omega arith, rest (omega arith))
+unsized-step n l ls false e rest h = absurd (omega arith)
+
+unsized-inside : (n : ℕ) (ls : List Layout) → sized_count ls ≡ 0 → AllByRecursion (λ l. l.size ≤ n) ls
+unsized-inside n [] h = tt
+unsized-inside n (l ∷ ls) h = unsized-step n l ls (is_trivial l) refl (unsized-inside n ls) h
+
+transparent-step : (l : Layout) (ls : List Layout) (b : Bool) → is_trivial l ≡ b → (sized_count ls ≤ 1 → AllByRecursion (λ l. l.size ≤ (transparent_layout ls).size) ls)
+    → (if b then 0 else 1) + sized_count ls ≤ 1
+    → (l.size ≤ (if b then transparent_layout ls else l).size) × AllByRecursion (λ k. k.size ≤ (if b then transparent_layout ls else l).size) ls
+transparent-step l ls true e rest h =
+    let empty : l.size ≡ 0 = trivial-size l e in
+    (omega arith, rest (omega arith))
+transparent-step l ls false e rest h = (omega arith, unsized-inside l.size ls (omega arith))
+
+-- of the fields of a transparent struct the one that has a size is as large as it, and the others have none
+pub transparent_fields-inside : (ls : List Layout) → sized_count ls ≤ 1 → AllByRecursion (λ l. l.size ≤ (transparent_layout ls).size) ls
+transparent_fields-inside [] h = tt
+transparent_fields-inside (l ∷ ls) h = transparent-step l ls (is_trivial l) refl (transparent_fields-inside ls) h

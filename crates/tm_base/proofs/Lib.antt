@@ -12,3 +12,4 @@ pub mod RowCasts
 pub mod LayoutLemmas
 pub mod RowReferences
 pub mod RowCycles
+pub mod AssumeLemmas

@@ -1,6 +1,6 @@
 -- Which types have no guaranteed layout, and why: the Rust Reference, "Type layout", and std's page on
 -- `Option`, "Representation". The order of the causes is this project's, and so are the last two.
-use Rattle.std.specs.Prelude.{ℕ, nat_lt, nat_le, Bool, true, false, ◌&&◌, ◌||◌, not, if◌then◌else◌, Option, Some, None, is_some, is_none, List, count_by}
+use Rattle.std.specs.Prelude.{ℕ, nat_lt, nat_le, Bool, true, false, ◌&&◌, ◌||◌, not, if◌then◌else◌, Option, Some, None, is_some, is_none, List, [], ◌∷◌, ◌+◌}
 use Rattle.tm_base.specs.declared.answer.Why.{Why}
 use Rattle.tm_base.specs.declared.answer.Why.TheVariants.{NoRepr, Tuple, OptionNotListed, CEnumRange, TransparentFields, PackedHoldsAlign, TooLarge}
 use Rattle.tm_base.specs.declared.definition.Kind.{Kind}
@@ -45,9 +45,14 @@ abbrev pub lacks_range : Kind → Repr → Variants → Bool
 lacks_range Enum repr variants = repr.c && is_none repr.tag && passes_i32 variants
 lacks_range _ _ _ = false
 
--- two fields or more aren't of size 0 and alignment 1
+-- how many of some fields aren't of size 0 and alignment 1
+abbrev pub sized_count : List Layout → ℕ
+sized_count [] = 0
+sized_count (l ∷ ls) = (if is_trivial l then 0 else 1) + sized_count ls
+
+-- a transparent struct has two fields or more that aren't of size 0 and alignment 1
 abbrev pub has_two_sized : Expanded → Bool
-has_two_sized (named id Struct repr variants) = repr.transparent && nat_le 2 (count_by (λ l. not (is_trivial l)) (only (variant_layouts variants)))
+has_two_sized (named id Struct repr variants) = repr.transparent && nat_le 2 (sized_count (only (variant_layouts variants)))
 has_two_sized t = false
 
 abbrev pub has_align : Expanded → Bool
