@@ -13,3 +13,4 @@ pub mod LayoutLemmas
 pub mod RowReferences
 pub mod RowCycles
 pub mod AssumeLemmas
+pub mod AnswerLemmas

@@ -12,6 +12,14 @@ use Rattle.tm_base.specs.Reaches.{IsJudged}
 use Rattle.tm_base.specs.Tables.{Tables, pointee_in, OnRows}
 use Rattle.tm_base.specs.Transmutes.{Transmutes}
 
+-- the rules that are asked before one
+abbrev pub earlier : LocalRule → List LocalRule
+earlier MoreUnique = []
+earlier TooBig = MoreUnique ∷ []
+earlier Alignment = MoreUnique ∷ TooBig ∷ []
+earlier Interior = MoreUnique ∷ TooBig ∷ Alignment ∷ []
+earlier Lifetime = MoreUnique ∷ TooBig ∷ Alignment ∷ Interior ∷ []
+
 module _ (tables : Tables) (assume : Assume) where
   -- the source reference r and the target reference t keep a local rule
   abbrev pub Keeps : RefRow → RefRow → LocalRule → Type 0
@@ -28,14 +36,6 @@ module _ (tables : Tables) (assume : Assume) where
     pub alignment : Keeps r t Alignment
     pub interior : Keeps r t Interior
     pub lifetime : Keeps r t Lifetime
-
-  -- the rules that are asked before one
-  abbrev pub earlier : LocalRule → List LocalRule
-  earlier MoreUnique = []
-  earlier TooBig = MoreUnique ∷ []
-  earlier Alignment = MoreUnique ∷ TooBig ∷ []
-  earlier Interior = MoreUnique ∷ TooBig ∷ Alignment ∷ []
-  earlier Lifetime = MoreUnique ∷ TooBig ∷ Alignment ∷ Interior ∷ []
 
   -- the first rule that they don't keep
   pub record IsLocalFault (r t : RefRow) (rule : LocalRule) : Type 0 where

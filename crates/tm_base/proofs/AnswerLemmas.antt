@@ -1,0 +1,183 @@
+-- A question has one answer, where no two types at fault that one side reaches share a text.
+use Rattle.std.proofs.Common.{◌≡◌, ℕ, zero, suc, ◌+◌, ◌<◌, ◌≤◌, ◌⊎◌, ⊎_elim, inl, inr, refl, sym, ◌∙◌, ap, subst, Bool, true, false, IsTrue, Option, Some, None, List, [], ◌∷◌, length, take, slice_get, nat_lt, arith}
+use Rattle.std.specs.List.{All}
+use Rattle.std.proofs.lemmas.Bool.Decides.{nat_tests}
+use Rattle.tm_base.specs.declared.answer.Answer.{Answer}
+use Rattle.tm_base.specs.declared.answer.Answer.TheVariants.{Yes, YesBecause, No, NoAt, Refused}
+use Rattle.tm_base.specs.declared.answer.LocalRule.{LocalRule}
+use Rattle.tm_base.specs.declared.answer.LocalRule.TheVariants.{MoreUnique, TooBig as too_big, Alignment, Interior, Lifetime}
+use Rattle.tm_base.specs.declared.answer.RefFault.{RefFault}
+use Rattle.tm_base.specs.declared.answer.Rule.{Rule}
+use Rattle.tm_base.specs.declared.answer.Rule.TheVariants.{TargetUninhabited, TargetPrivate, NoCommonValue, TooBig, NeedsInit, ByteValue, BytesForReference, ReferenceForBytes, RefMoreUnique, RefTooBig, RefAlignment, RefInterior, RefLifetime, RefPointee}
+use Rattle.tm_base.specs.declared.answer.Side.{Side}
+use Rattle.tm_base.specs.declared.answer.Side.TheVariants.{Source, Target}
+use Rattle.tm_base.specs.declared.answer.Why.{Why}
+use Rattle.tm_base.specs.declared.ask.Ask.{Ask}
+use Rattle.tm_base.specs.declared.cell.Cell.{Cell}
+use Rattle.tm_base.specs.declared.cell.Cell.TheVariants.{Byte, Uninit, Ptr}
+use Rattle.tm_base.specs.declared.cell.RefId.{RefId}
+use Rattle.tm_base.specs.declared.definition.RefRow.{RefRow}
+use Rattle.tm_base.specs.declared.ground.Ground.{Ground}
+use Rattle.tm_base.specs.Answers.{IsAnswer, IsTrueAnswer, IsLeastAnswer, IsLeastFault, IsTrueYes, IsTrueExample, IsTrueNo, IsTrueNoAt, IsTrueRefusal, AreJudged, IsValue, Casts, side_type}
+use Rattle.tm_base.specs.Cells.{Word, fit}
+use Rattle.tm_base.specs.Compatible.{Keeps, KeepsAll, IsLocalFault, CompatibleTo, earlier}
+use Rattle.tm_base.specs.Faults.{fault_of}
+use Rattle.tm_base.specs.Layout.{size_of}
+use Rattle.tm_base.specs.Orders.{word_less, text_less, list_less}
+use Rattle.tm_base.specs.Reaches.{Reaches, IsAtFault, IsJudged}
+use Rattle.tm_base.specs.Rules.{source, target, Taken, HasTargetWord, IsWholeRule, IsOpen, IsRuleOfNo, IsCellRule, IsRefRule, BreaksLocally, BreaksBelow, rule_of}
+use Rattle.tm_base.specs.Tables.{Tables, OnRows, expanded_in}
+use Rattle.tm_base.specs.Texts.{text_of}
+use Rattle.tm_base.specs.Transmutes.{Same}
+use Rattle.tm_base.proofs.OrderLemmas.{word_less-total}
+use Rattle.tm_base.proofs.ValidLemmas.{Valid-length, Valid-grows}
+
+-- the place of a local rule in their order
+rank : LocalRule → ℕ
+rank MoreUnique = 0
+rank too_big = 1
+rank Alignment = 2
+rank Interior = 3
+rank Lifetime = 4
+
+rank-last : (m : LocalRule) → rank m ≤ 4
+unfolding rank
+rank-last MoreUnique = omega arith
+rank-last too_big = omega arith
+rank-last Alignment = omega arith
+rank-last Interior = omega arith
+rank-last Lifetime = omega arith
+
+-- what holds of all rules before one holds of one before it
+kept_before : (P : LocalRule → Type 0) (l m : LocalRule) → All P (earlier m) → rank l < rank m → P l
+unfolding rank
+kept_before P MoreUnique too_big all h = all 0 MoreUnique (omega arith)
+kept_before P MoreUnique Alignment all h = all 0 MoreUnique (omega arith)
+kept_before P too_big Alignment all h = all 1 MoreUnique (omega arith)
+kept_before P MoreUnique Interior all h = all 0 MoreUnique (omega arith)
+kept_before P too_big Interior all h = all 1 MoreUnique (omega arith)
+kept_before P Alignment Interior all h = all 2 MoreUnique (omega arith)
+kept_before P MoreUnique Lifetime all h = all 0 MoreUnique (omega arith)
+kept_before P too_big Lifetime all h = all 1 MoreUnique (omega arith)
+kept_before P Alignment Lifetime all h = all 2 MoreUnique (omega arith)
+kept_before P Interior Lifetime all h = all 3 MoreUnique (omega arith)
+kept_before P l m all h = absurd (omega (arith, rank-last m))
+
+rank-same : (l m : LocalRule) → rank l ≡ rank m → l ≡ m
+unfolding rank
+rank-same MoreUnique MoreUnique h = refl
+rank-same too_big too_big h = refl
+rank-same Alignment Alignment h = refl
+rank-same Interior Interior h = refl
+rank-same Lifetime Lifetime h = refl
+rank-same _ _ h = absurd (omega arith)
+
+three : (m n : ℕ) → (m < n) ⊎ ((m ≡ n) ⊎ (n < m))
+three m n = grind arith
+
+-- two references have one local fault at most
+pub IsLocalFault-unique : (tables : Tables) (ask : Ask) (r t : RefRow) (l m : LocalRule) → IsLocalFault tables ask.assume r t l → IsLocalFault tables ask.assume r t m → l ≡ m
+IsLocalFault-unique tables ask r t l m first second =
+    ⊎_elim
+    (λ (below : rank l < rank m). absurd (first.broken (kept_before (Keeps tables ask.assume r t) l m second.kept below)))
+    (λ rest. ⊎_elim
+        (λ (same : rank l ≡ rank m). rank-same l m same)
+        (λ (above : rank m < rank l). absurd (second.broken (kept_before (Keeps tables ask.assume r t) m l first.kept above)))
+        rest)
+    (three (rank l) (rank m))
+
+kept_rule : (tables : Tables) (ask : Ask) (r t : RefRow) → KeepsAll tables ask.assume r t → (l : LocalRule) → Keeps tables ask.assume r t l
+kept_rule tables ask r t h MoreUnique = h.more_unique
+kept_rule tables ask r t h too_big = h.too_big
+kept_rule tables ask r t h Alignment = h.alignment
+kept_rule tables ask r t h Interior = h.interior
+kept_rule tables ask r t h Lifetime = h.lifetime
+
+on_both : (r t : Option RefRow) (P Q : RefRow → RefRow → Type 0) → OnRows r t P → OnRows r t Q → (a : RefRow) × (b : RefRow) × P a b × Q a b
+on_both (Some r) (Some t) P Q p q = (r, t, p, q)
+on_both (Some r) None P Q p q = absurd p
+on_both None t P Q p q = absurd p
+
+abbrev fault_with : RefId → RefId → ℕ → RefFault
+fault_with s t d = record { source = s; target = t; depth = d }
+
+module _ (tables : Tables) (ask : Ask) where
+  abbrev IsLeastDepth : RefId → RefId → ℕ → Type 0
+  IsLeastDepth s t d = (depth : ℕ) → ¬ CompatibleTo tables ask.assume depth s.0 t.0 → d ≤ depth
+
+  -- two references have one rule and one least depth
+  ref_rule_same : (rule other : Rule) (s t : RefId) (d e : ℕ) (a b : RefRow)
+      → BreaksLocally tables ask rule (fault_with s t d) a b ⊎ BreaksBelow tables ask rule (fault_with s t d) a b
+      → BreaksLocally tables ask other (fault_with s t e) a b ⊎ BreaksBelow tables ask other (fault_with s t e) a b
+      → IsLeastDepth s t d → IsLeastDepth s t e → (rule ≡ other) × (d ≡ e)
+  ref_rule_same rule other s t d e a b (inl (l, first, is, zero_d)) (inl (m, second, is', zero_e)) least least' =
+      (is ∙ ap rule_of (IsLocalFault-unique tables ask a b l m first second) ∙ sym is', zero_d ∙ sym zero_e)
+  ref_rule_same rule other s t d e a b (inl (l, first, is, zero_d)) (inr (keeps, is', fails)) least least' =
+      absurd (first.broken (kept_rule tables ask a b keeps l))
+  ref_rule_same rule other s t d e a b (inr (keeps, is, fails)) (inl (m, second, is', zero_e)) least least' =
+      absurd (second.broken (kept_rule tables ask a b keeps m))
+  ref_rule_same rule other s t d e a b (inr (keeps, is, fails)) (inr (keeps', is', fails')) least least' =
+      let below : d ≤ e = least e fails' in
+      let above : e ≤ d = least' d fails in
+      (is ∙ sym is', omega arith)
+
+  rule_at_same : (rule other : Rule) (s t : RefId) (d e : ℕ) → IsRefRule tables ask rule (fault_with s t d) → IsRefRule tables ask other (fault_with s t e)
+      → IsLeastDepth s t d → IsLeastDepth s t e → (rule ≡ other) × (d ≡ e)
+  rule_at_same rule other s t d e first second least least' =
+      let (a, b, p, q) = on_both (slice_get tables.refs s.0) (slice_get tables.refs t.0)
+          (λ r t'. BreaksLocally tables ask rule (fault_with s t d) r t' ⊎ BreaksBelow tables ask rule (fault_with s t d) r t')
+          (λ r t'. BreaksLocally tables ask other (fault_with s t e) r t' ⊎ BreaksBelow tables ask other (fault_with s t e) r t') first second in
+      ref_rule_same rule other s t d e a b p q least least'
+
+  make_fault : (f g : RefFault) → f.source ≡ g.source → f.target.0 ≡ g.target.0 → f.depth ≡ g.depth → f ≡ g
+  make_fault f g s t d =
+      ap (λ (x : RefId). fault_with x f.target f.depth) s
+      ∙ ap (λ (x : ℕ). fault_with g.source (record { 0 = x }) f.depth) t
+      ∙ ap (λ (x : ℕ). fault_with g.source g.target x) d
+
+  abbrev BothSame : Rule → Rule → Option RefFault → Option RefFault → Type 0
+  BothSame rule other fault found = (rule ≡ other) × (fault ≡ found)
+
+  -- two faults at one open place, each with the least target and the least depth
+  ref_same : (before : Word) (r : RefId) (rule other : Rule) (f g : RefFault) → f.source ≡ r → g.source ≡ r
+      → IsOpen tables ask before f.target.0 → IsOpen tables ask before g.target.0
+      → IsRefRule tables ask rule f → IsRefRule tables ask other g
+      → IsLeastFault tables ask before (Some f) → IsLeastFault tables ask before (Some g) → (rule ≡ other) × (f ≡ g)
+  ref_same before r rule other f g s s' open_f open_g first second least least' =
+      let below : f.target.0 ≤ g.target.0 = least.0 g.target.0 open_g in
+      let above : g.target.0 ≤ f.target.0 = least'.0 f.target.0 open_f in
+      let targets : f.target.0 ≡ g.target.0 = omega arith in
+      let sources : f.source ≡ g.source = s ∙ sym s' in
+      let moved : g ≡ fault_with f.source f.target g.depth = make_fault g (fault_with f.source f.target g.depth) (sym sources) (sym targets) refl in
+      let second' = subst (IsRefRule tables ask other) moved second in
+      let depths = λ (depth : ℕ) (fails : ¬ CompatibleTo tables ask.assume depth f.source.0 f.target.0).
+          subst (λ (h : RefFault). (n : ℕ) → ¬ CompatibleTo tables ask.assume n h.source.0 h.target.0 → h.depth ≤ n) moved least'.1 depth fails in
+      let same = rule_at_same rule other f.source f.target f.depth g.depth first second' least.1 depths in
+      (same.0, make_fault f g sources targets same.1)
+
+  -- a refused cell has one rule and one fault
+  cell_rule_same : (before : Word) (c : Option Cell) (rule other : Rule) (fault found : Option RefFault)
+      → IsCellRule tables ask before c rule fault → IsCellRule tables ask before c other found
+      → IsLeastFault tables ask before fault → IsLeastFault tables ask before found → BothSame rule other fault found
+  cell_rule_same before None rule other fault found p q least least' = absurd p
+  cell_rule_same before (Some Uninit) rule other fault found (is, e) (is', e') least least' = (is ∙ sym is', e ∙ sym e')
+  cell_rule_same before (Some (Byte b)) rule other fault found (inl (is, goes), e) (inl (is', goes'), e') least least' = (is ∙ sym is', e ∙ sym e')
+  cell_rule_same before (Some (Byte b)) rule other fault found (inl (is, goes), e) (inr (is', stuck), e') least least' = absurd (stuck goes)
+  cell_rule_same before (Some (Byte b)) rule other fault found (inr (is, stuck), e) (inl (is', goes), e') least least' = absurd (stuck goes)
+  cell_rule_same before (Some (Byte b)) rule other fault found (inr (is, stuck), e) (inr (is', stuck'), e') least least' = (is ∙ sym is', e ∙ sym e')
+  cell_rule_same before (Some (Ptr r k)) rule other fault found (inl (is, e, none)) (inl (is', e', none')) least least' = (is ∙ sym is', e ∙ sym e')
+  cell_rule_same before (Some (Ptr r k)) rule other fault found (inl (is, e, none)) (inr (g, e', s', z', open_g, second)) least least' = absurd (none g.target.0 open_g)
+  cell_rule_same before (Some (Ptr r k)) rule other fault found (inr (f, e, s, z, open_f, first)) (inl (is', e', none)) least least' = absurd (none f.target.0 open_f)
+  cell_rule_same before (Some (Ptr r k)) rule other fault found (inr (f, e, s, z, open_f, first)) (inr (g, e', s', z', open_g, second)) least least' =
+      let same = ref_same before r rule other f g s s' open_f open_g first second (subst (IsLeastFault tables ask before) e least) (subst (IsLeastFault tables ask before) e' least') in
+      (same.0, e ∙ ap (λ (x : RefFault). Some x) same.1 ∙ sym e')
+
+  rule_of_no_same : (w : Word) (o : ℕ) (rule other : Rule) (fault found : Option RefFault)
+      → IsRuleOfNo tables ask w o rule fault → IsRuleOfNo tables ask w o other found
+      → IsLeastFault tables ask (take o (fit w (size_of (target tables ask)))) fault → IsLeastFault tables ask (take o (fit w (size_of (target tables ask)))) found
+      → BothSame rule other fault found
+  rule_of_no_same w o rule other fault found (inl (past, is, e)) (inl (past', is', e')) least least' = (is ∙ sym is', e ∙ sym e')
+  rule_of_no_same w o rule other fault found (inl (past, is, e)) (inr (inside, q)) least least' = absurd (omega arith)
+  rule_of_no_same w o rule other fault found (inr (inside, p)) (inl (past, is, e)) least least' = absurd (omega arith)
+  rule_of_no_same w o rule other fault found (inr (inside, p)) (inr (inside', q)) least least' =
+      cell_rule_same (take o (fit w (size_of (target tables ask)))) (slice_get (fit w (size_of (target tables ask))) o) rule other fault found p q least least'
