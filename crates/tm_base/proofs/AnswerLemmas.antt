@@ -19,7 +19,7 @@ use Rattle.tm_base.specs.declared.cell.RefId.{RefId}
 use Rattle.tm_base.specs.declared.definition.RefRow.{RefRow}
 use Rattle.tm_base.specs.declared.ground.Ground.{Ground}
 use Rattle.tm_base.specs.Answers.{IsAnswer, IsTrueAnswer, IsLeastAnswer, IsLeastFault, IsTrueYes, IsTrueExample, IsTrueNo, IsTrueNoAt, IsTrueRefusal, AreJudged, IsValue, Casts, side_type}
-use Rattle.tm_base.specs.Cells.{Word, fit}
+use Rattle.tm_base.specs.Cells.{Word, fit, OrOwn}
 use Rattle.tm_base.specs.Compatible.{Keeps, KeepsAll, IsLocalFault, CompatibleTo, earlier}
 use Rattle.tm_base.specs.Faults.{fault_of}
 use Rattle.tm_base.specs.Layout.{size_of}
@@ -29,7 +29,7 @@ use Rattle.tm_base.specs.Rules.{source, target, Taken, HasTargetWord, IsWholeRul
 use Rattle.tm_base.specs.Tables.{Tables, OnRows, expanded_in}
 use Rattle.tm_base.specs.Texts.{text_of}
 use Rattle.tm_base.specs.Transmutes.{Same}
-use Rattle.tm_base.proofs.OrderLemmas.{word_less-total}
+use Rattle.tm_base.proofs.OrderLemmas.{word_less-total, text_less-total}
 use Rattle.tm_base.proofs.ValidLemmas.{Valid-length, Valid-grows}
 
 -- the place of a local rule in their order
@@ -181,3 +181,45 @@ module _ (tables : Tables) (ask : Ask) where
   rule_of_no_same w o rule other fault found (inr (inside, p)) (inl (past, is, e)) least least' = absurd (omega arith)
   rule_of_no_same w o rule other fault found (inr (inside, p)) (inr (inside', q)) least least' =
       cell_rule_same (take o (fit w (size_of (target tables ask)))) (slice_get (fit w (size_of (target tables ask))) o) rule other fault found p q least least'
+
+  -- a target that has a word with its private types closed has it with them open
+  has_word_open : (keep : Bool) → HasTargetWord tables ask keep → HasTargetWord tables ask true
+  has_word_open keep (w, valid) = (w, Valid-grows (OrOwn (Taken tables ask)) (OrOwn (Taken tables ask)) keep true (λ x t a. a) (λ kept. refl) (target tables ask) w valid)
+
+  -- one rule on the types as a whole holds at most
+  whole_rule_same : (rule other : Rule) → IsWholeRule tables ask rule → IsWholeRule tables ask other → rule ≡ other
+  whole_rule_same TargetUninhabited TargetUninhabited p q = refl
+  whole_rule_same TargetUninhabited TargetPrivate p q = absurd (p q.0)
+  whole_rule_same TargetUninhabited NoCommonValue p q = absurd (p (has_word_open ask.assume.safety q.0))
+  whole_rule_same TargetPrivate TargetUninhabited p q = absurd (q p.0)
+  whole_rule_same TargetPrivate TargetPrivate p q = refl
+  whole_rule_same TargetPrivate NoCommonValue p q = absurd (p.1 q.0)
+  whole_rule_same NoCommonValue TargetUninhabited p q = absurd (q (has_word_open ask.assume.safety p.0))
+  whole_rule_same NoCommonValue TargetPrivate p q = absurd (q.1 p.0)
+  whole_rule_same NoCommonValue NoCommonValue p q = refl
+  whole_rule_same TargetUninhabited _ p q = absurd q
+  whole_rule_same TargetPrivate _ p q = absurd q
+  whole_rule_same NoCommonValue _ p q = absurd q
+  whole_rule_same _ _ p q = absurd p
+
+  -- none of them holds where a cell is refused
+  no_whole_rule : (rule : Rule) → IsWholeRule tables ask rule → ask.assume.validity ≡ false → HasTargetWord tables ask ask.assume.safety → ⊥
+  no_whole_rule TargetUninhabited p e has = p (has_word_open ask.assume.safety has)
+  no_whole_rule TargetPrivate p e has = p.1 has
+  no_whole_rule NoCommonValue p e has = cc (p.1)
+  no_whole_rule _ p e has = p
+
+  example_casts : (w : Word) → IsTrueExample tables ask w → Casts tables ask
+  example_casts w h = inr (inr (h.assumed, (w, h.value, h.accepted)))
+
+  judged_refused : AreJudged tables ask → (side : Side) (why : Why) (g : Ground) → IsTrueRefusal tables ask side why g → ⊥
+  judged_refused judged Source why g h = cc (judged.source_judged g h.reached, h.at_fault)
+  judged_refused judged Target why g h = cc (judged.target_judged g h.reached, h.at_fault)
+
+  plain_example : (w : Word) → IsTrueYes tables ask → IsTrueExample tables ask w → ⊥
+  plain_example w plain example = ⊎_elim (λ (e : ask.assume.validity ≡ false). cc (e, example.assumed)) (λ none. none w example.value) plain.plain
+
+  -- no two types at fault that one side reaches share their text
+  pub NoSharedTexts : Type 0
+  NoSharedTexts = (side : Side) (g h : Ground) (why other : Why) → Reaches tables (side_type ask side) g → Reaches tables (side_type ask side) h
+      → IsAtFault tables g why → IsAtFault tables h other → text_of tables g ≡ text_of tables h → g ≡ h

@@ -1,11 +1,11 @@
--- The order of words is a strict order in which words of equal length compare.
+-- The orders of words and of texts are strict, and any two compare.
 use Rattle.std.proofs.Common.{◌≡◌, ℕ, zero, suc, ◌+◌, ◌<◌, ◌≤◌, refl, sym, ◌∙◌, ap, Bool, true, false, ◌||◌, ◌&&◌, not, IsTrue, List, [], ◌∷◌, length, ◌⊎◌, inl, inr, nat_lt, ◌==◌, arith}
 use Rattle.std.proofs.lemmas.Bool.Decides.{nat_tests}
 use Rattle.tm_base.specs.declared.cell.RefId.{RefId}
 use Rattle.tm_base.specs.declared.cell.Cell.{Cell}
 use Rattle.tm_base.specs.declared.cell.Cell.TheVariants.{Byte, Uninit, Ptr}
 use Rattle.tm_base.specs.Cells.{Word}
-use Rattle.tm_base.specs.Orders.{list_less, cell_less, word_less}
+use Rattle.tm_base.specs.Orders.{list_less, cell_less, word_less, text_less}
 
 abbrev ref_id : ℕ → RefId
 ref_id n = record { 0 = n }
@@ -59,21 +59,33 @@ step_rest true c rest h e = cc
 step_rest false true rest h e = cc
 step_rest false false rest h e = h
 
--- words of equal length of which neither is less are one
-pub word_less-total : (v w : Word) → length v ≡ length w → word_less v w ≡ false → word_less w v ≡ false → v ≡ w
+-- two lists of which neither is less are one, where that holds of their items
+pub list_less-total : {X : Type 0} (less : X → X → Bool) → ((x y : X) → less x y ≡ false → less y x ≡ false → x ≡ y)
+    → (v w : List X) → list_less less v w ≡ false → list_less less w v ≡ false → v ≡ w
 unfolding list_less
-word_less-total [] [] l h k = refl
-word_less-total [] (d ∷ ds) l h k = absurd (omega arith)
-word_less-total (c ∷ cs) [] l h k = absurd (omega arith)
-word_less-total (c ∷ cs) (d ∷ ds) l h k =
-    let above : cell_less c d ≡ false = step_total (cell_less c d) (cell_less d c) (word_less cs ds) h in
-    let below : cell_less d c ≡ false = step_total (cell_less d c) (cell_less c d) (word_less ds cs) k in
-    let same : c ≡ d = cell_less-total c d above below in
-    let others : cs ≡ ds =
-        word_less-total cs ds (omega arith)
-        (step_rest (cell_less c d) (cell_less d c) (word_less cs ds) h below)
-        (step_rest (cell_less d c) (cell_less c d) (word_less ds cs) k above) in
+list_less-total less total [] [] h k = refl
+list_less-total less total [] (y ∷ ys) h k = cc
+list_less-total less total (x ∷ xs) [] h k = cc
+list_less-total less total (x ∷ xs) (y ∷ ys) h k =
+    let above : less x y ≡ false = step_total (less x y) (less y x) (list_less less xs ys) h in
+    let below : less y x ≡ false = step_total (less y x) (less x y) (list_less less ys xs) k in
+    let same : x ≡ y = total x y above below in
+    let others : xs ≡ ys =
+        list_less-total less total xs ys
+        (step_rest (less x y) (less y x) (list_less less xs ys) h below)
+        (step_rest (less y x) (less x y) (list_less less ys xs) k above) in
     cc
+
+-- two words of which neither is less are one
+pub word_less-total : (v w : Word) → word_less v w ≡ false → word_less w v ≡ false → v ≡ w
+word_less-total v w = list_less-total cell_less cell_less-total v w
+
+nat_lt-total : (m n : ℕ) → nat_lt m n ≡ false → nat_lt n m ≡ false → m ≡ n
+nat_lt-total m n h k = grind (arith, nat_tests)
+
+-- two texts of which neither is less are one
+pub text_less-total : (v w : List ℕ) → text_less v w ≡ false → text_less w v ≡ false → v ≡ w
+text_less-total v w = list_less-total nat_lt nat_lt-total v w
 
 step_asym : (b c x y : Bool) → (b ≡ true → c ≡ false) → (x ≡ true → y ≡ false) → (b || (not c && x)) ≡ true → (c || (not b && y)) ≡ false
 step_asym true c x y f g h = rw (f refl)

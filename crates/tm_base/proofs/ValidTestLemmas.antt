@@ -54,15 +54,12 @@ not_true true h = cc
 not_true false h = refl
 
 word_same-refl : (w : Word) → word_same w w ≡ true
-word_same-refl w =
-    (Decides-and (length w == length w) (not (word_less w w) && not (word_less w w)) (Decides-eqb (length w) (length w)) (λ h. h, λ h. h)).1
-    (refl, rw (word_less-irrefl w))
+word_same-refl w = rw (word_less-irrefl w) refl
 
 word_same-decides : (v w : Word) → Decides (word_same v w) (v ≡ w)
 word_same-decides v w =
-    let lengths = Decides-and (length v == length w) (not (word_less v w) && not (word_less w v)) (Decides-eqb (length v) (length w)) (λ h. h, λ h. h) in
     let orders = Decides-and (not (word_less v w)) (not (word_less w v)) (λ h. h, λ h. h) (λ h. h, λ h. h) in
-    (λ h. word_less-total v w (lengths.0 h).0 (not_true _ (orders.0 (lengths.0 h).1).0) (not_true _ (orders.0 (lengths.0 h).1).1),
+    (λ h. word_less-total v w (not_true _ (orders.0 h).0) (not_true _ (orders.0 h).1),
      λ e. subst (λ (u : Word). word_same v u ≡ true) e (word_same-refl v))
 
 nat_le-decides : (a b : ℕ) → Decides (nat_le a b) (a ≤ b)

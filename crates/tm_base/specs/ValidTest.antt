@@ -28,9 +28,9 @@ is_free (Ptr r k) = false
 abbrev pub are_bytes : ℕ → Word → Bool
 are_bytes n w = (length w == n) && list_all is_byte w
 
--- of equal length, and neither is less
+-- neither is less
 abbrev pub word_same : Word → Word → Bool
-word_same v w = (length v == length w) && (not (word_less v w) && not (word_less w v))
+word_same v w = not (word_less v w) && not (word_less w v)
 
 abbrev pub is_scalar : ℕ → Bool
 is_scalar n = nat_le n 0xD7FF || (nat_le 0xE000 n && nat_le n 0x10FFFF)
