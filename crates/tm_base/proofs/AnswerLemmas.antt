@@ -18,7 +18,7 @@ use Rattle.tm_base.specs.declared.cell.Cell.TheVariants.{Byte, Uninit, Ptr}
 use Rattle.tm_base.specs.declared.cell.RefId.{RefId}
 use Rattle.tm_base.specs.declared.definition.RefRow.{RefRow}
 use Rattle.tm_base.specs.declared.ground.Ground.{Ground}
-use Rattle.tm_base.specs.Answers.{IsAnswer, IsTrueAnswer, IsLeastAnswer, IsLeastFault, IsTrueYes, IsTrueExample, IsTrueNo, IsTrueNoAt, IsTrueRefusal, AreJudged, IsValue, Casts, side_type}
+use Rattle.tm_base.specs.Answers.{IsAnswer, IsTrueAnswer, IsLeastAnswer, IsLeastFault, IsTrueYes, IsTrueExample, IsTrueNo, IsTrueNoAt, IsTrueRefusal, AreJudged, IsValue, Casts, NoSharedTexts, side_type}
 use Rattle.tm_base.specs.Cells.{Word, fit, OrOwn}
 use Rattle.tm_base.specs.Compatible.{Keeps, KeepsAll, IsLocalFault, CompatibleTo, earlier}
 use Rattle.tm_base.specs.Faults.{fault_of}
@@ -219,7 +219,68 @@ module _ (tables : Tables) (ask : Ask) where
   plain_example : (w : Word) → IsTrueYes tables ask → IsTrueExample tables ask w → ⊥
   plain_example w plain example = ⊎_elim (λ (e : ask.assume.validity ≡ false). cc (e, example.assumed)) (λ none. none w example.value) plain.plain
 
-  -- no two types at fault that one side reaches share their text
-  pub NoSharedTexts : Type 0
-  NoSharedTexts = (side : Side) (g h : Ground) (why other : Why) → Reaches tables (side_type ask side) g → Reaches tables (side_type ask side) h
-      → IsAtFault tables g why → IsAtFault tables h other → text_of tables g ≡ text_of tables h → g ≡ h
+  -- the target's side is named only where the source's reaches no fault
+  source_named : (why : Why) (g : Ground) → IsJudged tables ask.src → IsTrueRefusal tables ask Source why g → ⊥
+  source_named why g judged h = cc (judged g h.reached, h.at_fault)
+
+  no_at_same : (rule other : Rule) (o p : ℕ) (v w : Word) (fault found : Option RefFault)
+      → IsAnswer tables ask (NoAt rule o v fault) → IsAnswer tables ask (NoAt other p w found) → NoAt rule o v fault ≡ NoAt other p w found
+  no_at_same rule other o p v w fault found a b =
+      let first = a.is_true in
+      let second = b.is_true in
+      let below : o ≤ p = (a.is_least.0 w p second.value second.offset).0 in
+      let above : p ≤ o = (b.is_least.0 v o first.value first.offset).0 in
+      let offsets : o ≡ p = omega arith in
+      let words : v ≡ w = word_less-total v w ((b.is_least.0 v o first.value first.offset).1 offsets) ((a.is_least.0 w p second.value second.offset).1 (sym offsets)) in
+      let rule_there = subst (λ (u : Word). IsRuleOfNo tables ask u o other found) (sym words) (subst (λ (n : ℕ). IsRuleOfNo tables ask w n other found) (sym offsets) second.rule_holds) in
+      let least_there = subst (λ (u : Word). IsLeastFault tables ask (take o (fit u (size_of (target tables ask)))) found) (sym words)
+          (subst (λ (n : ℕ). IsLeastFault tables ask (take n (fit w (size_of (target tables ask)))) found) (sym offsets) b.is_least.1) in
+      let same = rule_of_no_same v o rule other fault found first.rule_holds rule_there a.is_least.1 least_there in
+      ap (λ (r : Rule). NoAt r o v fault) same.0
+      ∙ ap (λ (n : ℕ). NoAt other n v fault) offsets
+      ∙ ap (λ (u : Word). NoAt other p u fault) words
+      ∙ ap (λ (f : Option RefFault). NoAt other p w f) same.1
+
+  refused_same : NoSharedTexts tables ask → (side : Side) (why other : Why) (g h : Ground)
+      → IsAnswer tables ask (Refused side why g) → IsAnswer tables ask (Refused side other h) → Refused side why g ≡ Refused side other h
+  refused_same apart side why other g h a b =
+      let first = a.is_true in
+      let second = b.is_true in
+      let texts : text_of tables g ≡ text_of tables h =
+          text_less-total (text_of tables g) (text_of tables h) (b.is_least g why first.reached first.at_fault) (a.is_least h other second.reached second.at_fault) in
+      let types : g ≡ h = apart side g h why other first.reached second.reached first.at_fault second.at_fault texts in
+      let there : fault_of (expanded_in tables h) ≡ Some why = subst (λ (x : Ground). fault_of (expanded_in tables x) ≡ Some why) types first.at_fault in
+      let causes : why ≡ other = cc (there, second.at_fault) in
+      ap (λ (x : Why). Refused side x g) causes ∙ ap (λ (x : Ground). Refused side other x) types
+
+  -- the answer to a question is the only one
+  pub IsAnswer-unique : NoSharedTexts tables ask → (a b : Answer) → IsAnswer tables ask a → IsAnswer tables ask b → a ≡ b
+  IsAnswer-unique apart Yes Yes a b = refl
+  IsAnswer-unique apart Yes (YesBecause w) a b = absurd (plain_example w a.is_true b.is_true)
+  IsAnswer-unique apart Yes (No rule) a b = absurd (b.is_true.refused a.is_true.casts)
+  IsAnswer-unique apart Yes (NoAt rule o w fault) a b = absurd (b.is_true.refused a.is_true.casts)
+  IsAnswer-unique apart Yes (Refused side why g) a b = absurd (judged_refused a.is_true.judged side why g b.is_true)
+  IsAnswer-unique apart (YesBecause w) Yes a b = absurd (plain_example w b.is_true a.is_true)
+  IsAnswer-unique apart (YesBecause v) (YesBecause w) a b =
+      ap (λ (u : Word). YesBecause u) (word_less-total v w (b.is_least v a.is_true.value a.is_true.accepted) (a.is_least w b.is_true.value b.is_true.accepted))
+  IsAnswer-unique apart (YesBecause v) (No rule) a b = absurd (b.is_true.refused (example_casts v a.is_true))
+  IsAnswer-unique apart (YesBecause v) (NoAt rule o w fault) a b = absurd (b.is_true.refused (example_casts v a.is_true))
+  IsAnswer-unique apart (YesBecause v) (Refused side why g) a b = absurd (judged_refused a.is_true.judged side why g b.is_true)
+  IsAnswer-unique apart (No rule) Yes a b = absurd (a.is_true.refused b.is_true.casts)
+  IsAnswer-unique apart (No rule) (YesBecause w) a b = absurd (a.is_true.refused (example_casts w b.is_true))
+  IsAnswer-unique apart (No rule) (No other) a b = ap (λ (r : Rule). No r) (whole_rule_same rule other a.is_true.rule_holds b.is_true.rule_holds)
+  IsAnswer-unique apart (No rule) (NoAt other o w fault) a b = absurd (no_whole_rule rule a.is_true.rule_holds b.is_true.unassumed b.is_true.has_word)
+  IsAnswer-unique apart (No rule) (Refused side why g) a b = absurd (judged_refused a.is_true.judged side why g b.is_true)
+  IsAnswer-unique apart (NoAt rule o w fault) Yes a b = absurd (a.is_true.refused b.is_true.casts)
+  IsAnswer-unique apart (NoAt rule o w fault) (YesBecause v) a b = absurd (a.is_true.refused (example_casts v b.is_true))
+  IsAnswer-unique apart (NoAt rule o w fault) (No other) a b = absurd (no_whole_rule other b.is_true.rule_holds a.is_true.unassumed a.is_true.has_word)
+  IsAnswer-unique apart (NoAt rule o v fault) (NoAt other p w found) a b = no_at_same rule other o p v w fault found a b
+  IsAnswer-unique apart (NoAt rule o w fault) (Refused side why g) a b = absurd (judged_refused a.is_true.judged side why g b.is_true)
+  IsAnswer-unique apart (Refused side why g) Yes a b = absurd (judged_refused b.is_true.judged side why g a.is_true)
+  IsAnswer-unique apart (Refused side why g) (YesBecause w) a b = absurd (judged_refused b.is_true.judged side why g a.is_true)
+  IsAnswer-unique apart (Refused side why g) (No rule) a b = absurd (judged_refused b.is_true.judged side why g a.is_true)
+  IsAnswer-unique apart (Refused side why g) (NoAt rule o w fault) a b = absurd (judged_refused b.is_true.judged side why g a.is_true)
+  IsAnswer-unique apart (Refused Source why g) (Refused Source other h) a b = refused_same apart Source why other g h a b
+  IsAnswer-unique apart (Refused Source why g) (Refused Target other h) a b = absurd (source_named why g b.is_true.named_side a.is_true)
+  IsAnswer-unique apart (Refused Target why g) (Refused Source other h) a b = absurd (source_named other h a.is_true.named_side b.is_true)
+  IsAnswer-unique apart (Refused Target why g) (Refused Target other h) a b = refused_same apart Target why other g h a b

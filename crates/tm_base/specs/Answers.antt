@@ -122,3 +122,10 @@ module _ (tables : Tables) (ask : Ask) where
   pub record IsAnswer (answer : Answer) : Type 0 where
     pub is_true : IsTrueAnswer answer
     pub is_least : IsLeastAnswer answer
+
+  -- No two types at fault that one side reaches share their text. Then the answer is the only one.
+  abbrev pub NoSharedTexts : Type 0
+  NoSharedTexts =
+      (side : Side) (g h : Ground) (why other : Why)
+      → Reaches tables (side_type ask side) g → Reaches tables (side_type ask side) h
+      → IsAtFault tables g why → IsAtFault tables h other → text_of tables g ≡ text_of tables h → g ≡ h
