@@ -7,12 +7,7 @@ use Rattle.std.proofs.lemmas.Nat.{div-add-mod'}
 use Rattle.tm_base.specs.declared.ground.Primitive.{Primitive}
 use Rattle.tm_base.specs.Layout.{Layout, round_up, place_at, places, end_of, greatest_align, greatest_size, struct_layout, union_layout, is_trivial, transparent_layout, structs}
 use Rattle.tm_base.specs.Faults.{sized_count}
-
--- what `round_up` gives: a multiple, not below, and no lesser one
-pub record IsRoundedUp (n a m : ℕ) : Type 0 where
-  pub multiple : (k : ℕ) × (m ≡ k * a)
-  pub above : n ≤ m
-  pub least : (k : ℕ) → n ≤ k * a → m ≤ k * a
+use Rattle.tm_base.specs.Laws.{IsRoundedUp, Apart}
 
 round_up-exact : (n a : ℕ) → n % a ≡ 0 → round_up n a ≡ n
 round_up-exact n a e =
@@ -55,12 +50,7 @@ round_up-least n a some =
   zero_or_more zero = inl refl
   zero_or_more (suc r) = inr (omega arith)
 
--- Each field stands at the end of the one before it or behind it, and none ends past the number.
-pub Apart : ℕ → List ℕ → List Layout → ℕ → Type 0
-Apart at [] ls end = at ≤ end
-Apart at (place ∷ ps) [] end = ⊥
-Apart at (place ∷ ps) (l ∷ ls) end = (at ≤ place) × Apart (place + l.size) ps ls end
-
+-- fields that are placed one after another stand apart
 pub places-apart : (packed : Option ℕ) (at : ℕ) (ls : List Layout) → Apart at (places packed at ls) ls (end_of packed at ls)
 unfolding Apart
 places-apart packed at [] = omega arith

@@ -24,3 +24,4 @@ pub mod Answers
 pub mod Whole
 pub mod Worlds
 pub mod Trees
+pub mod Laws

@@ -9,6 +9,7 @@ mod cell;
 mod copy;
 mod definition;
 mod ground;
+pub mod laws;
 mod limit;
 mod list;
 mod memory;
