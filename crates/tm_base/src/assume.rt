@@ -63,3 +63,30 @@ impl Assume {
             && (self.validity || !other.validity)
     }
 }
+
+#[cfg(test)]
+mod tests {
+    use super::*;
+
+    const VALIDITY: Assume = Assume {
+        alignment: false,
+        lifetimes: false,
+        safety: false,
+        validity: true,
+    };
+
+    #[test]
+    fn joins_and_takes_away(rt: HostRuntime) {
+        let both = Assume {
+            alignment: true,
+            lifetimes: false,
+            safety: false,
+            validity: true,
+        };
+        let alignment = both.but_not(VALIDITY);
+        assert!(rt; alignment.alignment && !alignment.validity);
+        assert_eq!(rt; alignment.and(VALIDITY), both);
+        assert!(rt; both.has(VALIDITY) && both.has(Assume::NOTHING));
+        assert!(rt; !VALIDITY.has(both));
+    }
+}

@@ -32,3 +32,22 @@ pub struct World {
     pub ghost named_distinct: { AllPairs (λ row other. row ≢ other) named },
     pub ghost refs_distinct: { AllPairs (λ row other. row ≢ other) refs },
 }
+
+#[cfg(test)]
+mod tests {
+    use super::*;
+
+    #[test]
+    fn an_empty_world_is_one(rt: HostRuntime) {
+        let alloc = rt.alloc();
+        let world = World {
+            defs: List::new(alloc),
+            regions: List::new(alloc),
+            bounds: List::new(alloc),
+            named: List::new(alloc),
+            refs: List::new(alloc),
+            questions: List::new(alloc),
+        };
+        assert_eq!(rt; world.questions.len(), 0);
+    }
+}
