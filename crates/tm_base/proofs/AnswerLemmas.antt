@@ -1,14 +1,13 @@
 -- A question has one answer, where no two types at fault that one side reaches share a text.
-use Rattle.std.proofs.Common.{◌≡◌, ℕ, zero, suc, ◌+◌, ◌<◌, ◌≤◌, ◌⊎◌, ⊎_elim, inl, inr, refl, sym, ◌∙◌, ap, subst, Bool, true, false, IsTrue, Option, Some, None, List, [], ◌∷◌, length, take, slice_get, nat_lt, arith}
+use Rattle.std.proofs.Common.{◌≡◌, ℕ, ◌<◌, ◌≤◌, ◌⊎◌, ⊎_elim, inl, inr, refl, sym, ◌∙◌, ap, subst, Bool, true, false, Option, Some, None, take, slice_get, arith}
 use Rattle.std.specs.List.{All}
-use Rattle.std.proofs.lemmas.Bool.Decides.{nat_tests}
 use Rattle.tm_base.specs.declared.answer.Answer.{Answer}
 use Rattle.tm_base.specs.declared.answer.Answer.TheVariants.{Yes, YesBecause, No, NoAt, Refused}
 use Rattle.tm_base.specs.declared.answer.LocalRule.{LocalRule}
 use Rattle.tm_base.specs.declared.answer.LocalRule.TheVariants.{MoreUnique, TooBig as too_big, Alignment, Interior, Lifetime}
 use Rattle.tm_base.specs.declared.answer.RefFault.{RefFault}
 use Rattle.tm_base.specs.declared.answer.Rule.{Rule}
-use Rattle.tm_base.specs.declared.answer.Rule.TheVariants.{TargetUninhabited, TargetPrivate, NoCommonValue, TooBig, NeedsInit, ByteValue, BytesForReference, ReferenceForBytes, RefMoreUnique, RefTooBig, RefAlignment, RefInterior, RefLifetime, RefPointee}
+use Rattle.tm_base.specs.declared.answer.Rule.TheVariants.{TargetUninhabited, TargetPrivate, NoCommonValue}
 use Rattle.tm_base.specs.declared.answer.Side.{Side}
 use Rattle.tm_base.specs.declared.answer.Side.TheVariants.{Source, Target}
 use Rattle.tm_base.specs.declared.answer.Why.{Why}
@@ -18,19 +17,17 @@ use Rattle.tm_base.specs.declared.cell.Cell.TheVariants.{Byte, Uninit, Ptr}
 use Rattle.tm_base.specs.declared.cell.RefId.{RefId}
 use Rattle.tm_base.specs.declared.definition.RefRow.{RefRow}
 use Rattle.tm_base.specs.declared.ground.Ground.{Ground}
-use Rattle.tm_base.specs.Answers.{IsAnswer, IsTrueAnswer, IsLeastAnswer, IsLeastFault, IsTrueYes, IsTrueExample, IsTrueNo, IsTrueNoAt, IsTrueRefusal, AreJudged, IsValue, Casts, NoSharedTexts, side_type}
+use Rattle.tm_base.specs.Answers.{IsAnswer, IsLeastFault, IsTrueYes, IsTrueExample, IsTrueRefusal, AreJudged, Casts, NoSharedTexts}
 use Rattle.tm_base.specs.Cells.{Word, fit, OrOwn}
 use Rattle.tm_base.specs.Compatible.{Keeps, KeepsAll, IsLocalFault, CompatibleTo, earlier}
 use Rattle.tm_base.specs.Faults.{fault_of}
 use Rattle.tm_base.specs.Layout.{size_of}
-use Rattle.tm_base.specs.Orders.{word_less, text_less, list_less}
-use Rattle.tm_base.specs.Reaches.{Reaches, IsAtFault, IsJudged}
-use Rattle.tm_base.specs.Rules.{source, target, Taken, HasTargetWord, IsWholeRule, IsOpen, IsRuleOfNo, IsCellRule, IsRefRule, BreaksLocally, BreaksBelow, rule_of}
+use Rattle.tm_base.specs.Reaches.{IsJudged}
+use Rattle.tm_base.specs.Rules.{target, Taken, HasTargetWord, IsWholeRule, IsOpen, IsRuleOfNo, IsCellRule, IsRefRule, BreaksLocally, BreaksBelow, rule_of}
 use Rattle.tm_base.specs.Tables.{Tables, OnRows, expanded_in}
 use Rattle.tm_base.specs.Texts.{text_of}
-use Rattle.tm_base.specs.Transmutes.{Same}
 use Rattle.tm_base.proofs.OrderLemmas.{word_less-total, text_less-total}
-use Rattle.tm_base.proofs.ValidLemmas.{Valid-length, Valid-grows}
+use Rattle.tm_base.proofs.ValidLemmas.{Valid-grows}
 
 -- the place of a local rule in their order
 rank : LocalRule → ℕ
@@ -81,9 +78,9 @@ IsLocalFault-unique tables ask r t l m first second =
     ⊎_elim
     (λ (below : rank l < rank m). absurd (first.broken (kept_before (Keeps tables ask.assume r t) l m second.kept below)))
     (λ rest. ⊎_elim
-        (λ (same : rank l ≡ rank m). rank-same l m same)
-        (λ (above : rank m < rank l). absurd (second.broken (kept_before (Keeps tables ask.assume r t) m l first.kept above)))
-        rest)
+    (λ (same : rank l ≡ rank m). rank-same l m same)
+    (λ (above : rank m < rank l). absurd (second.broken (kept_before (Keeps tables ask.assume r t) m l first.kept above)))
+    rest)
     (three (rank l) (rank m))
 
 kept_rule : (tables : Tables) (ask : Ask) (r t : RefRow) → KeepsAll tables ask.assume r t → (l : LocalRule) → Keeps tables ask.assume r t l
@@ -125,8 +122,8 @@ module _ (tables : Tables) (ask : Ask) where
       → IsLeastDepth s t d → IsLeastDepth s t e → (rule ≡ other) × (d ≡ e)
   rule_at_same rule other s t d e first second least least' =
       let (a, b, p, q) = on_both (slice_get tables.refs s.0) (slice_get tables.refs t.0)
-          (λ r t'. BreaksLocally tables ask rule (fault_with s t d) r t' ⊎ BreaksBelow tables ask rule (fault_with s t d) r t')
-          (λ r t'. BreaksLocally tables ask other (fault_with s t e) r t' ⊎ BreaksBelow tables ask other (fault_with s t e) r t') first second in
+      (λ r t'. BreaksLocally tables ask rule (fault_with s t d) r t' ⊎ BreaksBelow tables ask rule (fault_with s t d) r t')
+      (λ r t'. BreaksLocally tables ask other (fault_with s t e) r t' ⊎ BreaksBelow tables ask other (fault_with s t e) r t') first second in
       ref_rule_same rule other s t d e a b p q least least'
 
   make_fault : (f g : RefFault) → f.source ≡ g.source → f.target.0 ≡ g.target.0 → f.depth ≡ g.depth → f ≡ g
@@ -151,7 +148,7 @@ module _ (tables : Tables) (ask : Ask) where
       let moved : g ≡ fault_with f.source f.target g.depth = make_fault g (fault_with f.source f.target g.depth) (sym sources) (sym targets) refl in
       let second' = subst (IsRefRule tables ask other) moved second in
       let depths = λ (depth : ℕ) (fails : ¬ CompatibleTo tables ask.assume depth f.source.0 f.target.0).
-          subst (λ (h : RefFault). (n : ℕ) → ¬ CompatibleTo tables ask.assume n h.source.0 h.target.0 → h.depth ≤ n) moved least'.1 depth fails in
+      subst (λ (h : RefFault). (n : ℕ) → ¬ CompatibleTo tables ask.assume n h.source.0 h.target.0 → h.depth ≤ n) moved least'.1 depth fails in
       let same = rule_at_same rule other f.source f.target f.depth g.depth first second' least.1 depths in
       (same.0, make_fault f g sources targets same.1)
 
@@ -234,7 +231,7 @@ module _ (tables : Tables) (ask : Ask) where
       let words : v ≡ w = word_less-total v w ((b.is_least.0 v o first.value first.offset).1 offsets) ((a.is_least.0 w p second.value second.offset).1 (sym offsets)) in
       let rule_there = subst (λ (u : Word). IsRuleOfNo tables ask u o other found) (sym words) (subst (λ (n : ℕ). IsRuleOfNo tables ask w n other found) (sym offsets) second.rule_holds) in
       let least_there = subst (λ (u : Word). IsLeastFault tables ask (take o (fit u (size_of (target tables ask)))) found) (sym words)
-          (subst (λ (n : ℕ). IsLeastFault tables ask (take n (fit w (size_of (target tables ask)))) found) (sym offsets) b.is_least.1) in
+      (subst (λ (n : ℕ). IsLeastFault tables ask (take n (fit w (size_of (target tables ask)))) found) (sym offsets) b.is_least.1) in
       let same = rule_of_no_same v o rule other fault found first.rule_holds rule_there a.is_least.1 least_there in
       ap (λ (r : Rule). NoAt r o v fault) same.0
       ∙ ap (λ (n : ℕ). NoAt other n v fault) offsets
@@ -247,7 +244,7 @@ module _ (tables : Tables) (ask : Ask) where
       let first = a.is_true in
       let second = b.is_true in
       let texts : text_of tables g ≡ text_of tables h =
-          text_less-total (text_of tables g) (text_of tables h) (b.is_least g why first.reached first.at_fault) (a.is_least h other second.reached second.at_fault) in
+      text_less-total (text_of tables g) (text_of tables h) (b.is_least g why first.reached first.at_fault) (a.is_least h other second.reached second.at_fault) in
       let types : g ≡ h = apart side g h why other first.reached second.reached first.at_fault second.at_fault texts in
       let there : fault_of (expanded_in tables h) ≡ Some why = subst (λ (x : Ground). fault_of (expanded_in tables x) ≡ Some why) types first.at_fault in
       let causes : why ≡ other = cc (there, second.at_fault) in

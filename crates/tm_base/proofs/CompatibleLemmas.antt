@@ -1,12 +1,12 @@
 -- Casts grow with what references may hold and with the private types that keep their words, and a
 -- deeper compatibility is a shallower one.
-use Rattle.std.proofs.Common.{◌≡◌, ℕ, zero, suc, ◌+◌, ◌⊎◌, inl, inr, refl, Bool, true, false, IsTrue, Option, Some, None, slice_get}
+use Rattle.std.proofs.Common.{ℕ, zero, suc, inl, inr, Option, Some, None, slice_get}
 use Rattle.tm_base.specs.declared.assume.Assume.{Assume}
 use Rattle.tm_base.specs.declared.definition.RefRow.{RefRow}
-use Rattle.tm_base.specs.Compatible.{CompatibleTo, Compatible, MeetsLocally, MeetsOver}
+use Rattle.tm_base.specs.Compatible.{CompatibleTo, MeetsLocally, MeetsOver}
 use Rattle.tm_base.specs.Expanded.{Expanded}
 use Rattle.tm_base.specs.Tables.{Tables, OnRows}
-use Rattle.tm_base.specs.Transmutes.{Transmutes, Fits}
+use Rattle.tm_base.specs.Transmutes.{Transmutes}
 use Rattle.tm_base.proofs.ValidLemmas.{Valid-grows}
 
 -- where A becomes B, what may be taken over A may be over B

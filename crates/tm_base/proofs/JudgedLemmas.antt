@@ -1,11 +1,10 @@
 -- How to show that a type is judged, and that a fit is the word itself.
-use Rattle.std.proofs.Common.{◌≡◌, ℕ, zero, suc, ◌+◌, ◌-◌, ◌<◌, ◌≤◌, refl, sym, ap, subst, List, [], ◌∷◌, ◌++◌, length, take, replicate, arith, None, append-nil}
+use Rattle.std.proofs.Common.{◌≡◌, ℕ, zero, suc, ◌-◌, refl, ap, subst, List, [], ◌∷◌, length, take, arith, None, append-nil}
 use Rattle.std.specs.List.{Contains}
-use Rattle.tm_base.specs.declared.cell.Cell.TheVariants.{Uninit}
 use Rattle.tm_base.specs.declared.ground.Ground.{Ground}
 use Rattle.tm_base.specs.Cells.{Word, fit}
 use Rattle.tm_base.specs.Faults.{fault_of}
-use Rattle.tm_base.specs.Reaches.{LeadsIn, Leads, Enters, IsJudged}
+use Rattle.tm_base.specs.Reaches.{LeadsIn, Enters, IsJudged}
 use Rattle.tm_base.specs.Tables.{Tables, expanded_in}
 
 -- what each step keeps, a way of any length keeps

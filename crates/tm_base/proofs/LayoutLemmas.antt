@@ -1,11 +1,10 @@
 -- Rounding up, and where fields stand: behind one another, apart, and inside their type.
-use Rattle.std.proofs.Common.{◌≡◌, ℕ, zero, suc, ◌+◌, ◌-◌, ◌*◌, ◌/◌, ◌%◌, ◌<◌, ◌≤◌, refl, sym, ◌∙◌, ap, subst, true, false, Bool, ◌⊎◌, inl, inr, ⊎_elim, List, [], ◌∷◌, ◌++◌, Option, None, Some, max, min, map, arith, if◌then◌else◌}
+use Rattle.std.proofs.Common.{◌≡◌, ℕ, zero, suc, ◌+◌, ◌-◌, ◌*◌, ◌/◌, ◌%◌, ◌<◌, ◌≤◌, refl, sym, ◌∙◌, ap, subst, true, false, Bool, ◌⊎◌, inl, inr, ⊎_elim, List, [], ◌∷◌, Option, None, map, arith, if◌then◌else◌}
 use Rattle.std.proofs.lemmas.Bool.Decides.{nat_tests}
 use Rattle.std.specs.List.{AllByRecursion}
 use Rattle.std.proofs.Math.Nat.{mul-le-mul_right, mod_self, zero-mod, mod-eq_of_lt, add-mul}
 use Rattle.std.proofs.lemmas.Nat.{div-add-mod'}
-use Rattle.tm_base.specs.declared.ground.Primitive.{Primitive}
-use Rattle.tm_base.specs.Layout.{Layout, round_up, place_at, places, end_of, greatest_align, greatest_size, struct_layout, union_layout, is_trivial, transparent_layout, structs}
+use Rattle.tm_base.specs.Layout.{Layout, round_up, place_at, places, end_of, greatest_size, struct_layout, union_layout, is_trivial, transparent_layout, structs}
 use Rattle.tm_base.specs.Faults.{sized_count}
 use Rattle.tm_base.specs.Laws.{IsRoundedUp, Apart}
 
@@ -26,8 +25,8 @@ turns : (n a k : ℕ) → 0 < n % a → n ≤ k * a → (n / a + 1) * a ≤ k * 
 turns n a k some above =
     let parts : n / a * a + n % a ≡ n = div-add-mod' n a in
     mul-le-mul_right a (below_or_not (n / a) k (λ (h : k ≤ n / a). omega (arith, mul-le-mul_right a h))) where
-  below_or_not : (q k : ℕ) → (k ≤ q → ⊥) → q + 1 ≤ k
-  below_or_not q k h = omega arith
+      below_or_not : (q k : ℕ) → (k ≤ q → ⊥) → q + 1 ≤ k
+      below_or_not q k h = omega arith
 
 -- `round_up n a` is the least multiple of a that isn't below n
 pub round_up-least : (n a : ℕ) → 0 < a → IsRoundedUp n a (round_up n a)
@@ -46,9 +45,9 @@ round_up-least n a some =
       least = λ k h. rw (round_up-past n a past below) (turns n a k past h);
     })
     (zero_or_more (n % a)) where
-  zero_or_more : (r : ℕ) → (r ≡ 0) ⊎ (0 < r)
-  zero_or_more zero = inl refl
-  zero_or_more (suc r) = inr (omega arith)
+      zero_or_more : (r : ℕ) → (r ≡ 0) ⊎ (0 < r)
+      zero_or_more zero = inl refl
+      zero_or_more (suc r) = inr (omega arith)
 
 -- fields that are placed one after another stand apart
 pub places-apart : (packed : Option ℕ) (at : ℕ) (ls : List Layout) → Apart at (places packed at ls) ls (end_of packed at ls)
@@ -106,18 +105,19 @@ Apart-shifted past at [] ls end h = omega arith
 Apart-shifted past at (place ∷ ps) [] end h = h
 Apart-shifted past at (place ∷ ps) (l ∷ ls) end (below, apart) =
     (omega arith, subst (λ (n : ℕ). Apart n (map (λ place. past + place) ps) ls (past + end)) (sym (add_assoc' past place l.size)) (Apart-shifted past (place + l.size) ps ls end apart)) where
-  add_assoc' : (a b c : ℕ) → (a + b) + c ≡ a + (b + c)
-  add_assoc' a b c = omega arith
+      add_assoc' : (a b c : ℕ) → (a + b) + c ≡ a + (b + c)
+      add_assoc' a b c = omega arith
 
 -- With `C`, the fields of each variant stand apart in the union that is behind the tag, and inside it.
 pub union_variants-apart : (begin : ℕ) (variants : List (List Layout)) (size : ℕ) → begin + greatest_size (structs [] variants) ≤ size
     → AllByRecursion (λ ls. Apart begin (map (λ place. begin + place) (places None 0 ls)) ls size) variants
 union_variants-apart begin [] size h = tt
 union_variants-apart begin (ls ∷ others) size h =
-    let from_begin : begin + 0 ≡ begin = omega arith in
-    (Apart-widens begin (map (λ place. begin + place) (places None 0 ls)) ls (begin + end_of None 0 ls) size (omega arith)
-        (subst (λ (n : ℕ). Apart n (map (λ place. begin + place) (places None 0 ls)) ls (begin + end_of None 0 ls)) from_begin (Apart-shifted begin 0 (places None 0 ls) ls (end_of None 0 ls) (places-apart None 0 ls))),
-     union_variants-apart begin others size (omega arith))
+    let from_begin : begin + 0 ≡ begin = omega arith in (
+      Apart-widens begin (map (λ place. begin + place) (places None 0 ls)) ls (begin + end_of None 0 ls) size (omega arith)
+          (subst (λ (n : ℕ). Apart n (map (λ place. begin + place) (places None 0 ls)) ls (begin + end_of None 0 ls)) from_begin (Apart-shifted begin 0 (places None 0 ls) ls (end_of None 0 ls) (places-apart None 0 ls))),
+      union_variants-apart begin others size (omega arith),
+    )
 
 trivial-size : (l : Layout) → is_trivial l ≡ true → l.size ≡ 0
 trivial-size l e = grind (arith, nat_tests)

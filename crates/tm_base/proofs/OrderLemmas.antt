@@ -1,5 +1,5 @@
 -- The orders of words and of texts are strict, and any two compare.
-use Rattle.std.proofs.Common.{◌≡◌, ℕ, zero, suc, ◌+◌, ◌<◌, ◌≤◌, refl, sym, ◌∙◌, ap, Bool, true, false, ◌||◌, ◌&&◌, not, IsTrue, List, [], ◌∷◌, length, ◌⊎◌, inl, inr, nat_lt, ◌==◌, arith}
+use Rattle.std.proofs.Common.{◌≡◌, ℕ, refl, ap, Bool, true, false, ◌||◌, ◌&&◌, not, List, [], ◌∷◌, nat_lt, ◌==◌, arith}
 use Rattle.std.proofs.lemmas.Bool.Decides.{nat_tests}
 use Rattle.tm_base.specs.declared.cell.RefId.{RefId}
 use Rattle.tm_base.specs.declared.cell.Cell.{Cell}
@@ -71,9 +71,9 @@ list_less-total less total (x ∷ xs) (y ∷ ys) h k =
     let below : less y x ≡ false = step_total (less y x) (less x y) (list_less less ys xs) k in
     let same : x ≡ y = total x y above below in
     let others : xs ≡ ys =
-        list_less-total less total xs ys
-        (step_rest (less x y) (less y x) (list_less less xs ys) h below)
-        (step_rest (less y x) (less x y) (list_less less ys xs) k above) in
+    list_less-total less total xs ys
+    (step_rest (less x y) (less y x) (list_less less xs ys) h below)
+    (step_rest (less y x) (less x y) (list_less less ys xs) k above) in
     cc
 
 -- two words of which neither is less are one

@@ -1,18 +1,17 @@
 -- Casts of the worked rows that speak of all words of a type.
-use Rattle.std.proofs.Common.{◌≡◌, ℕ, zero, suc, ◌≤◌, ◌<◌, ◌⊎◌, inl, inr, refl, true, false, Bool, IsTrue, None, Some, [], ◌∷◌, List, length, take, drop, arith, sym, subst, ⊎_elim, ◌==◌}
+use Rattle.std.proofs.Common.{◌≡◌, ℕ, zero, suc, ◌⊎◌, inl, inr, refl, true, false, Bool, [], ◌∷◌, arith, sym, subst, ⊎_elim, ◌==◌}
 use Rattle.std.proofs.lemmas.List.Elements.{All-head, All-cons, All-nil}
 use Rattle.tm_base.specs.declared.assume.Assume.{Assume}
-use Rattle.tm_base.specs.declared.cell.Cell.{Cell}
 use Rattle.tm_base.specs.declared.cell.Cell.TheVariants.{Byte, Uninit, Ptr}
 use Rattle.tm_base.specs.declared.ground.Primitive.TheVariants as p
-use Rattle.tm_base.specs.Cells.{Word, fit, IsByte, number_of}
-use Rattle.tm_base.specs.Expanded.{Expanded, prim, never}
-use Rattle.tm_base.specs.Layout.{layout_of, size_of}
+use Rattle.tm_base.specs.Cells.{Word, IsByte}
+use Rattle.tm_base.specs.Expanded.{never}
+use Rattle.tm_base.specs.Layout.{layout_of}
 use Rattle.tm_base.specs.Orders.{list_less}
-use Rattle.tm_base.specs.Transmutes.{Transmutes, Fits, IsSourceWord, Same, holds}
+use Rattle.tm_base.specs.Transmutes.{Transmutes, Fits, IsSourceWord, holds}
 use Rattle.tm_base.specs.Valid.{Valid, PrimValid}
 use Rattle.tm_base.specs.ValidTest.{valid_test}
-use Rattle.tm_base.proofs.RowTypes.{the_bool, u8, closed, either_bit, only_value}
+use Rattle.tm_base.proofs.RowTypes.{the_bool, u8, closed, either_bit}
 use Rattle.tm_base.proofs.ValidTestLemmas.{valid_test-exact}
 
 abbrev pub nothing : Assume
@@ -50,11 +49,14 @@ either_takes_one = (valid_test-exact never_taken false either_bit (Byte 1 ∷ []
 -- A `bool` may be taken as a union of 0 and 1: no one field takes all its words.
 pub bool_to_either : Transmutes (holds never_taken) nothing the_bool either_bit
 unfolding Valid
-bool_to_either = inr (inl (refl, λ w value.
-    ⊎_elim
-    (λ (e : w ≡ Byte 0 ∷ []). subst (Fits (holds never_taken) false either_bit) (sym e) either_takes_zero)
-    (λ (e : w ≡ Byte 1 ∷ []). subst (Fits (holds never_taken) false either_bit) (sym e) either_takes_one)
-    (bit_word w value)))
+bool_to_either = inr (inl (
+  refl,
+  λ w value.
+      ⊎_elim
+      (λ (e : w ≡ Byte 0 ∷ []). subst (Fits (holds never_taken) false either_bit) (sym e) either_takes_zero)
+      (λ (e : w ≡ Byte 1 ∷ []). subst (Fits (holds never_taken) false either_bit) (sym e) either_takes_one)
+      (bit_word w value),
+))
 
 -- a source without values may be taken as anything, here as a `bool`
 never_to_bool : Transmutes (holds never_taken) nothing never the_bool

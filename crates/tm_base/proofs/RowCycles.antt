@@ -1,21 +1,20 @@
 -- References that lead back to themselves, and references that may be written through.
-use Rattle.std.proofs.Common.{◌≡◌, ℕ, zero, suc, ◌≤◌, ◌<◌, ◌⊎◌, ⊎_elim, inl, inr, refl, sym, ap, subst, true, false, Bool, None, Some, [], ◌∷◌, ◌++◌, List, length, arith, pos}
+use Rattle.std.proofs.Common.{◌≡◌, ℕ, zero, suc, ◌⊎◌, ⊎_elim, inl, inr, refl, sym, subst, true, false, None, [], ◌∷◌, arith, pos}
 use Rattle.std.specs.List.{Contains}
 use Rattle.tm_base.specs.declared.definition.Def.{Def}
 use Rattle.tm_base.specs.declared.definition.Kind.TheVariants.{Struct}
 use Rattle.tm_base.specs.declared.definition.NamedRow.{NamedRow}
-use Rattle.tm_base.specs.declared.definition.RefRow.{RefRow}
 use Rattle.tm_base.specs.declared.ground.Ground.{Ground, out-Ground, Prim, Named}
 use Rattle.tm_base.specs.declared.ground.Primitive.TheVariants as p
-use Rattle.tm_base.specs.Cells.{Word, fit, pointer_of}
+use Rattle.tm_base.specs.Cells.{Word}
 use Rattle.tm_base.specs.Compatible.{CompatibleTo, Compatible, MeetsLocally}
-use Rattle.tm_base.specs.Expanded.{Expanded, expanded_within}
+use Rattle.tm_base.specs.Expanded.{expanded_within}
 use Rattle.tm_base.specs.Faults.{fault_of, part_at_fault, is_nullable}
-use Rattle.tm_base.specs.Layout.{layout_of, size_of}
+use Rattle.tm_base.specs.Layout.{layout_of}
 use Rattle.tm_base.specs.Parts.{some_part}
 use Rattle.tm_base.specs.Reaches.{IsJudged, Enters, LeadsIn}
 use Rattle.tm_base.specs.Tables.{Tables, expanded_in}
-use Rattle.tm_base.specs.Transmutes.{Transmutes, IsSourceWord, Same}
+use Rattle.tm_base.specs.Transmutes.{Transmutes, Same}
 use Rattle.tm_base.specs.Valid.{Valid}
 use Rattle.tm_base.specs.Weight.{weight_of}
 use Rattle.tm_base.proofs.JudgedLemmas.{IsJudged-from, Contains-none, Contains-one, fit-same}
@@ -26,7 +25,10 @@ use Rattle.tm_base.proofs.RowTypes.{repr_c, u8, the_bool, reference, struct, two
 -- 0 is &mut bool, and 1 is &mut u8
 abbrev written_through : Tables
 written_through = record {
-  defs = []; regions = []; bounds = []; named = [];
+  defs = [];
+  regions = [];
+  bounds = [];
+  named = [];
   refs = record { mutable = true; region = the_region; pointee = Prim p.Bool } ∷ record { mutable = true; region = the_region; pointee = Prim p.U8 } ∷ [];
 }
 
@@ -53,7 +55,9 @@ the_named k = Named (record { 0 = k })
 -- 0 leads to a `bool` and back to itself, and 1 to a `u8` and back to itself
 abbrev chains : Tables
 chains = record {
-  defs = chain_def ∷ []; regions = []; bounds = [];
+  defs = chain_def ∷ [];
+  regions = [];
+  bounds = [];
   named = chain_row 0 (Prim p.Bool) ∷ chain_row 1 (Prim p.U8) ∷ [];
   refs = shared (the_named 0) ∷ shared (the_named 1) ∷ [];
 }
@@ -107,8 +111,11 @@ link A a w (size, (opened, (gap, here, others, e, place, free, bit, (gap', here'
 
 chains-forward : (A : ℕ → ℕ → Type 0) → A 0 1 → Transmutes A nothing (expanded_in chains (the_named 0)) (expanded_in chains (the_named 1))
 unfolding Valid layout_of expanded_within out-Ground denote.Hole.Carrier.out
-chains-forward A a = inr (inl (refl, λ w value.
-    subst (Valid A false (struct repr_c (two u8 (reference 1)))) (sym (fit-same w 16 value.0)) (link A a w value)))
+chains-forward A a = inr (inl (
+  refl,
+  λ w value.
+      subst (Valid A false (struct repr_c (two u8 (reference 1)))) (sym (fit-same w 16 value.0)) (link A a w value),
+))
 
 -- Nothing speaks against it at any depth, so the one reference is taken as the other.
 chains-to : (depth : ℕ) → CompatibleTo chains nothing depth 0 1

@@ -1,14 +1,13 @@
 -- Faults, weights and interiors of the worked rows' types.
-use Rattle.std.proofs.Common.{◌≡◌, ℕ, refl, true, false, Bool, None, Some, [], ◌∷◌, pos, negsuc}
+use Rattle.std.proofs.Common.{◌≡◌, refl, true, false, None, Some, negsuc}
 use Rattle.tm_base.specs.declared.answer.Why.TheVariants.{NoRepr, Tuple, OptionNotListed, CEnumRange, TransparentFields, PackedHoldsAlign, TooLarge}
-use Rattle.tm_base.specs.declared.ground.Primitive.TheVariants as p
 use Rattle.tm_base.specs.declared.ground.Wrapper.TheVariants as w
-use Rattle.tm_base.specs.Expanded.{Expanded, prim, never, unit, tuple, array, nonzero, phantom, wrap, no_fields, field, no_variants, variant}
+use Rattle.tm_base.specs.Expanded.{unit, tuple, array, phantom, wrap, no_fields, no_variants, variant}
 use Rattle.tm_base.specs.Faults.{fault_of, part_at_fault, is_nullable}
 use Rattle.tm_base.specs.Layout.{layout_of}
 use Rattle.tm_base.specs.Parts.{some_part, has_interior, some_within, has_alternatives}
 use Rattle.tm_base.specs.Weight.{weight_of}
-use Rattle.tm_base.proofs.RowTypes.{repr_none, repr_c, repr_u8, repr_packed, repr_align, repr_transparent, the_bool, the_char, u8, u16, u32, u64, bytes, reference, option, struct, union, enum, one, two, padded, closed, only_value, either_bit, c_enum, packed_pair, past_i32, header, message, port}
+use Rattle.tm_base.proofs.RowTypes.{repr_none, repr_c, repr_packed, repr_align, repr_transparent, the_bool, u8, u32, bytes, reference, option, struct, union, enum, one, two, only_value, c_enum, past_i32, header, message, port}
 
 -- `Option` is listed where its argument has no word of bytes 00
 option_of_bool : fault_of (option the_bool) ≡ Some OptionNotListed

@@ -1,33 +1,27 @@
 -- References of the worked rows: how far they go together.
-use Rattle.std.proofs.Common.{◌≡◌, ℕ, zero, suc, ◌≤◌, ◌<◌, ◌⊎◌, ⊎_elim, inl, inr, refl, sym, ◌∙◌, ap, subst, true, false, Bool, IsTrue, None, Some, [], ◌∷◌, ◌++◌, List, length, arith, pos, ◌==◌}
-use Rattle.std.specs.List.{Contains, All}
-use Rattle.std.proofs.lemmas.List.Elements.{All-cons, All-nil}
-use Rattle.tm_base.specs.declared.answer.LocalRule.TheVariants.{MoreUnique, TooBig, Alignment, Interior, Lifetime}
+use Rattle.std.proofs.Common.{◌≡◌, ℕ, zero, suc, ◌<◌, ◌⊎◌, inl, inr, refl, sym, ◌∙◌, ap, subst, false, None, [], ◌∷◌, List, arith}
 use Rattle.tm_base.specs.declared.cell.Cell.TheVariants.{Byte}
 use Rattle.tm_base.specs.declared.definition.Bound.{Bound}
-use Rattle.tm_base.specs.declared.definition.Def.{Def}
-use Rattle.tm_base.specs.declared.definition.Kind.TheVariants.{Struct}
-use Rattle.tm_base.specs.declared.definition.NamedRow.{NamedRow}
 use Rattle.tm_base.specs.declared.definition.RefRow.{RefRow}
 use Rattle.tm_base.specs.declared.definition.RegionId.{RegionId}
-use Rattle.tm_base.specs.declared.ground.Ground.{Ground, out-Ground, Prim, Ref, Named}
+use Rattle.tm_base.specs.declared.ground.Ground.{Ground, out-Ground, Prim, Ref}
 use Rattle.tm_base.specs.declared.ground.Primitive.TheVariants as p
 use Rattle.tm_base.specs.Cells.{Word, fit, pointer_of}
-use Rattle.tm_base.specs.Compatible.{CompatibleTo, Compatible, MeetsLocally, MeetsOver, KeepsAll, IsLocalFault, Keeps}
-use Rattle.tm_base.specs.Expanded.{Expanded, expanded_within}
+use Rattle.tm_base.specs.Compatible.{CompatibleTo, MeetsLocally}
+use Rattle.tm_base.specs.Expanded.{expanded_within}
 use Rattle.tm_base.specs.Faults.{fault_of, part_at_fault, is_nullable}
-use Rattle.tm_base.specs.Layout.{layout_of, size_of}
-use Rattle.tm_base.specs.Outlives.{Outlives, IsBound, static}
+use Rattle.tm_base.specs.Layout.{layout_of}
+use Rattle.tm_base.specs.Outlives.{Outlives, IsBound}
 use Rattle.tm_base.specs.Parts.{some_part}
-use Rattle.tm_base.specs.Reaches.{IsJudged, Enters, Leads, LeadsIn}
+use Rattle.tm_base.specs.Reaches.{IsJudged, Enters, LeadsIn}
 use Rattle.tm_base.specs.Tables.{Tables, expanded_in}
-use Rattle.tm_base.specs.Transmutes.{Transmutes, IsSourceWord}
+use Rattle.tm_base.specs.Transmutes.{Transmutes}
 use Rattle.tm_base.specs.Valid.{Valid}
 use Rattle.tm_base.specs.ValidTest.{first_ref}
 use Rattle.tm_base.specs.Weight.{weight_of}
-use Rattle.tm_base.proofs.JudgedLemmas.{IsJudged-from, LeadsIn-keeps, Contains-none, Contains-one, fit-same}
+use Rattle.tm_base.proofs.JudgedLemmas.{IsJudged-from, Contains-none, Contains-one}
 use Rattle.tm_base.proofs.RowCasts.{nothing, zero_byte, two_byte, two_is_no_bool}
-use Rattle.tm_base.proofs.RowTypes.{repr_c, u8, the_bool, reference}
+use Rattle.tm_base.proofs.RowTypes.{u8, the_bool, reference}
 
 abbrev pub the_region : RegionId
 the_region = record { 0 = 1 }
@@ -41,7 +35,10 @@ shared g = record { mutable = false; region = the_region; pointee = g }
 -- 0 is &&bool, 1 is &&u8, 2 is &bool, and 3 is &u8
 abbrev nested : Tables
 nested = record {
-  defs = []; regions = []; bounds = []; named = [];
+  defs = [];
+  regions = [];
+  bounds = [];
+  named = [];
   refs = shared (ref_to 2) ∷ shared (ref_to 3) ∷ shared (Prim p.Bool) ∷ shared (Prim p.U8) ∷ [];
 }
 

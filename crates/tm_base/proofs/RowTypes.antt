@@ -1,22 +1,16 @@
 -- Types of the worked rows, written out.
-use Rattle.std.proofs.Common.{◌≡◌, ℕ, refl, true, false, Bool, None, Some, [], ◌∷◌, List, ℤ, pos, negsuc, Option, ◌==◌}
-use Rattle.tm_base.specs.declared.cell.Cell.{Cell}
-use Rattle.tm_base.specs.declared.cell.Cell.TheVariants.{Byte, Uninit, Ptr}
-use Rattle.tm_base.specs.declared.cell.RefId.{RefId}
+use Rattle.std.proofs.Common.{◌≡◌, ℕ, refl, true, false, Bool, None, Some, [], ◌∷◌, pos, ◌==◌}
 use Rattle.tm_base.specs.declared.definition.Def.{Def}
-use Rattle.tm_base.specs.declared.definition.Field.{Field}
 use Rattle.tm_base.specs.declared.definition.Kind.TheVariants.{Struct, Union, Enum}
 use Rattle.tm_base.specs.declared.definition.NamedRow.{NamedRow}
 use Rattle.tm_base.specs.declared.definition.Repr.{Repr}
-use Rattle.tm_base.specs.declared.definition.Variant.{Variant}
-use Rattle.tm_base.specs.declared.ground.Ground.{Ground, out-Ground}
+use Rattle.tm_base.specs.declared.ground.Ground.{out-Ground}
 use Rattle.tm_base.specs.declared.ground.Ground.TheVariants as ground
 use Rattle.tm_base.specs.declared.ground.NamedId.{NamedId}
-use Rattle.tm_base.specs.declared.ground.Primitive.{Primitive}
 use Rattle.tm_base.specs.declared.ground.Primitive.TheVariants as p
 use Rattle.tm_base.specs.declared.ground.Wrapper.TheVariants as w
 use Rattle.tm_base.specs.Cells.{Word, fit}
-use Rattle.tm_base.specs.Expanded.{Expanded, Fields, Variants, too_deep, prim, never, unit, tuple, array, nonzero, phantom, wrap, ref, named, no_fields, field, no_variants, variant, expanded, expanded_within}
+use Rattle.tm_base.specs.Expanded.{Expanded, Fields, Variants, prim, array, nonzero, wrap, ref, named, no_fields, field, no_variants, variant, expanded, expanded_within}
 use Rattle.tm_base.specs.Layout.{size_of}
 use Rattle.tm_base.specs.ValidTest.{valid_test}
 

@@ -1,14 +1,14 @@
 -- Which words the worked rows' types take.
-use Rattle.std.proofs.Common.{◌≡◌, ℕ, refl, true, false, Bool, None, Some, [], ◌∷◌, ◌++◌, pos, negsuc, replicate}
+use Rattle.std.proofs.Common.{◌≡◌, refl, true, false, [], ◌∷◌, ◌++◌, negsuc, replicate}
 use Rattle.tm_base.specs.declared.cell.Cell.TheVariants.{Byte, Uninit, Ptr}
 use Rattle.tm_base.specs.declared.ground.Primitive.TheVariants as p
 use Rattle.tm_base.specs.declared.ground.Wrapper.TheVariants as w
-use Rattle.tm_base.specs.Cells.{Word, pointer_of}
-use Rattle.tm_base.specs.Expanded.{Expanded, prim, never, unit, array, nonzero, phantom, wrap, no_fields, field, no_variants, variant}
+use Rattle.tm_base.specs.Cells.{pointer_of}
+use Rattle.tm_base.specs.Expanded.{prim, never, unit, array, nonzero, wrap, no_fields, field, no_variants, variant}
 use Rattle.tm_base.specs.Layout.{layout_of}
 use Rattle.tm_base.specs.Orders.{list_less}
 use Rattle.tm_base.specs.ValidTest.{valid_test}
-use Rattle.tm_base.proofs.RowTypes.{repr_c, repr_u8, the_bool, the_char, u8, u16, u32, bytes, reference, option, struct, union, enum, one, two, padded, closed, only_value, either_bit, c_enum, packed_pair, header, message, port, is_source_word, fits}
+use Rattle.tm_base.proofs.RowTypes.{repr_c, the_bool, the_char, u8, u16, bytes, reference, option, struct, enum, two, padded, closed, only_value, either_bit, c_enum, packed_pair, message, port, is_source_word, fits}
 
 -- Padding is uninitialised or not, and not taken as 00.
 padded-word : is_source_word padded (Byte 0 ∷ Uninit ∷ Byte 0 ∷ Byte 0 ∷ []) ≡ true

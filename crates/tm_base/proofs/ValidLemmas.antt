@@ -1,6 +1,6 @@
 -- Valid words have their type's size; and more words are valid where references may hold more, or more
 -- private types keep their words.
-use Rattle.std.proofs.Common.{◌≡◌, ℕ, zero, suc, ◌+◌, ◌*◌, ◌-◌, ◌<◌, ◌≤◌, refl, Bool, true, false, ◌||◌, IsTrue, List, [], ◌∷◌, ◌++◌, length, replicate, ◌⊎◌, inl, inr, arith, length-append, Option, None}
+use Rattle.std.proofs.Common.{◌≡◌, ℕ, zero, suc, ◌*◌, refl, Bool, true, false, ◌||◌, IsTrue, length, inl, inr, arith, length-append, Option, None}
 use Rattle.std.proofs.lemmas.List.{length-replicate}
 use Rattle.tm_base.specs.declared.cell.Cell.TheVariants.{Byte}
 use Rattle.tm_base.specs.declared.ground.Primitive.{Primitive}
@@ -11,7 +11,7 @@ use Rattle.tm_base.specs.declared.definition.Kind.TheVariants.{Struct, Union, En
 use Rattle.tm_base.specs.Cells.{Word, Times}
 use Rattle.tm_base.specs.Expanded.{Expanded, Fields, Variants, too_deep, prim, never, unit, tuple, array, nonzero, phantom, wrap, ref, named, no_fields, field, no_variants, variant}
 use Rattle.tm_base.specs.Layout.{layout_of, size_of, prim_size}
-use Rattle.tm_base.specs.Valid.{Valid, StructValid, UnionValid, FieldsValid, SomeFieldValid, SomeVariantValid, PrimValid, WrapValid, IsOpen, all_public}
+use Rattle.tm_base.specs.Valid.{Valid, StructValid, UnionValid, FieldsValid, SomeFieldValid, SomeVariantValid, PrimValid, WrapValid, all_public}
 
 -- n words of s cells each have n * s cells together
 pub Times-length : (n s : ℕ) (P : Word → Type 0) → ((u : Word) → P u → length u ≡ s) → (w : Word) → Times n P w → length w ≡ n * s
@@ -68,6 +68,7 @@ or_grows false false b grows h = h
 module _ (A B : ℕ → ℕ → Type 0) (keep more : Bool) (over : (x t : ℕ) → A x t → B x t) (opened : IsTrue keep → IsTrue more) where
   mutual
     unfolding Valid
+
     pub Valid-grows : (t : Expanded) (w : Word) → Valid A keep t w → Valid B more t w
     Valid-grows too_deep w h = h
     Valid-grows (prim p) w h = h

@@ -1,8 +1,8 @@
 -- The test of validity decides validity.
-use Rattle.std.proofs.Common.{◌≡◌, ℕ, zero, suc, ◌+◌, ◌*◌, ◌-◌, ◌<◌, ◌≤◌, refl, sym, ◌∙◌, ap, subst, Bool, true, false, ◌||◌, ◌&&◌, not, IsTrue, ◌↔◌, List, [], ◌∷◌, ◌++◌, length, take, drop, replicate, ◌⊎◌, inl, inr, arith, length-append, append_assoc, Option, None, ℤ, nat_lt, nat_le, ◌==◌}
+use Rattle.std.proofs.Common.{◌≡◌, ℕ, zero, suc, ◌+◌, ◌-◌, ◌≤◌, refl, sym, subst, Bool, true, false, ◌||◌, ◌&&◌, not, IsTrue, ◌↔◌, [], ◌∷◌, ◌++◌, length, take, drop, replicate, arith, Option, None, ℤ, nat_lt, nat_le, ◌==◌}
 use Rattle.std.specs.List.{All, list_all}
 use Rattle.std.specs.Bool.{Decides}
-use Rattle.std.proofs.lemmas.Bool.Decides.{Decides-eqb, Decides-ltb, Decides-and, Decides-or, Decides-like, nat_tests}
+use Rattle.std.proofs.lemmas.Bool.Decides.{Decides-eqb, Decides-ltb, Decides-and, Decides-or, nat_tests}
 use Rattle.std.proofs.lemmas.List.{take-append-drop}
 use Rattle.std.proofs.lemmas.List.Elements.{All-head, All-tail, All-cons, All-nil}
 use Rattle.std.proofs.Math.Seq.{take-append_seam, drop-append_seam}
@@ -18,7 +18,7 @@ use Rattle.tm_base.specs.Expanded.{Expanded, Fields, Variants, too_deep, prim, n
 use Rattle.tm_base.specs.Layout.{layout_of, size_of, prim_size, place_at, tag_layout}
 use Rattle.tm_base.specs.Orders.{word_less}
 use Rattle.tm_base.specs.Transmutes.{holds}
-use Rattle.tm_base.specs.Valid.{Valid, StructValid, UnionValid, FieldsValid, SomeFieldValid, SomeVariantValid, PrimValid, WrapValid, IsOpen, IsTag, IsScalar, AreBytes, all_public, twos_complement}
+use Rattle.tm_base.specs.Valid.{Valid, StructValid, UnionValid, FieldsValid, SomeFieldValid, SomeVariantValid, PrimValid, WrapValid, IsTag, IsScalar, AreBytes, all_public, twos_complement}
 use Rattle.tm_base.specs.ValidTest.{is_byte, is_free, are_bytes, word_same, is_scalar, prim_test, times_test, wrap_test, first_ref, tag_test, field_test, variant_test, valid_test, struct_test, union_test, fields_test, some_field_test, some_variant_test}
 use Rattle.tm_base.proofs.OrderLemmas.{word_less-total, word_less-asym}
 use Rattle.tm_base.proofs.ValidLemmas.{Valid-length}
@@ -58,9 +58,10 @@ word_same-refl w = rw (word_less-irrefl w) refl
 
 word_same-decides : (v w : Word) → Decides (word_same v w) (v ≡ w)
 word_same-decides v w =
-    let orders = Decides-and (not (word_less v w)) (not (word_less w v)) (λ h. h, λ h. h) (λ h. h, λ h. h) in
-    (λ h. word_less-total v w (not_true _ (orders.0 h).0) (not_true _ (orders.0 h).1),
-     λ e. subst (λ (u : Word). word_same v u ≡ true) e (word_same-refl v))
+    let orders = Decides-and (not (word_less v w)) (not (word_less w v)) (λ h. h, λ h. h) (λ h. h, λ h. h) in (
+      λ h. word_less-total v w (not_true _ (orders.0 h).0) (not_true _ (orders.0 h).1),
+      λ e. subst (λ (u : Word). word_same v u ≡ true) e (word_same-refl v),
+    )
 
 nat_le-decides : (a b : ℕ) → Decides (nat_le a b) (a ≤ b)
 nat_le-decides a b = (λ h. grind (arith, nat_tests), λ h. grind (arith, nat_tests))
@@ -85,12 +86,13 @@ cut_back n u v e = subst (λ (k : ℕ). drop k (u ++ v) ≡ v) e (drop-append_se
 times_test-decides : (n s : ℕ) (test : Word → Bool) (P : Word → Type 0) → ((u : Word) → P u → length u ≡ s) → ((u : Word) → Decides (test u) (P u)) → (w : Word) → Decides (times_test n s test w) (Times n P w)
 times_test-decides zero s test P size each w = word_same-decides w []
 times_test-decides (suc n) s test P size each w =
-    let both = Decides-and (test (take s w)) (times_test n s test (drop s w)) (each (take s w)) (times_test-decides n s test P size each (drop s w)) in
-    (λ h. (take s w, drop s w, sym (take-append-drop s w), (both.0 h).0, (both.0 h).1),
-     λ (u, v, e, first, others).
-        let front : take s w ≡ u = rw e (cut_front s u v (size u first)) in
-        let back : drop s w ≡ v = rw e (cut_back s u v (size u first)) in
-        both.1 (subst P (sym front) first, subst (Times n P) (sym back) others))
+    let both = Decides-and (test (take s w)) (times_test n s test (drop s w)) (each (take s w)) (times_test-decides n s test P size each (drop s w)) in (
+      λ h. (take s w, drop s w, sym (take-append-drop s w), (both.0 h).0, (both.0 h).1),
+      λ (u, v, e, first, others).
+          let front : take s w ≡ u = rw e (cut_front s u v (size u first)) in
+          let back : drop s w ≡ v = rw e (cut_back s u v (size u first)) in
+          both.1 (subst P (sym front) first, subst (Times n P) (sym back) others),
+    )
 
 wrap_test-decides : (k : Wrapper) (n : ℕ) (test : Word → Bool) (P : Word → Type 0) → ((u : Word) → Decides (test u) (P u)) → (w : Word) → Decides (wrap_test k n test w) (WrapValid k n P w)
 wrap_test-decides wrapper.Option n test P each w = Decides-or (word_same w (replicate n (Byte 0))) (test w) (word_same-decides w (replicate n (Byte 0))) (each w)
@@ -121,29 +123,43 @@ module _ (test rest : Word → Bool) (P Q : Word → Type 0) (each : (u : Word) 
 
   field_test-decides : (at place n : ℕ) → ((u : Word) → P u → length u ≡ n) → (w : Word) → Decides (field_test test rest at place n w) (FieldCut P Q at place w)
   field_test-decides at place n size w =
-      let parts = field_test-parts at place n w in
-      (λ h. (take (place - at) w, take n (drop (place - at) w), drop n (drop (place - at) w),
+      let parts = field_test-parts at place n w in (
+        λ h. (
+          take (place - at) w,
+          take n (drop (place - at) w),
+          drop n (drop (place - at) w),
           sym (rw (take-append-drop n (drop (place - at) w)) (take-append-drop (place - at) w)),
-          (parts.0 h).0.0.0, (parts.0 h).0.0.1, (parts.0 h).0.1, (parts.0 h).1),
-       λ (gap, here, others, e, stands, free, valid, q).
-          let wide : length gap ≡ place - at = omega arith in
-          let front : take (place - at) w ≡ gap = rw e (cut_front (place - at) gap (here ++ others) wide) in
-          let left : drop (place - at) w ≡ here ++ others = rw e (cut_back (place - at) gap (here ++ others) wide) in
-          let middle : take n (drop (place - at) w) ≡ here = rw left (cut_front n here others (size here valid)) in
-          let back : drop n (drop (place - at) w) ≡ others = rw left (cut_back n here others (size here valid)) in
-          parts.1 (((subst (λ (u : Word). at + length u ≡ place) (sym front) stands, subst (All IsFree) (sym front) free),
-              subst P (sym middle) valid), subst Q (sym back) q))
+          (parts.0 h).0.0.0,
+          (parts.0 h).0.0.1,
+          (parts.0 h).0.1,
+          (parts.0 h).1,
+        ),
+        λ (gap, here, others, e, stands, free, valid, q).
+            let wide : length gap ≡ place - at = omega arith in
+            let front : take (place - at) w ≡ gap = rw e (cut_front (place - at) gap (here ++ others) wide) in
+            let left : drop (place - at) w ≡ here ++ others = rw e (cut_back (place - at) gap (here ++ others) wide) in
+            let middle : take n (drop (place - at) w) ≡ here = rw left (cut_front n here others (size here valid)) in
+            let back : drop n (drop (place - at) w) ≡ others = rw left (cut_back n here others (size here valid)) in
+            parts.1 (
+              (
+                (subst (λ (u : Word). at + length u ≡ place) (sym front) stands, subst (All IsFree) (sym front) free),
+                subst P (sym middle) valid,
+              ),
+              subst Q (sym back) q,
+            ),
+      )
 
   -- a word of one kind in front, and one of the other behind it
   cut_decides : (n : ℕ) → ((u : Word) → P u → length u ≡ n) → (w : Word)
       → Decides (test (take n w) && rest (drop n w)) ((here : Word) × (others : Word) × (w ≡ here ++ others) × P here × Q others)
   cut_decides n size w =
-      let both = Decides-and (test (take n w)) (rest (drop n w)) (each (take n w)) (behind (drop n w)) in
-      (λ h. (take n w, drop n w, sym (take-append-drop n w), (both.0 h).0, (both.0 h).1),
-       λ (here, others, e, valid, q).
-          let front : take n w ≡ here = rw e (cut_front n here others (size here valid)) in
-          let back : drop n w ≡ others = rw e (cut_back n here others (size here valid)) in
-          both.1 (subst P (sym front) valid, subst Q (sym back) q))
+      let both = Decides-and (test (take n w)) (rest (drop n w)) (each (take n w)) (behind (drop n w)) in (
+        λ h. (take n w, drop n w, sym (take-append-drop n w), (both.0 h).0, (both.0 h).1),
+        λ (here, others, e, valid, q).
+            let front : take n w ≡ here = rw e (cut_front n here others (size here valid)) in
+            let back : drop n w ≡ others = rw e (cut_back n here others (size here valid)) in
+            both.1 (subst P (sym front) valid, subst Q (sym back) q),
+      )
 
 -- what `variant_test` tests
 abbrev VariantCut : (Word → Type 0) → (Word → Type 0) → ℕ → Word → Type 0
@@ -167,20 +183,35 @@ module _ (test rest : Word → Bool) (P Q : Word → Type 0) (each : (u : Word) 
 
   variant_test-decides : (n begin : ℕ) → ((u : Word) → P u → length u ≡ n) → (w : Word) → Decides (variant_test test rest n begin w) (VariantCut P Q begin w)
   variant_test-decides n begin size w =
-      let parts = variant_test-parts n begin w in
-      (λ h. (take n w, take (begin - n) (drop n w), drop (begin - n) (drop n w),
+      let parts = variant_test-parts n begin w in (
+        λ h. (
+          take n w,
+          take (begin - n) (drop n w),
+          drop (begin - n) (drop n w),
           sym (rw (take-append-drop (begin - n) (drop n w)) (take-append-drop n w)),
-          (parts.0 h).0.0.0, (parts.0 h).0.0.1, (parts.0 h).0.1, (parts.0 h).1),
-       λ (front, gap, others, e, tag, stands, free, q).
-          let size_front : length front ≡ n = size front tag in
-          let wide : length gap ≡ begin - n = omega arith in
-          let first : take n w ≡ front = rw e (cut_front n front (gap ++ others) size_front) in
-          let left : drop n w ≡ gap ++ others = rw e (cut_back n front (gap ++ others) size_front) in
-          let middle : take (begin - n) (drop n w) ≡ gap = rw left (cut_front (begin - n) gap others wide) in
-          let back : drop (begin - n) (drop n w) ≡ others = rw left (cut_back (begin - n) gap others wide) in
-          parts.1 (((subst P (sym first) tag,
-              subst (λ (u : Word). length u + length (take (begin - n) (drop n w)) ≡ begin) (sym first) (subst (λ (u : Word). length front + length u ≡ begin) (sym middle) stands)),
-              subst (All IsFree) (sym middle) free), subst Q (sym back) q))
+          (parts.0 h).0.0.0,
+          (parts.0 h).0.0.1,
+          (parts.0 h).0.1,
+          (parts.0 h).1,
+        ),
+        λ (front, gap, others, e, tag, stands, free, q).
+            let size_front : length front ≡ n = size front tag in
+            let wide : length gap ≡ begin - n = omega arith in
+            let first : take n w ≡ front = rw e (cut_front n front (gap ++ others) size_front) in
+            let left : drop n w ≡ gap ++ others = rw e (cut_back n front (gap ++ others) size_front) in
+            let middle : take (begin - n) (drop n w) ≡ gap = rw left (cut_front (begin - n) gap others wide) in
+            let back : drop (begin - n) (drop n w) ≡ others = rw left (cut_back (begin - n) gap others wide) in
+            parts.1 (
+              (
+                (
+                  subst P (sym first) tag,
+                  subst (λ (u : Word). length u + length (take (begin - n) (drop n w)) ≡ begin) (sym first) (subst (λ (u : Word). length front + length u ≡ begin) (sym middle) stands),
+                ),
+                subst (All IsFree) (sym middle) free,
+              ),
+              subst Q (sym back) q,
+            ),
+      )
 
 tag_test-decides : (n : ℕ) (value : ℤ) (w : Word) → Decides (tag_test n value w) (IsTag n value w)
 tag_test-decides n value w = Decides-and (are_bytes n w) (number_of w == twos_complement n value) (are_bytes-decides n w) (Decides-eqb (number_of w) (twos_complement n value))
@@ -188,15 +219,17 @@ tag_test-decides n value w = Decides-and (are_bytes n w) (number_of w == twos_co
 -- the reference that stands first decides which one it is
 ref_decides : (A : ℕ → ℕ → Bool) (t : ℕ) (w : Word) → Decides (A (first_ref w) t && word_same w (pointer_of (first_ref w))) ((x : ℕ) × IsTrue (A x t) × (w ≡ pointer_of x))
 ref_decides A t w =
-    let both = Decides-and (A (first_ref w) t) (word_same w (pointer_of (first_ref w))) (λ h. h, λ h. h) (word_same-decides w (pointer_of (first_ref w))) in
-    (λ h. (first_ref w, (both.0 h).0, (both.0 h).1),
-     λ (x, a, e).
-        let same : first_ref w ≡ x = rw e refl in
-        both.1 (rw same a, rw same e))
+    let both = Decides-and (A (first_ref w) t) (word_same w (pointer_of (first_ref w))) (λ h. h, λ h. h) (word_same-decides w (pointer_of (first_ref w))) in (
+      λ h. (first_ref w, (both.0 h).0, (both.0 h).1),
+      λ (x, a, e).
+          let same : first_ref w ≡ x = rw e refl in
+          both.1 (rw same a, rw same e),
+    )
 
 module _ (A : ℕ → ℕ → Bool) (keep : Bool) where
   mutual
     unfolding Valid valid_test
+
     pub valid_test-decides : (t : Expanded) (w : Word) → Decides (valid_test A keep t w) (Valid (holds A) keep t w)
     valid_test-decides too_deep w = (λ h. cc, λ h. elim h [ ])
     valid_test-decides (prim p) w = prim_test-decides p w

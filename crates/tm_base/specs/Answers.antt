@@ -1,6 +1,6 @@
 -- When an answer to a question is true, and when it is the one to give. This project's, but for what a
 -- yes means, which `Transmutes` says.
-use Rattle.std.specs.Prelude.{◌≡◌, ℕ, ◌≤◌, ◌⊎◌, Bool, true, false, Option, Some, None, take}
+use Rattle.std.specs.Prelude.{◌≡◌, ℕ, ◌≤◌, ◌⊎◌, true, false, Option, Some, None, take}
 use Rattle.tm_base.specs.declared.answer.Answer.{Answer}
 use Rattle.tm_base.specs.declared.answer.Answer.TheVariants.{Yes, YesBecause, No, NoAt, Refused}
 use Rattle.tm_base.specs.declared.answer.RefFault.{RefFault}

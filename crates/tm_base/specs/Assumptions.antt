@@ -1,5 +1,5 @@
 -- Sets of assumptions: the documentation of `core::mem::Assume`.
-use Rattle.std.specs.Prelude.{Bool, IsTrue}
+use Rattle.std.specs.Prelude.{IsTrue}
 use Rattle.tm_base.specs.declared.assume.Assume.{Assume}
 
 -- the first has each flag that the second has

@@ -1,11 +1,11 @@
 -- Which source reference may be taken as which target reference. The rules and their order are this
 -- project's; the compiler's crate `rustc_transmute` asks the like.
-use Rattle.std.specs.Prelude.{◌≡◌, ℕ, zero, suc, ◌≤◌, ◌⊎◌, Bool, true, false, List, [], ◌∷◌, All, slice_get}
+use Rattle.std.specs.Prelude.{◌≡◌, ℕ, zero, suc, ◌≤◌, ◌⊎◌, true, false, List, [], ◌∷◌, All, slice_get}
 use Rattle.tm_base.specs.declared.answer.LocalRule.{LocalRule}
 use Rattle.tm_base.specs.declared.answer.LocalRule.TheVariants.{MoreUnique, TooBig, Alignment, Interior, Lifetime}
 use Rattle.tm_base.specs.declared.assume.Assume.{Assume}
 use Rattle.tm_base.specs.declared.definition.RefRow.{RefRow}
-use Rattle.tm_base.specs.Layout.{Layout, layout_of, size_of, align_of}
+use Rattle.tm_base.specs.Layout.{size_of, align_of}
 use Rattle.tm_base.specs.Outlives.{Outlives}
 use Rattle.tm_base.specs.Parts.{has_interior}
 use Rattle.tm_base.specs.Reaches.{IsJudged}

@@ -1,7 +1,7 @@
 -- Integer types and the whole numbers that they hold.
 use Rattle.std.specs.Prelude.{ℕ, ◌-◌, ◌*◌, ◌^◌, nat_lt, nat_le, Bool, true, false, ◌&&◌, if◌then◌else◌, ℤ, pos, negsuc}
 use Rattle.tm_base.specs.declared.ground.Primitive.{Primitive}
-use Rattle.tm_base.specs.declared.ground.Primitive.TheVariants.{Bool as bool', Char, U8, U16, U32, U64, U128, Usize, I8, I16, I32, I64, I128, Isize, F32, F64}
+use Rattle.tm_base.specs.declared.ground.Primitive.TheVariants.{Bool as bool', Char, I8, I16, I32, I64, I128, Isize, F32, F64}
 use Rattle.tm_base.specs.Layout.{prim_size}
 
 abbrev pub is_signed : Primitive → Bool

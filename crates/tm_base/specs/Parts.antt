@@ -7,7 +7,7 @@ use Rattle.tm_base.specs.declared.ground.Primitive.{Primitive}
 use Rattle.tm_base.specs.declared.ground.Primitive.TheVariants.{Char}
 use Rattle.tm_base.specs.declared.ground.Wrapper.{Wrapper}
 use Rattle.tm_base.specs.declared.ground.Wrapper.TheVariants.{Option as option, MaybeUninit, Cell as cell, UnsafeCell}
-use Rattle.tm_base.specs.Expanded.{Expanded, Fields, Variants, too_deep, prim, never, unit, tuple, array, nonzero, phantom, wrap, ref, named, no_fields, field, no_variants, variant}
+use Rattle.tm_base.specs.Expanded.{Expanded, Fields, Variants, too_deep, prim, tuple, array, nonzero, wrap, named, no_fields, field, no_variants, variant}
 
 module _ (test : Expanded → Bool) where
   -- some type that this one holds by value, at any depth, passes the test

@@ -1,9 +1,9 @@
 -- Where the fields of a type stand, in bytes from its first: the Rust Reference, "Type layout".
-use Rattle.std.specs.Prelude.{ℕ, ◌+◌, Bool, true, false, if◌then◌else◌, Option, Some, None, List, [], ◌∷◌, map, slice_get, option_and_then}
+use Rattle.std.specs.Prelude.{ℕ, ◌+◌, if◌then◌else◌, Option, None, List, [], map, slice_get, option_and_then}
 use Rattle.tm_base.specs.declared.definition.Kind.{Kind}
 use Rattle.tm_base.specs.declared.definition.Kind.TheVariants.{Struct, Union, Enum}
 use Rattle.tm_base.specs.declared.definition.Repr.{Repr}
-use Rattle.tm_base.specs.Expanded.{Expanded, Fields, Variants, too_deep, prim, never, unit, tuple, array, nonzero, phantom, wrap, ref, named, no_fields, field, no_variants, variant}
+use Rattle.tm_base.specs.Expanded.{Expanded, Variants, named}
 use Rattle.tm_base.specs.Layout.{Layout, places, variant_layouts}
 use Rattle.tm_base.specs.Valid.{fields_place, first_place}
 

@@ -1,6 +1,6 @@
 -- What a world says of its types: the definitions, the names of the regions and the bounds between
 -- them, the named types and the reference types.
-use Rattle.std.specs.Prelude.{ℕ, List, Option, Some, None, slice_get}
+use Rattle.std.specs.Prelude.{ℕ, List, Option, Some}
 use Rattle.tm_base.specs.declared.definition.Bound.{Bound}
 use Rattle.tm_base.specs.declared.definition.Def.{Def}
 use Rattle.tm_base.specs.declared.definition.NamedRow.{NamedRow}

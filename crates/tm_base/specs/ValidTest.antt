@@ -1,17 +1,16 @@
 -- The test whether a word is one of a type, as `Valid` says, cut by cut from the front.
-use Rattle.std.specs.Prelude.{ℕ, zero, suc, ◌+◌, ◌-◌, nat_lt, nat_le, ◌==◌, Bool, true, false, ◌&&◌, ◌||◌, not, List, [], ◌∷◌, Option, None, ℤ, length, take, drop, replicate}
+use Rattle.std.specs.Prelude.{ℕ, zero, suc, ◌+◌, ◌-◌, nat_lt, nat_le, ◌==◌, Bool, true, false, ◌&&◌, ◌||◌, not, [], ◌∷◌, Option, None, ℤ, length, take, drop, replicate}
 use Rattle.std.specs.List.{list_all}
 use Rattle.tm_base.specs.declared.cell.Cell.{Cell}
 use Rattle.tm_base.specs.declared.cell.Cell.TheVariants.{Byte, Uninit, Ptr}
 use Rattle.tm_base.specs.declared.definition.Kind.TheVariants.{Struct, Union, Enum}
-use Rattle.tm_base.specs.declared.definition.Repr.{Repr}
 use Rattle.tm_base.specs.declared.ground.Primitive.{Primitive}
 use Rattle.tm_base.specs.declared.ground.Primitive.TheVariants.{Bool as bool', Char}
 use Rattle.tm_base.specs.declared.ground.Wrapper.{Wrapper}
 use Rattle.tm_base.specs.declared.ground.Wrapper.TheVariants.{Option as option, MaybeUninit}
 use Rattle.tm_base.specs.Cells.{Word, number_of, pointer_of}
 use Rattle.tm_base.specs.Expanded.{Expanded, Fields, Variants, too_deep, prim, never, unit, tuple, array, nonzero, phantom, wrap, ref, named, no_fields, field, no_variants, variant}
-use Rattle.tm_base.specs.Layout.{Layout, prim_size, place_at, tag_layout, layout_of, size_of}
+use Rattle.tm_base.specs.Layout.{prim_size, place_at, tag_layout, layout_of, size_of}
 use Rattle.tm_base.specs.Orders.{word_less}
 use Rattle.tm_base.specs.Valid.{all_public, fields_place, first_place, twos_complement}
 

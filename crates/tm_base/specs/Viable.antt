@@ -1,7 +1,6 @@
 -- How far a word goes for a target, and the order of words. This project's.
-use Rattle.std.specs.Prelude.{◌≡◌, ℕ, ◌+◌, Bool, true, false, ◌&&◌, ◌||◌, ◌==◌, not, nat_lt, List, [], ◌∷◌, ◌++◌, take}
-use Rattle.tm_base.specs.declared.cell.Cell.{Cell}
-use Rattle.tm_base.specs.declared.cell.Cell.TheVariants.{Byte, Uninit, Ptr}
+use Rattle.std.specs.Prelude.{ℕ, ◌+◌, Bool, [], ◌∷◌, ◌++◌, take}
+use Rattle.tm_base.specs.declared.cell.Cell.TheVariants.{Ptr}
 use Rattle.tm_base.specs.Cells.{Word, fit, own, OrOwn}
 use Rattle.tm_base.specs.Expanded.{Expanded}
 use Rattle.tm_base.specs.Layout.{size_of}

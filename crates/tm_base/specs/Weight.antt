@@ -1,14 +1,12 @@
 -- The weight of a type, by which it is too large: about how many cells its layout is written with.
 -- This project's.
 use Rattle.std.specs.Prelude.{ℕ, ◌+◌, ◌*◌, max}
-use Rattle.tm_base.specs.declared.definition.Kind.{Kind}
 use Rattle.tm_base.specs.declared.definition.Kind.TheVariants.{Struct, Union, Enum}
-use Rattle.tm_base.specs.declared.definition.Repr.{Repr}
 use Rattle.tm_base.specs.declared.ground.Wrapper.{Wrapper}
 use Rattle.tm_base.specs.declared.ground.Wrapper.TheVariants.{Option as option, MaybeUninit}
 use Rattle.tm_base.specs.Cells.{pointer_size}
 use Rattle.tm_base.specs.Expanded.{Expanded, Fields, Variants, too_deep, prim, never, unit, tuple, array, nonzero, phantom, wrap, ref, named, no_fields, field, no_variants, variant}
-use Rattle.tm_base.specs.Layout.{Layout, prim_size, tag_layout, size_of}
+use Rattle.tm_base.specs.Layout.{prim_size, tag_layout, size_of}
 
 -- the greatest weight of a type that isn't too large
 abbrev pub weight_limit : ℕ

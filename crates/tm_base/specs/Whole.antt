@@ -1,6 +1,6 @@
 -- What holds of each world, as tests of its parts. Limits and forms are this project's; which
 -- representations go together is the Rust Reference's, "Type layout".
-use Rattle.std.specs.Prelude.{◌≡◌, ◌≢◌, ℕ, ◌+◌, ◌<◌, ◌^◌, nat_le, nat_lt, ◌==◌, Bool, true, false, ◌&&◌, ◌||◌, not, if◌then◌else◌, ℤ, Option, Some, None, is_some, is_none, List, [], ◌∷◌, ◌++◌, length, map, flat_map, sum, slice_get, AllPairs}
+use Rattle.std.specs.Prelude.{◌≡◌, ◌≢◌, ℕ, ◌<◌, ◌^◌, nat_le, nat_lt, ◌==◌, Bool, true, false, ◌&&◌, ◌||◌, not, ℤ, Option, Some, None, is_some, is_none, List, [], ◌∷◌, ◌++◌, length, map, flat_map, sum, slice_get, AllPairs}
 use Rattle.std.specs.List.{list_all, list_any, range_with_len}
 use Rattle.tm_base.specs.declared.ask.Ask.{Ask}
 use Rattle.tm_base.specs.declared.definition.Bound.{Bound}
@@ -9,7 +9,6 @@ use Rattle.tm_base.specs.declared.definition.Kind.{Kind}
 use Rattle.tm_base.specs.declared.definition.Kind.TheVariants.{Struct, Union, Enum}
 use Rattle.tm_base.specs.declared.definition.NamedRow.{NamedRow}
 use Rattle.tm_base.specs.declared.definition.RefRow.{RefRow}
-use Rattle.tm_base.specs.declared.definition.RegionId.{RegionId}
 use Rattle.tm_base.specs.declared.definition.Repr.{Repr}
 use Rattle.tm_base.specs.declared.definition.Variant.{Variant}
 use Rattle.tm_base.specs.declared.ground.Ground.{Ground, out-Ground, Row_of-Ground, end_of-Ground, more_of-Ground, Named, Tuple', Array', Wrap'}
@@ -38,9 +37,9 @@ abbrev pub all_types : List NamedRow → List RefRow → List Ask → List Groun
 all_types named refs questions =
     map (λ k. Named (record { 0 = k })) (range_with_len 0 (length named))
     ++ flat_map written_types (
-        flat_map (λ row. flat_map (λ types. types) row.types) named
-        ++ map (λ row. row.pointee) refs
-        ++ flat_map (λ ask. ask.src ∷ ask.dst ∷ []) questions)
+    flat_map (λ row. flat_map (λ types. types) row.types) named
+    ++ map (λ row. row.pointee) refs
+    ++ flat_map (λ ask. ask.src ∷ ask.dst ∷ []) questions)
 
 -- Numbers name rows, a `NonZero` holds an integer, and a tuple has an element.
 abbrev pub is_head_in_form : ℕ → ℕ → Ground-F Ground → Bool
