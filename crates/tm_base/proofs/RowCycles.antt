@@ -84,7 +84,7 @@ chains-closed g h (inr (inr (inr (inr (inl e))))) step = absurd (Contains-none h
 chains-closed g h (inr (inr (inr (inr (inr e))))) step = absurd (Contains-none h (subst (λ (x : Ground). Enters chains x h) e step))
 
 chains-sound : (g : Ground) → IsChainType g → fault_of (expanded_in chains g) ≡ None
-unfolding expanded_within out-Ground denote.Hole.Carrier.out part_at_fault is_nullable some_part weight_of layout_of
+unfolding expanded_within out-Ground denote.Hole.Carrier.out fault_of part_at_fault is_nullable some_part weight_of layout_of
 chains-sound g (inl e) = rw e refl
 chains-sound g (inr (inl e)) = rw e refl
 chains-sound g (inr (inr (inl e))) = rw e refl

@@ -85,7 +85,7 @@ nested-closed g h (inr (inr (inl e))) step = absurd (Contains-none h (subst (λ 
 nested-closed g h (inr (inr (inr e))) step = absurd (Contains-none h (subst (λ (x : Ground). Enters nested x h) e step))
 
 nested-sound : (g : Ground) → IsNestedType g → fault_of (expanded_in nested g) ≡ None
-unfolding expanded_within out-Ground denote.Hole.Carrier.out part_at_fault is_nullable some_part weight_of layout_of
+unfolding expanded_within out-Ground denote.Hole.Carrier.out fault_of part_at_fault is_nullable some_part weight_of layout_of
 nested-sound g (inl e) = rw e refl
 nested-sound g (inr (inl e)) = rw e refl
 nested-sound g (inr (inr (inl e))) = rw e refl

@@ -110,5 +110,5 @@ unfoldable mutual
   variant_at_fault (variant value members rest) = field_at_fault members || variant_at_fault rest
 
 -- the first cause for which a type is at fault
-abbrev pub fault_of : Expanded → Option Why
+unfoldable pub fault_of : Expanded → Option Why
 fault_of t = fault_over (part_at_fault t) t

@@ -23,25 +23,25 @@ abbrev pub argument_of : Wrapper → Ground → List Ground
 argument_of PhantomData g = []
 argument_of _ g = g ∷ []
 
-abbrev pub fields_in : Option NamedRow → List Ground
-fields_in None = []
-fields_in (Some row) = flat_map (λ types. types) row.types
+abbrev pub row_parts : Option NamedRow → List Ground
+row_parts None = []
+row_parts (Some row) = flat_map (λ types. types) row.types
 
-abbrev pub target_of : Option RefRow → List Ground
-target_of None = []
-target_of (Some row) = row.pointee ∷ []
+abbrev pub row_pointee : Option RefRow → List Ground
+row_pointee None = []
+row_pointee (Some row) = row.pointee ∷ []
 
 -- the parts of a type by value
 abbrev pub parts_within : List NamedRow → Ground-F Ground → List Ground
 parts_within named (Ground-F.Tuple gs) = gs
 parts_within named (Ground-F.Array g n) = g ∷ []
-parts_within named (Ground-F.Named id) = fields_in (slice_get named id.0)
+parts_within named (Ground-F.Named id) = row_parts (slice_get named id.0)
 parts_within named (Ground-F.Wrap w g) = argument_of w g
 parts_within named _ = []
 
 -- the pointee of a reference
 abbrev pub pointees_within : List RefRow → Ground-F Ground → List Ground
-pointees_within refs (Ground-F.Ref r) = target_of (slice_get refs r.0)
+pointees_within refs (Ground-F.Ref r) = row_pointee (slice_get refs r.0)
 pointees_within refs _ = []
 
 abbrev pub parts_of : Tables → Ground → List Ground

@@ -51,7 +51,7 @@ is_head_in_form named refs _ = true
 
 -- What is asked of a type that is handed in with these tables: so it is of each type written in it, and
 -- no part by value is deeper than the limit.
-abbrev pub is_type_over : List Def → List NamedRow → List RefRow → Ground → Bool
+unfoldable pub is_type_over : List Def → List NamedRow → List RefRow → Ground → Bool
 is_type_over defs named refs g =
     list_all (λ h. is_head_in_form (length named) (length refs) (out-Ground h)) (written_types g) && is_whole (expanded defs named g)
 
@@ -61,14 +61,14 @@ abbrev pub is_type_in_form : List Def → List NamedRow → List RefRow → Grou
 is_type_in_form defs named refs g =
     is_head_in_form (length named) (length refs) (out-Ground g) && is_whole (expanded defs named g) && ends (spelled refs g)
 
-abbrev pub are_types_in_form : List Def → List NamedRow → List RefRow → List Ask → Bool
+unfoldable pub are_types_in_form : List Def → List NamedRow → List RefRow → List Ask → Bool
 are_types_in_form defs named refs questions = list_all (is_type_in_form defs named refs) (all_types named refs questions)
 
 -- two numbers below some number
 abbrev pub is_bound_known : ℕ → Bound → Bool
 is_bound_known regions bound = nat_lt bound.longer.0 regions && nat_lt bound.shorter.0 regions
 
-abbrev pub are_regions_known : ℕ → List Bound → List NamedRow → List RefRow → Bool
+unfoldable pub are_regions_known : ℕ → List Bound → List NamedRow → List RefRow → Bool
 are_regions_known regions bounds named refs =
     list_all (is_bound_known regions) bounds
     && list_all (λ row. list_all (λ region. nat_lt region.0 regions) row.regions) named
@@ -86,7 +86,7 @@ is_row_of None row = false
 is_row_of (Some def) row = has_its_types def.variants row.types
 
 -- each named type is one of a definition that there is, with the lists and types that it asks for
-abbrev pub are_rows_in_form : List Def → List NamedRow → Bool
+unfoldable pub are_rows_in_form : List Def → List NamedRow → Bool
 are_rows_in_form defs named = list_all (λ row. is_row_of (slice_get defs row.def.0) row) named
 
 -- a power of two from 1 to 2 ^ 29
@@ -97,13 +97,13 @@ abbrev pub is_absent_or : (ℕ → Bool) → Option ℕ → Bool
 is_absent_or test None = true
 is_absent_or test (Some n) = test n
 
-abbrev pub fields_in : List Variant → ℕ
-fields_in variants = sum (map (λ v. length v.fields) variants)
+abbrev pub field_total : List Variant → ℕ
+field_total variants = sum (map (λ v. length v.fields) variants)
 
 -- the tag's type is an integer of at most 64 bits; with `C` some variant has a field
 abbrev pub is_tag_in_form : Repr → List Variant → Option Primitive → Bool
 is_tag_in_form repr variants None = true
-is_tag_in_form repr variants (Some p) = is_tag_type p && (not repr.c || nat_lt 0 (fields_in variants))
+is_tag_in_form repr variants (Some p) = is_tag_type p && (not repr.c || nat_lt 0 (field_total variants))
 
 -- on an enum: nothing; or `C`, an integer, or both, where there is a variant
 abbrev pub is_enum_repr : Repr → List Variant → Bool
@@ -128,7 +128,7 @@ is_value_in_form (Some p) value = fits_integer p value
 -- a struct and a union are one variant, and a union has a field
 abbrev pub are_variants_in_form : Kind → List Variant → Bool
 are_variants_in_form Struct variants = length variants == 1
-are_variants_in_form Union variants = (length variants == 1) && nat_lt 0 (fields_in variants)
+are_variants_in_form Union variants = (length variants == 1) && nat_lt 0 (field_total variants)
 are_variants_in_form Enum variants = true
 
 abbrev pub is_def_in_form : Def → Bool
@@ -137,11 +137,15 @@ is_def_in_form def =
     && is_absent_or is_alignment def.repr.packed && is_absent_or is_alignment def.repr.align
     && are_variants_in_form def.kind def.variants
     && list_all (λ v. is_value_in_form def.repr.tag v.value) def.variants
-    && nat_le (length def.variants) 256 && nat_le (fields_in def.variants) 256
+    && nat_le (length def.variants) 256 && nat_le (field_total def.variants) 256
+
+unfoldable pub are_defs_in_form : List Def → Bool
+are_defs_in_form = list_all is_def_in_form
+
+-- no item stands twice
+pub record AreDistinct {X : Type 0} (xs : List X) : Type 0 where
+  pub apart : AllPairs (λ x y. x ≢ y) xs
 
 -- no two variants of a definition have one discriminant
-abbrev pub DiffersInValue : Variant → Variant → Type 0
-DiffersInValue v u = v.value ≢ u.value
-
-abbrev pub AreValuesDistinct : List Def → Type 0
-AreValuesDistinct defs = (i : ℕ) → i < length defs → (d : Def) → slice_get defs i ≡ Some d → AllPairs DiffersInValue d.variants
+pub record AreValuesDistinct (defs : List Def) : Type 0 where
+  pub apart : (i : ℕ) → i < length defs → (d : Def) → slice_get defs i ≡ Some d → AllPairs (λ v u. v.value ≢ u.value) d.variants

@@ -1,6 +1,5 @@
-ghost use Rattle.std.specs.Prelude.{◌≡◌, ◌≢◌, ◌≤◌, IsTrue, length, AllPairs};
-ghost use Rattle.std.specs.List.{list_all};
-ghost use Rattle.tm_base.specs.Whole.{are_regions_known, are_rows_in_form, are_types_in_form, is_def_in_form, AreValuesDistinct};
+ghost use Rattle.std.specs.Prelude.{◌≤◌, IsTrue, length};
+ghost use Rattle.tm_base.specs.Whole.{are_defs_in_form, are_regions_known, are_rows_in_form, are_types_in_form, AreDistinct, AreValuesDistinct};
 
 use crate::ask::Ask;
 use crate::definition::{Bound, Def, NamedRow, RefRow};
@@ -25,12 +24,12 @@ pub struct World {
     pub ghost few_refs: { length refs ≤ 64 },
     pub ghost few_questions: { length questions ≤ 256 },
     pub ghost regions_known: { IsTrue (are_regions_known (length regions) bounds named refs) },
-    pub ghost defs_in_form: { IsTrue (list_all is_def_in_form defs) },
+    pub ghost defs_in_form: { IsTrue (are_defs_in_form defs) },
     pub ghost values_distinct: { AreValuesDistinct defs },
     pub ghost rows_in_form: { IsTrue (are_rows_in_form defs named) },
     pub ghost types_in_form: { IsTrue (are_types_in_form defs named refs questions) },
-    pub ghost named_distinct: { AllPairs (λ row other. row ≢ other) named },
-    pub ghost refs_distinct: { AllPairs (λ row other. row ≢ other) refs },
+    pub ghost named_distinct: { AreDistinct named },
+    pub ghost refs_distinct: { AreDistinct refs },
 }
 
 #[cfg(test)]
