@@ -14,3 +14,6 @@ pub mod RowReferences
 pub mod RowCycles
 pub mod AssumeLemmas
 pub mod AnswerLemmas
+pub mod RowAnswers
+pub mod GroundLemmas
+pub mod RowTexts

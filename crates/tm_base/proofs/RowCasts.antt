@@ -25,7 +25,7 @@ abbrev never_taken : ℕ → ℕ → Bool
 never_taken x t = false
 
 -- one byte that is at most 1 is 00 or 01
-bit_word : (w : Word) → PrimValid p.Bool w → (w ≡ Byte 0 ∷ []) ⊎ (w ≡ Byte 1 ∷ [])
+pub bit_word : (w : Word) → PrimValid p.Bool w → (w ≡ Byte 0 ∷ []) ⊎ (w ≡ Byte 1 ∷ [])
 bit_word [] ((size, bytes), low) = absurd (omega arith)
 bit_word (Byte zero ∷ []) ((size, bytes), low) = inl refl
 bit_word (Byte (suc zero) ∷ []) ((size, bytes), low) = inr refl
