@@ -17,3 +17,4 @@ pub mod AnswerLemmas
 pub mod RowAnswers
 pub mod GroundLemmas
 pub mod RowTexts
+pub mod ExpandedLemmas
