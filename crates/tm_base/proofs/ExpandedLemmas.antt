@@ -1,5 +1,5 @@
 -- A type that is whole is one level over its parts, written out: the greatest depth is seen no more.
-use Rattle.std.proofs.Common.{◌≡◌, ℕ, zero, suc, refl, sym, ◌∙◌, ap, Bool, true, false, ◌||◌, not, IsTrue, List, [], ◌∷◌, Option, Some, None, slice_get}
+use Rattle.std.proofs.Common.{◌≡◌, ℕ, zero, suc, refl, sym, ap, Bool, true, false, ◌||◌, not, IsTrue, List, [], ◌∷◌, Option, Some, None, slice_get}
 use Rattle.tm_base.specs.declared.definition.Def.{Def}
 use Rattle.tm_base.specs.declared.definition.Field.{Field}
 use Rattle.tm_base.specs.declared.definition.NamedRow.{NamedRow}
@@ -9,7 +9,7 @@ use Rattle.tm_base.specs.declared.ground.Ground.TheOpen.{Ground-F}
 use Rattle.tm_base.specs.declared.ground.NamedId.{NamedId}
 use Rattle.tm_base.specs.declared.ground.Wrapper.{Wrapper}
 use Rattle.tm_base.specs.declared.ground.Wrapper.TheVariants as wrapper
-use Rattle.tm_base.specs.Expanded.{Expanded, Fields, Variants, too_deep, prim, never, unit, tuple, array, nonzero, phantom, wrap, ref, named, no_fields, field, no_variants, variant, elements, fields_of, variants_of, defined, row_of, wrapped, level, expanded_within, expanded, depth_limit}
+use Rattle.tm_base.specs.Expanded.{Expanded, tuple, array, wrap, named, elements, fields_of, variants_of, defined, row_of, wrapped, level, expanded_within, expanded, depth_limit}
 use Rattle.tm_base.specs.Parts.{some_part, some_field, some_variant, some_within, is_too_deep, is_whole}
 
 first_false : (a b : Bool) → (a || b) ≡ false → a ≡ false

@@ -1,11 +1,11 @@
 -- What the functions on types give at each kind of type that holds others.
-use Rattle.std.proofs.Common.{◌≡◌, ℕ, refl, sym, ap, ◌∙◌, List, [], ◌∷◌, ◌++◌, append-nil}
+use Rattle.std.proofs.Common.{◌≡◌, ℕ, refl, ap, ◌∙◌, List, [], ◌∷◌, ◌++◌, append-nil}
 use Rattle.std.specs.List.{flat_map}
 use Rattle.tm_base.specs.declared.cell.RefId.{RefId}
 use Rattle.tm_base.specs.declared.ground.Ground.{Ground, Row_of-Ground, end_of-Ground, more_of-Ground, items-the_row-Ground, items_hidden-the_row-Ground-0, Tuple, Array, Wrap}
 use Rattle.tm_base.specs.declared.ground.Ground.TheBlock.{hidden-the_row-Ground-0, shape-the_row-Ground-1, hidden-the_row-Ground-1}
 use Rattle.tm_base.specs.declared.ground.Wrapper.{Wrapper}
-use Rattle.tm_base.specs.Spelled.{Spelled, Elements, no_elements, element, tuple, array, wrap, spell, spell_all, spell_first}
+use Rattle.tm_base.specs.Spelled.{Spelled, Elements, no_elements, element, tuple, array, wrap, spell, spell_all}
 use Rattle.tm_base.specs.Whole.{written_types, row_types}
 
 row_types-row : {n : _} (row : Row_of-Ground n) → row_types row ≡ flat_map written_types (items-the_row-Ground n row)

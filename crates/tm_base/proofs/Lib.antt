@@ -18,3 +18,4 @@ pub mod RowAnswers
 pub mod GroundLemmas
 pub mod RowTexts
 pub mod ExpandedLemmas
+pub mod WorldLemmas

@@ -1,36 +1,29 @@
 -- Answers to worked questions, each shown to be the one to give.
-use Rattle.std.proofs.Common.{◌≡◌, ℕ, zero, suc, ◌≤◌, ◌<◌, ◌+◌, ◌⊎◌, inl, inr, refl, sym, subst, true, false, Bool, None, Some, [], ◌∷◌, ◌++◌, List, length, take, nat_lt, arith}
+use Rattle.std.proofs.Common.{◌≡◌, ℕ, zero, suc, ◌+◌, ◌⊎◌, inl, inr, refl, subst, false, None, [], ◌∷◌, take, arith}
 use Rattle.std.proofs.lemmas.Bool.Decides.{nat_tests}
-use Rattle.std.proofs.lemmas.List.Elements.{All-head, All-cons, All-nil}
-use Rattle.tm_base.specs.declared.answer.Answer.TheVariants.{Yes, YesBecause, No, NoAt, Refused}
+use Rattle.std.proofs.lemmas.List.Elements.{All-cons, All-nil}
+use Rattle.tm_base.specs.declared.answer.Answer.TheVariants.{No, NoAt}
 use Rattle.tm_base.specs.declared.answer.Rule.TheVariants.{ByteValue, TargetUninhabited}
-use Rattle.tm_base.specs.declared.answer.Side.TheVariants.{Source, Target}
-use Rattle.tm_base.specs.declared.answer.Why.{Why}
-use Rattle.tm_base.specs.declared.answer.Why.TheVariants.{OptionNotListed}
 use Rattle.tm_base.specs.declared.ask.Ask.{Ask}
 use Rattle.tm_base.specs.declared.cell.Cell.TheVariants.{Byte, Uninit, Ptr}
-use Rattle.tm_base.specs.declared.ground.Ground.{Ground, out-Ground, Prim, Never, Wrap}
-use Rattle.tm_base.specs.declared.ground.Primitive.{Primitive}
+use Rattle.tm_base.specs.declared.ground.Ground.{Ground, out-Ground, Prim, Never}
 use Rattle.tm_base.specs.declared.ground.Primitive.TheVariants as p
-use Rattle.tm_base.specs.declared.ground.Wrapper.TheVariants.{Option as option}
-use Rattle.tm_base.specs.Answers.{IsAnswer, AreJudged}
-use Rattle.tm_base.specs.Cells.{Word, fit, IsByte, number_of}
+use Rattle.tm_base.specs.Answers.{IsAnswer}
+use Rattle.tm_base.specs.Cells.{Word, fit, IsByte}
 use Rattle.tm_base.specs.Compatible.{Compatible}
 use Rattle.tm_base.specs.Expanded.{expanded_within, never}
 use Rattle.tm_base.specs.Faults.{fault_of, part_at_fault, is_nullable}
 use Rattle.tm_base.specs.Layout.{layout_of}
-use Rattle.tm_base.specs.Orders.{list_less, word_less, text_less}
+use Rattle.tm_base.specs.Orders.{list_less, word_less}
 use Rattle.tm_base.specs.Parts.{some_part}
-use Rattle.tm_base.specs.Reaches.{IsJudged, Enters, Reaches, LeadsIn}
+use Rattle.tm_base.specs.Reaches.{IsJudged, Enters}
 use Rattle.tm_base.specs.Tables.{Tables, expanded_in}
-use Rattle.tm_base.specs.Texts.{text_of}
 use Rattle.tm_base.specs.Transmutes.{Transmutes}
 use Rattle.tm_base.specs.Valid.{Valid, PrimValid}
-use Rattle.tm_base.specs.Viable.{Viable, RefusesAt}
+use Rattle.tm_base.specs.Viable.{Viable}
 use Rattle.tm_base.specs.Weight.{weight_of}
-use Rattle.tm_base.proofs.JudgedLemmas.{IsJudged-from, LeadsIn-keeps, Contains-none, Contains-one}
-use Rattle.tm_base.proofs.OrderLemmas.{word_less-asym}
-use Rattle.tm_base.proofs.RowCasts.{nothing, bit_word, two_byte, zero_byte}
+use Rattle.tm_base.proofs.JudgedLemmas.{IsJudged-from, Contains-none}
+use Rattle.tm_base.proofs.RowCasts.{nothing, two_byte, zero_byte}
 use Rattle.tm_base.proofs.RowReferences.{byte_to_bool}
 use Rattle.tm_base.proofs.RowTypes.{u8, the_bool}
 
@@ -94,7 +87,8 @@ byte_as_bool-answer = record {
   };
   is_least = (
     λ v p value refused. (omega arith, λ e. not_below_two v value (subst (λ (n : ℕ). Viable (Compatible no_tables nothing) false the_bool (take (n + 1) (fit v 1)) → ⊥) e refused.stops)),
-    tt);
+    tt,
+  );
 }
 
 byte_to_never : (A : ℕ → ℕ → Type 0) → ¬ Transmutes A nothing u8 never

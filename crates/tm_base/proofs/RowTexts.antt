@@ -1,10 +1,9 @@
 -- Canonical texts of small types.
-use Rattle.std.proofs.Common.{◌≡◌, ℕ, refl, true, false, [], ◌∷◌, List}
+use Rattle.std.proofs.Common.{◌≡◌, refl, true, [], ◌∷◌}
 use Rattle.std.specs.Prelude.{codes}
 use Rattle.std.specs.Fmt.{digits}
-use Rattle.tm_base.specs.declared.definition.Def.{Def}
 use Rattle.tm_base.specs.declared.definition.Kind.TheVariants.{Struct}
-use Rattle.tm_base.specs.declared.ground.Ground.{Ground, Prim, Tuple, Array, Named, NonZero, Wrap, Ref}
+use Rattle.tm_base.specs.declared.ground.Ground.{Prim, Tuple, Array, Named, NonZero, Wrap, Ref}
 use Rattle.tm_base.specs.declared.ground.Ground.TheBlock.{hidden-the_row-Ground-0, shape-the_row-Ground-0, hidden-the_row-Ground-1, shape-the_row-Ground-1}
 use Rattle.tm_base.specs.declared.ground.Primitive.TheVariants as p
 use Rattle.tm_base.specs.declared.ground.Wrapper.TheVariants.{Option as option}
