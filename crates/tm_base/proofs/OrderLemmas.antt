@@ -1,5 +1,6 @@
--- The orders of words and of texts are strict, and any two compare.
-use Rattle.std.proofs.Common.{◌≡◌, ℕ, refl, ap, Bool, true, false, ◌||◌, ◌&&◌, not, List, [], ◌∷◌, nat_lt, ◌==◌, arith}
+-- The order of words is strict: of two that aren't one, one is less, and less than less is less. Texts
+-- compare too.
+use Rattle.std.proofs.Common.{◌≡◌, ℕ, refl, ap, Bool, true, false, ◌||◌, ◌&&◌, not, List, [], ◌∷◌, nat_lt, ◌==◌, arith, ⊎_elim, inl, inr, ◌⊎◌, subst, sym}
 use Rattle.std.proofs.lemmas.Bool.Decides.{nat_tests}
 use Rattle.tm_base.specs.declared.cell.RefId.{RefId}
 use Rattle.tm_base.specs.declared.cell.Cell.{Cell}
@@ -100,3 +101,67 @@ word_less-asym [] (d ∷ ds) h = refl
 word_less-asym (c ∷ cs) [] h = cc
 word_less-asym (c ∷ cs) (d ∷ ds) h =
     step_asym (cell_less c d) (cell_less d c) (word_less cs ds) (word_less ds cs) (cell_less-asym c d) (word_less-asym cs ds) h
+
+tests_trans : (r s t j i k : ℕ) → (nat_lt r s || ((r == s) && nat_lt j i)) ≡ true → (nat_lt s t || ((s == t) && nat_lt i k)) ≡ true → (nat_lt r t || ((r == t) && nat_lt j k)) ≡ true
+tests_trans r s t j i k h l = grind (arith, nat_tests)
+
+pub cell_less-trans : (c d e : Cell) → cell_less c d ≡ true → cell_less d e ≡ true → cell_less c e ≡ true
+cell_less-trans (Byte a) (Byte b) (Byte x) h k = grind (arith, nat_tests)
+cell_less-trans (Byte a) (Byte b) Uninit h k = refl
+cell_less-trans (Byte a) (Byte b) (Ptr t i) h k = refl
+cell_less-trans (Byte a) Uninit (Byte x) h k = cc
+cell_less-trans (Byte a) Uninit Uninit h k = cc
+cell_less-trans (Byte a) Uninit (Ptr t i) h k = refl
+cell_less-trans (Byte a) (Ptr s j) (Byte x) h k = cc
+cell_less-trans (Byte a) (Ptr s j) Uninit h k = cc
+cell_less-trans (Byte a) (Ptr s j) (Ptr t i) h k = refl
+cell_less-trans Uninit (Byte b) e h k = cc
+cell_less-trans Uninit Uninit e h k = cc
+cell_less-trans Uninit (Ptr s j) (Byte x) h k = cc
+cell_less-trans Uninit (Ptr s j) Uninit h k = cc
+cell_less-trans Uninit (Ptr s j) (Ptr t i) h k = refl
+cell_less-trans (Ptr r j) (Byte b) e h k = cc
+cell_less-trans (Ptr r j) Uninit e h k = cc
+cell_less-trans (Ptr r j) (Ptr s i) (Byte x) h k = cc
+cell_less-trans (Ptr r j) (Ptr s i) Uninit h k = cc
+cell_less-trans (Ptr r j) (Ptr s i) (Ptr t l) h k = tests_trans r.0 s.0 t.0 j i l h k
+
+head_or_rest : (b c rest : Bool) → (b || (not c && rest)) ≡ true → (b ≡ true) ⊎ ((b ≡ false) × (c ≡ false) × (rest ≡ true))
+head_or_rest true c rest h = inl refl
+head_or_rest false true rest h = cc
+head_or_rest false false rest h = inr (refl, refl, h)
+
+by_head : (b c rest : Bool) → b ≡ true → (b || (not c && rest)) ≡ true
+by_head true c rest h = refl
+by_head false c rest h = cc
+
+by_rest : (b c rest : Bool) → c ≡ false → rest ≡ true → (b || (not c && rest)) ≡ true
+by_rest true c rest e h = refl
+by_rest false true rest e h = cc
+by_rest false false rest e h = h
+
+-- what is less than a list that is less than a third is less than the third, where that holds of items
+pub list_less-trans : {X : Type 0} (less : X → X → Bool) → ((x y : X) → less x y ≡ false → less y x ≡ false → x ≡ y)
+    → ((x y z : X) → less x y ≡ true → less y z ≡ true → less x z ≡ true)
+    → (u v w : List X) → list_less less u v ≡ true → list_less less v w ≡ true → list_less less u w ≡ true
+unfolding list_less
+list_less-trans less total trans [] [] w h k = cc
+list_less-trans less total trans (x ∷ xs) [] w h k = cc
+list_less-trans less total trans [] (y ∷ ys) [] h k = cc
+list_less-trans less total trans [] (y ∷ ys) (z ∷ zs) h k = refl
+list_less-trans less total trans (x ∷ xs) (y ∷ ys) [] h k = cc
+list_less-trans {X} less total trans (x ∷ xs) (y ∷ ys) (z ∷ zs) h k =
+    ⊎_elim
+    (λ (xy : less x y ≡ true). ⊎_elim
+        (λ (yz : less y z ≡ true). by_head (less x z) (less z x) (list_less less xs zs) (trans x y z xy yz))
+        (λ (a, b, rest). by_head (less x z) (less z x) (list_less less xs zs) (subst (λ (q : X). less x q ≡ true) (total y z a b) xy))
+        (head_or_rest (less y z) (less z y) (list_less less ys zs) k))
+    (λ (a, b, rest). ⊎_elim
+        (λ (yz : less y z ≡ true). by_head (less x z) (less z x) (list_less less xs zs) (subst (λ (q : X). less q z ≡ true) (sym (total x y a b)) yz))
+        (λ (a', b', rest'). by_rest (less x z) (less z x) (list_less less xs zs)
+            (subst (λ (q : X). less z q ≡ false) (sym (total x y a b)) b') (list_less-trans less total trans xs ys zs rest rest'))
+        (head_or_rest (less y z) (less z y) (list_less less ys zs) k))
+    (head_or_rest (less x y) (less y x) (list_less less xs ys) h)
+
+pub word_less-trans : (u v w : Word) → word_less u v ≡ true → word_less v w ≡ true → word_less u w ≡ true
+word_less-trans u v w = list_less-trans cell_less cell_less-total cell_less-trans u v w
