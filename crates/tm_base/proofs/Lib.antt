@@ -19,3 +19,4 @@ pub mod GroundLemmas
 pub mod RowTexts
 pub mod ExpandedLemmas
 pub mod WorldLemmas
+pub mod TextLemmas

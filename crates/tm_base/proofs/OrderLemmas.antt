@@ -153,14 +153,14 @@ list_less-trans less total trans (x ∷ xs) (y ∷ ys) [] h k = cc
 list_less-trans {X} less total trans (x ∷ xs) (y ∷ ys) (z ∷ zs) h k =
     ⊎_elim
     (λ (xy : less x y ≡ true). ⊎_elim
-        (λ (yz : less y z ≡ true). by_head (less x z) (less z x) (list_less less xs zs) (trans x y z xy yz))
-        (λ (a, b, rest). by_head (less x z) (less z x) (list_less less xs zs) (subst (λ (q : X). less x q ≡ true) (total y z a b) xy))
-        (head_or_rest (less y z) (less z y) (list_less less ys zs) k))
+    (λ (yz : less y z ≡ true). by_head (less x z) (less z x) (list_less less xs zs) (trans x y z xy yz))
+    (λ (a, b, rest). by_head (less x z) (less z x) (list_less less xs zs) (subst (λ (q : X). less x q ≡ true) (total y z a b) xy))
+    (head_or_rest (less y z) (less z y) (list_less less ys zs) k))
     (λ (a, b, rest). ⊎_elim
-        (λ (yz : less y z ≡ true). by_head (less x z) (less z x) (list_less less xs zs) (subst (λ (q : X). less q z ≡ true) (sym (total x y a b)) yz))
-        (λ (a', b', rest'). by_rest (less x z) (less z x) (list_less less xs zs)
-            (subst (λ (q : X). less z q ≡ false) (sym (total x y a b)) b') (list_less-trans less total trans xs ys zs rest rest'))
-        (head_or_rest (less y z) (less z y) (list_less less ys zs) k))
+    (λ (yz : less y z ≡ true). by_head (less x z) (less z x) (list_less less xs zs) (subst (λ (q : X). less q z ≡ true) (sym (total x y a b)) yz))
+    (λ (a', b', rest'). by_rest (less x z) (less z x) (list_less less xs zs)
+    (subst (λ (q : X). less z q ≡ false) (sym (total x y a b)) b') (list_less-trans less total trans xs ys zs rest rest'))
+    (head_or_rest (less y z) (less z y) (list_less less ys zs) k))
     (head_or_rest (less x y) (less y x) (list_less less xs ys) h)
 
 pub word_less-trans : (u v w : Word) → word_less u v ≡ true → word_less v w ≡ true → word_less u w ≡ true
