@@ -21,6 +21,7 @@ use Rattle.tm_base.specs.Texts.{text_of}
 use Rattle.tm_base.specs.Transmutes.{IsSourceWord, Fits, IsUninhabited, Transmutes}
 use Rattle.tm_base.specs.Viable.{RefusesAt}
 
+-- the type on a side of a question
 abbrev pub side_type : Ask → Side → Ground
 side_type ask Source = ask.src
 side_type ask Target = ask.dst
@@ -30,12 +31,15 @@ module _ (tables : Tables) (ask : Ask) where
   abbrev pub Casts : Type 0
   Casts = Transmutes (Taken tables ask) ask.assume (source tables ask) (target tables ask)
 
+  -- a word of the source
   abbrev pub IsValue : Word → Type 0
   IsValue w = IsSourceWord (source tables ask) w
 
+  -- a word of the source that the target takes
   abbrev pub IsAccepted : Word → Type 0
   IsAccepted w = Fits (Taken tables ask) ask.assume.safety (target tables ask) w
 
+  -- where the target stops going along with a word
   abbrev pub IsRefusedAt : Word → ℕ → Type 0
   IsRefusedAt = RefusesAt (Taken tables ask) ask.assume.safety (target tables ask)
 

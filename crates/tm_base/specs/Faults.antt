@@ -55,14 +55,17 @@ abbrev pub has_two_sized : Expanded → Bool
 has_two_sized (named id Struct repr variants) = repr.transparent && nat_le 2 (sized_count (only (variant_layouts variants)))
 has_two_sized t = false
 
+-- `align` is written on the type
 abbrev pub has_align : Expanded → Bool
 has_align (named id kind repr _) = is_some repr.align
 has_align t = false
 
+-- `packed` is written on the type
 abbrev pub is_packed : Expanded → Bool
 is_packed (named id kind repr _) = is_some repr.packed
 is_packed t = false
 
+-- a cause, where a test says so
 abbrev pub when : Bool → Why → Option Why
 when b why = if b then Some why else None
 
@@ -89,6 +92,7 @@ layout_fault t =
 abbrev pub fault_over : Bool → Expanded → Option Why
 fault_over below t = or_else (own_fault t) (if below then None else layout_fault t)
 
+-- the type is at fault, or a part by value is or holds a type at fault
 abbrev pub at_fault_over : Bool → Expanded → Bool
 at_fault_over below t = is_some (fault_over below t) || below
 

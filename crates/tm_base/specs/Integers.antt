@@ -4,6 +4,7 @@ use Rattle.tm_base.specs.declared.ground.Primitive.{Primitive}
 use Rattle.tm_base.specs.declared.ground.Primitive.TheVariants.{Bool as bool', Char, I8, I16, I32, I64, I128, Isize, F32, F64}
 use Rattle.tm_base.specs.Layout.{prim_size}
 
+-- the integer types that hold negative numbers
 abbrev pub is_signed : Primitive → Bool
 is_signed I8 = true
 is_signed I16 = true
@@ -13,6 +14,7 @@ is_signed I128 = true
 is_signed Isize = true
 is_signed p = false
 
+-- all primitives but `bool`, `char` and the floats
 abbrev pub is_integer : Primitive → Bool
 is_integer bool' = false
 is_integer Char = false

@@ -24,8 +24,10 @@ cell_less (Ptr r j) (Byte b) = false
 cell_less (Ptr r j) Uninit = false
 cell_less (Ptr r j) (Ptr t k) = nat_lt r.0 t.0 || ((r.0 == t.0) && nat_lt j k)
 
+-- the order of words, cell by cell
 abbrev pub word_less : Word → Word → Bool
 word_less = list_less cell_less
 
+-- the order of texts, byte by byte
 abbrev pub text_less : List ℕ → List ℕ → Bool
 text_less = list_less nat_lt

@@ -5,6 +5,7 @@ use Rattle.tm_base.specs.declared.definition.Bound.{Bound}
 use Rattle.tm_base.specs.declared.definition.RegionId.{RegionId}
 use Rattle.tm_base.specs.Reaches.{Leads}
 
+-- the region of what lives to the end
 abbrev pub static : RegionId
 static = record { 0 = 0 }
 

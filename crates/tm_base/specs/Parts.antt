@@ -31,6 +31,7 @@ module _ (test : Expanded → Bool) where
   abbrev pub some_within : Expanded → Bool
   some_within t = test t || some_part t
 
+-- past the greatest depth, or a number that names nothing
 abbrev pub is_too_deep : Expanded → Bool
 is_too_deep too_deep = true
 is_too_deep t = false
@@ -39,6 +40,7 @@ is_too_deep t = false
 abbrev pub is_whole : Expanded → Bool
 is_whole t = not (some_within is_too_deep t)
 
+-- the wrappers whose value may change behind a shared reference
 abbrev pub is_cell_wrapper : Wrapper → Bool
 is_cell_wrapper cell = true
 is_cell_wrapper UnsafeCell = true
@@ -53,10 +55,12 @@ is_cell t = false
 abbrev pub has_interior : Expanded → Bool
 has_interior = some_within is_cell
 
+-- how many fields there are
 abbrev pub field_count : Fields → ℕ
 field_count no_fields = 0
 field_count (field public t rest) = 1 + field_count rest
 
+-- how many variants there are
 abbrev pub variant_count : Variants → ℕ
 variant_count no_variants = 0
 variant_count (variant value members rest) = 1 + variant_count rest
@@ -66,18 +70,22 @@ abbrev pub total_fields : Variants → ℕ
 total_fields no_variants = 0
 total_fields (variant value members rest) = field_count members + total_fields rest
 
+-- the one primitive whose bytes depend on one another
 abbrev pub is_char : Primitive → Bool
 is_char Char = true
 is_char p = false
 
+-- the wrapper that adds a word of bytes 00
 abbrev pub is_option : Wrapper → Bool
 is_option option = true
 is_option w = false
 
+-- the wrapper that takes free bytes
 abbrev pub is_maybe_uninit : Wrapper → Bool
 is_maybe_uninit MaybeUninit = true
 is_maybe_uninit w = false
 
+-- a union has two fields or more, or an enum two variants or more
 abbrev pub has_several : Kind → Variants → Bool
 has_several Struct _ = false
 has_several Union variants = nat_le 2 (total_fields variants)

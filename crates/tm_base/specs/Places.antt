@@ -23,6 +23,7 @@ named_places Struct repr variants = map (if repr.transparent then at_front else 
 named_places Union repr variants = map at_front (variant_layouts variants)
 named_places Enum repr variants = map (variant_places repr (fields_place repr variants)) (variant_layouts variants)
 
+-- for each variant of a type, where each of its fields stands
 abbrev pub places_of : Expanded → List (List ℕ)
 places_of (named id kind repr variants) = named_places kind repr variants
 places_of t = []

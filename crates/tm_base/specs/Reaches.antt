@@ -19,14 +19,17 @@ module _ {X : Type 0} (Step : X → X → Type 0) where
   abbrev pub Leads : X → X → Type 0
   Leads a b = (n : ℕ) × LeadsIn n a b
 
+-- the part that a wrapper holds: none under `PhantomData`
 abbrev pub argument_of : Wrapper → Ground → List Ground
 argument_of PhantomData g = []
 argument_of _ g = g ∷ []
 
+-- the fields of all variants of a named type
 abbrev pub row_parts : Option NamedRow → List Ground
 row_parts None = []
 row_parts (Some row) = flat_map (λ types. types) row.types
 
+-- what a reference points to
 abbrev pub row_pointee : Option RefRow → List Ground
 row_pointee None = []
 row_pointee (Some row) = row.pointee ∷ []
@@ -44,9 +47,11 @@ abbrev pub pointees_within : List RefRow → Ground-F Ground → List Ground
 pointees_within refs (Ground-F.Ref r) = row_pointee (slice_get refs r.0)
 pointees_within refs _ = []
 
+-- the parts of a type by value, over these tables
 abbrev pub parts_of : Tables → Ground → List Ground
 parts_of tables g = parts_within tables.named (out-Ground g)
 
+-- the pointee of a reference, over these tables
 abbrev pub pointees_of : Tables → Ground → List Ground
 pointees_of tables g = pointees_within tables.refs (out-Ground g)
 

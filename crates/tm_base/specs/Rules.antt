@@ -16,6 +16,7 @@ use Rattle.tm_base.specs.Layout.{size_of}
 use Rattle.tm_base.specs.Tables.{Tables, expanded_in, OnRows}
 use Rattle.tm_base.specs.Viable.{HasWord, Viable, StandsOpen}
 
+-- the rule of a no that a local rule gives
 abbrev pub rule_of : LocalRule → Rule
 rule_of MoreUnique = RefMoreUnique
 rule_of too_big = RefTooBig
@@ -34,6 +35,7 @@ module _ (tables : Tables) (ask : Ask) where
   abbrev pub Taken : ℕ → ℕ → Type 0
   Taken = Compatible tables ask.assume
 
+  -- the target has a word, with private types open or closed
   abbrev pub HasTargetWord : Bool → Type 0
   HasTargetWord keep = HasWord Taken keep target
 

@@ -53,6 +53,7 @@ module _ (follow : RefId → Spelled) where
 abbrev pub reference_limit : ℕ
 reference_limit = 64
 
+-- a reference with its pointee, spelled
 abbrev pub follow_row : (Ground → Spelled) → Option RefRow → Spelled
 follow_row pointee None = endless
 follow_row pointee (Some row) = ref row.mutable row.region (pointee row.pointee)
@@ -62,6 +63,7 @@ unfoldable pub spelled_within : ℕ → List RefRow → Ground → Spelled
 spelled_within zero refs = spell (λ r. endless)
 spelled_within (suc n) refs = spell (λ r. follow_row (spelled_within n refs) (slice_get refs r.0))
 
+-- a type as a world's references have it
 abbrev pub spelled : List RefRow → Ground → Spelled
 spelled = spelled_within reference_limit
 

@@ -12,6 +12,7 @@ use Rattle.tm_base.specs.declared.ground.Wrapper.TheVariants.{Option as option, 
 use Rattle.tm_base.specs.Spelled.{Spelled, Elements, endless, prim, never, unit, tuple, array, named, nonzero, wrap, ref, no_elements, element, spelled}
 use Rattle.tm_base.specs.Tables.{Tables}
 
+-- the words of the primitives
 abbrev pub prim_text : Primitive → List ℕ
 prim_text bool' = codes "bool"
 prim_text Char = codes "char"
@@ -30,6 +31,7 @@ prim_text Isize = codes "isize"
 prim_text F32 = codes "f32"
 prim_text F64 = codes "f64"
 
+-- the words of the wrappers
 abbrev pub wrapper_text : Wrapper → List ℕ
 wrapper_text option = codes "Option"
 wrapper_text MaybeUninit = codes "MaybeUninit"
@@ -55,6 +57,7 @@ tuple_text (text ∷ []) = codes "(" ++ text ++ codes ",)"
 tuple_text texts = codes "(" ++ separated texts ++ codes ")"
 
 module _ (tables : Tables) where
+  -- a region's name, with its quote
   abbrev pub region_text : RegionId → List ℕ
   region_text region = unwrap_or (slice_get tables.regions region.0) []
 
@@ -63,10 +66,12 @@ module _ (tables : Tables) where
   with_regions name [] = name
   with_regions name (region ∷ regions) = applied name (separated (map region_text (region ∷ regions)))
 
+  -- a definition's name with regions
   abbrev pub def_text : List RegionId → Option Def → List ℕ
   def_text regions None = []
   def_text regions (Some def) = with_regions def.name regions
 
+  -- a named type, by its definition and its regions
   abbrev pub row_text : Option NamedRow → List ℕ
   row_text None = []
   row_text (Some row) = def_text row.regions (slice_get tables.defs row.def.0)

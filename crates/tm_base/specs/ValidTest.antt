@@ -14,16 +14,19 @@ use Rattle.tm_base.specs.Layout.{prim_size, place_at, tag_layout, layout_of, siz
 use Rattle.tm_base.specs.Orders.{word_less}
 use Rattle.tm_base.specs.Valid.{all_public, fields_place, first_place, twos_complement}
 
+-- as `IsByte`
 abbrev pub is_byte : Cell → Bool
 is_byte (Byte b) = nat_lt b 256
 is_byte Uninit = false
 is_byte (Ptr r k) = false
 
+-- as `IsFree`
 abbrev pub is_free : Cell → Bool
 is_free (Byte b) = nat_lt b 256
 is_free Uninit = true
 is_free (Ptr r k) = false
 
+-- as `AreBytes`
 abbrev pub are_bytes : ℕ → Word → Bool
 are_bytes n w = (length w == n) && list_all is_byte w
 
@@ -31,9 +34,11 @@ are_bytes n w = (length w == n) && list_all is_byte w
 abbrev pub word_same : Word → Word → Bool
 word_same v w = not (word_less v w) && not (word_less w v)
 
+-- as `IsScalar`
 abbrev pub is_scalar : ℕ → Bool
 is_scalar n = nat_le n 0xD7FF || (nat_le 0xE000 n && nat_le n 0x10FFFF)
 
+-- as `PrimValid`
 abbrev pub prim_test : Primitive → Word → Bool
 prim_test bool' w = are_bytes 1 w && nat_le (number_of w) 1
 prim_test Char w = are_bytes 4 w && is_scalar (number_of w)
@@ -44,6 +49,7 @@ abbrev pub times_test : ℕ → ℕ → (Word → Bool) → Word → Bool
 times_test zero s test w = word_same w []
 times_test (suc n) s test w = test (take s w) && times_test n s test (drop s w)
 
+-- as `WrapValid`
 abbrev pub wrap_test : Wrapper → ℕ → (Word → Bool) → Word → Bool
 wrap_test option n test w = word_same w (replicate n (Byte 0)) || test w
 wrap_test MaybeUninit n test w = ((length w == n) && list_all is_free w) || test w
@@ -56,6 +62,7 @@ first_ref (Byte b ∷ w) = 0
 first_ref (Uninit ∷ w) = 0
 first_ref (Ptr r k ∷ w) = r.0
 
+-- as `IsTag`
 abbrev pub tag_test : ℕ → ℤ → Word → Bool
 tag_test n value w = are_bytes n w && (number_of w == twos_complement n value)
 

@@ -61,6 +61,7 @@ abbrev pub is_type_in_form : List Def → List NamedRow → List RefRow → Grou
 is_type_in_form defs named refs g =
     is_head_in_form (length named) (length refs) (out-Ground g) && is_whole (expanded defs named g) && ends (spelled refs g)
 
+-- each type of a world
 unfoldable pub are_types_in_form : List Def → List NamedRow → List RefRow → List Ask → Bool
 are_types_in_form defs named refs questions = list_all (is_type_in_form defs named refs) (all_types named refs questions)
 
@@ -68,6 +69,7 @@ are_types_in_form defs named refs questions = list_all (is_type_in_form defs nam
 abbrev pub is_bound_known : ℕ → Bound → Bool
 is_bound_known regions bound = nat_lt bound.longer.0 regions && nat_lt bound.shorter.0 regions
 
+-- each number of a region names one
 unfoldable pub are_regions_known : ℕ → List Bound → List NamedRow → List RefRow → Bool
 are_regions_known regions bounds named refs =
     list_all (is_bound_known regions) bounds
@@ -81,6 +83,7 @@ has_its_types [] (gs ∷ types) = false
 has_its_types (v ∷ variants) [] = false
 has_its_types (v ∷ variants) (gs ∷ types) = (length v.fields == length gs) && has_its_types variants types
 
+-- a named type has what its definition asks for
 abbrev pub is_row_of : Option Def → NamedRow → Bool
 is_row_of None row = false
 is_row_of (Some def) row = has_its_types def.variants row.types
@@ -93,10 +96,12 @@ are_rows_in_form defs named = list_all (λ row. is_row_of (slice_get defs row.de
 abbrev pub is_alignment : ℕ → Bool
 is_alignment n = list_any (λ k. n == 2 ^ k) (range_with_len 0 30)
 
+-- a number that is written passes a test
 abbrev pub is_absent_or : (ℕ → Bool) → Option ℕ → Bool
 is_absent_or test None = true
 is_absent_or test (Some n) = test n
 
+-- how many fields all variants have
 abbrev pub field_total : List Variant → ℕ
 field_total variants = sum (map (λ v. length v.fields) variants)
 
@@ -131,6 +136,7 @@ are_variants_in_form Struct variants = length variants == 1
 are_variants_in_form Union variants = (length variants == 1) && nat_lt 0 (field_total variants)
 are_variants_in_form Enum variants = true
 
+-- a definition: representation, alignments, variants, discriminants and counts
 abbrev pub is_def_in_form : Def → Bool
 is_def_in_form def =
     is_repr_in_form def.kind def.repr def.variants
@@ -139,6 +145,7 @@ is_def_in_form def =
     && list_all (λ v. is_value_in_form def.repr.tag v.value) def.variants
     && nat_le (length def.variants) 256 && nat_le (field_total def.variants) 256
 
+-- each definition of a world
 unfoldable pub are_defs_in_form : List Def → Bool
 are_defs_in_form = list_all is_def_in_form
 
