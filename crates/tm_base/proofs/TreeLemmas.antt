@@ -1,5 +1,5 @@
 -- What the words of a tree are, at each kind of tree that holds others.
-use Rattle.std.proofs.Common.{◌≡◌, ℕ, sym, subst, Bool, List, [], ◌∷◌, ◌++◌, ◌↔◌, ◌⊎◌, inl, inr, IsTrue, ⊎_elim}
+use Rattle.std.proofs.Common.{ℕ, sym, subst, Bool, List, ◌↔◌, inl, inr, IsTrue, ⊎_elim}
 use Rattle.tm_base.specs.declared.tree.Tree.{Tree, Row_of-Tree, end_of-Tree, more_of-Tree, items-the_row-Tree, items_hidden-the_row-Tree-0, Seq, Alt, Repeat, Private}
 use Rattle.tm_base.specs.declared.tree.Tree.TheBlock.{hidden-the_row-Tree-0, shape-the_row-Tree-1, hidden-the_row-Tree-1}
 use Rattle.tm_base.specs.Cells.{Word, Times}

@@ -1,8 +1,7 @@
 -- Which words are values of a type. The Rust Reference, "Behavior considered undefined", "Invalid
 -- values", and the pages of std on `bool`, `char`, `NonZero`, `MaybeUninit`, `Option` ("Representation")
 -- and the other wrappers. What unions, padding, private fields and references take is this project's.
-use Rattle.std.specs.Prelude.{◌≡◌, ℕ, ◌+◌, ◌-◌, ◌*◌, ◌^◌, ◌<◌, ◌≤◌, ◌⊎◌, Bool, true, false, ◌&&◌, ◌||◌, IsTrue, if◌then◌else◌, ℤ, pos, negsuc, Option, Some, None, List, [], ◌∷◌, ◌++◌, length, replicate, All}
-use Rattle.tm_base.specs.declared.cell.Cell.{Cell}
+use Rattle.std.specs.Prelude.{◌≡◌, ℕ, ◌+◌, ◌-◌, ◌^◌, ◌<◌, ◌≤◌, ◌⊎◌, Bool, true, ◌&&◌, ◌||◌, IsTrue, if◌then◌else◌, ℤ, pos, negsuc, Option, None, [], ◌++◌, length, replicate, All}
 use Rattle.tm_base.specs.declared.cell.Cell.TheVariants.{Byte}
 use Rattle.tm_base.specs.declared.definition.Kind.TheVariants.{Struct, Union, Enum}
 use Rattle.tm_base.specs.declared.definition.Repr.{Repr}
@@ -12,7 +11,7 @@ use Rattle.tm_base.specs.declared.ground.Wrapper.{Wrapper}
 use Rattle.tm_base.specs.declared.ground.Wrapper.TheVariants.{Option as option, MaybeUninit}
 use Rattle.tm_base.specs.Cells.{Word, IsByte, IsFree, number_of, pointer_of, Times}
 use Rattle.tm_base.specs.Expanded.{Expanded, Fields, Variants, too_deep, prim, never, unit, tuple, array, nonzero, phantom, wrap, ref, named, no_fields, field, no_variants, variant}
-use Rattle.tm_base.specs.Layout.{Layout, prim_size, round_up, place_at, greatest_align, structs, tag_layout, layout_of, size_of, variant_layouts}
+use Rattle.tm_base.specs.Layout.{prim_size, round_up, place_at, greatest_align, structs, tag_layout, layout_of, size_of, variant_layouts}
 
 -- initialised bytes, so many of them
 abbrev pub AreBytes : ℕ → Word → Type 0

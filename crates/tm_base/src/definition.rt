@@ -75,3 +75,10 @@ pub struct RefRow {
     pub region: RegionId,
     pub pointee: Ground,
 }
+
+/// An item `outlives`: the region `longer` outlives the region `shorter`.
+#[derive(Clone, Copy, PartialEq, Eq, Debug)]
+pub struct Bound {
+    pub longer: RegionId,
+    pub shorter: RegionId,
+}

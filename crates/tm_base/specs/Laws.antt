@@ -1,0 +1,74 @@
+-- The laws of these definitions, which the functions of `laws` have as their contracts.
+use Rattle.std.specs.Prelude.{◌≡◌, ℕ, suc, ◌*◌, ◌<◌, ◌≤◌, ◌⊎◌, ◌↔◌, ◌+◌, Bool, false, IsTrue, Option, List, [], ◌∷◌, length}
+use Rattle.tm_base.specs.declared.answer.Answer.{Answer}
+use Rattle.tm_base.specs.declared.ask.Ask.{Ask}
+use Rattle.tm_base.specs.declared.assume.Assume.{Assume}
+use Rattle.tm_base.specs.declared.ground.Ground.{Ground}
+use Rattle.tm_base.specs.Answers.{IsAnswer, NoSharedTexts}
+use Rattle.tm_base.specs.Assumptions.{Includes}
+use Rattle.tm_base.specs.Cells.{Word}
+use Rattle.tm_base.specs.Compatible.{CompatibleTo, Compatible}
+use Rattle.tm_base.specs.Expanded.{Expanded}
+use Rattle.tm_base.specs.Layout.{Layout, round_up, places, struct_layout, size_of}
+use Rattle.tm_base.specs.Orders.{word_less}
+use Rattle.tm_base.specs.Tables.{Tables, expanded_in}
+use Rattle.tm_base.specs.Transmutes.{Transmutes, IsUninhabited, IsSourceWord, holds}
+use Rattle.tm_base.specs.Valid.{Valid}
+use Rattle.tm_base.specs.ValidTest.{valid_test}
+
+-- what `round_up` gives: a multiple, not below, and no lesser one
+pub record IsRoundedUp (n a m : ℕ) : Type 0 where
+  pub multiple : (k : ℕ) × (m ≡ k * a)
+  pub above : n ≤ m
+  pub least : (k : ℕ) → n ≤ k * a → m ≤ k * a
+
+abbrev pub RoundsUp : Type 0
+RoundsUp = (n a : ℕ) → 0 < a → IsRoundedUp n a (round_up n a)
+
+-- Each field stands at the end of the one before it or behind it, and none ends past the number.
+unfoldable pub Apart : ℕ → List ℕ → List Layout → ℕ → Type 0
+Apart at [] ls end = at ≤ end
+Apart at (place ∷ ps) [] end = ⊥
+Apart at (place ∷ ps) (l ∷ ls) end = (at ≤ place) × Apart (place + l.size) ps ls end
+
+-- the fields of a `repr(C)` struct don't overlap, and stay inside it
+abbrev pub FieldsStandApart : Type 0
+FieldsStandApart = (packed align : Option ℕ) (ls : List Layout) → Apart 0 (places packed 0 ls) ls (struct_layout packed align ls).size
+
+-- a word of a type has the type's size
+abbrev pub WordsHaveTheirSize : Type 0
+WordsHaveTheirSize = (A : ℕ → ℕ → Bool) (keep : Bool) (t : Expanded) (w : Word) → Valid (holds A) keep t w → length w ≡ size_of t
+
+-- more words are valid where references may hold more, or more private types keep their words
+abbrev pub ValidityGrows : Type 0
+ValidityGrows =
+    (A B : ℕ → ℕ → Bool) (keep more : Bool) → ((x t : ℕ) → IsTrue (A x t) → IsTrue (B x t)) → (IsTrue keep → IsTrue more)
+    → (t : Expanded) (w : Word) → Valid (holds A) keep t w → Valid (holds B) more t w
+
+-- the test of validity is exact
+abbrev pub TestIsExact : Type 0
+TestIsExact = (A : ℕ → ℕ → Bool) (keep : Bool) (t : Expanded) (w : Word) → IsTrue (valid_test A keep t w) ↔ Valid (holds A) keep t w
+
+-- compatible to a depth is compatible to each lesser one
+abbrev pub DepthsAgree : Type 0
+DepthsAgree = (tables : Tables) (assume : Assume) (n r t : ℕ) → CompatibleTo tables assume (suc n) r t → CompatibleTo tables assume n r t
+
+-- of two words that aren't one, one is less
+abbrev pub WordsCompare : Type 0
+WordsCompare = (v w : Word) → word_less v w ≡ false → word_less w v ≡ false → v ≡ w
+
+-- the type has no value, or one is known
+abbrev pub IsSettled : Expanded → Type 0
+IsSettled s = IsUninhabited s ⊎ ((w : Word) × IsSourceWord s w)
+
+-- What may be taken may be taken under more assumptions, where it is known of each type whether it has
+-- a value: under `validity` a cast of a type with values wants one that fits.
+abbrev pub MoreMayBeAssumed : Type 0
+MoreMayBeAssumed =
+    (tables : Tables) (more less : Assume) → Includes more less → ((g : Ground) → IsSettled (expanded_in tables g)) → (g h : Ground)
+    → Transmutes (Compatible tables less) less (expanded_in tables g) (expanded_in tables h)
+    → Transmutes (Compatible tables more) more (expanded_in tables g) (expanded_in tables h)
+
+-- a question has one answer at most
+abbrev pub AnswersAreUnique : Type 0
+AnswersAreUnique = (tables : Tables) (ask : Ask) → NoSharedTexts tables ask → (a b : Answer) → IsAnswer tables ask a → IsAnswer tables ask b → a ≡ b
