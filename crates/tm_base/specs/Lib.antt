@@ -5,3 +5,4 @@ pub mod Layout
 pub mod Valid
 pub mod Transmutes
 pub mod Trees
+pub mod Shapes

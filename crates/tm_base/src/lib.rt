@@ -9,6 +9,7 @@ mod definition;
 mod ground;
 mod list;
 mod memory;
+mod reference;
 mod text;
 mod tree;
 
@@ -20,5 +21,6 @@ pub use definition::{Def, DefId, Field, Kind, NamedRow, RefRow, RegionId, Repr, 
 pub use ground::{Ground, NamedId, Primitive, Wrapper};
 pub use list::List;
 pub use memory::Memory;
+pub use reference::{Equal, RefTest};
 pub use text::Text;
 pub use tree::Tree;

@@ -1,0 +1,8 @@
+//! Byte automata.
+#![tactic(auto)]
+
+mod edge;
+mod set;
+
+pub use edge::{Edge, Label, Symbol};
+pub use set::StateSet;
