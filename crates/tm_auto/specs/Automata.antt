@@ -1,6 +1,6 @@
 -- What an automaton is, and what its words are.
-use Rattle.std.specs.Prelude.{◌≡◌, ℕ, Bool, ◌<◌, ◌⊎◌, ◌↔◌, ◌==◌, nat_lt, filter, List, [], ◌∷◌, ◌++◌, length}
-use Rattle.std.specs.List.Sorted.{IsNonDecreasingBy, IsStrictlyIncreasing}
+use Rattle.std.specs.Prelude.{◌≡◌, ℕ, Bool, ◌<◌, ◌≤◌, ◌⊎◌, ◌↔◌, ◌==◌, nat_lt, filter, List, [], ◌∷◌, ◌++◌, length}
+use Rattle.std.specs.List.Sorted.{IsStrictlyIncreasing}
 use Rattle.tm_base.specs.Cells.{Word, OrOwn}
 use Rattle.tm_base.specs.Transmutes.{holds}
 use Rattle.tm_auto.specs.declared.edge.Edge.{Edge}
@@ -46,10 +46,15 @@ HasOneStateALayer auto = (k s t : ℕ) → IsInLayer auto k s → IsInLayer auto
 abbrev pub IsEntered : List Edge → List ℕ → ℕ → Type 0
 IsEntered es starts s = Among s starts ⊎ ((e : Edge) × Among e es × (e.to ≡ s))
 
+-- no edge stands behind one that leaves a later state
+abbrev pub IsOrdered : List Edge → Type 0
+IsOrdered [] = Unit {0}
+IsOrdered (e ∷ es) = ((f : Edge) → Among f es → e.from ≤ f.from) × IsOrdered es
+
 -- What every automaton has, said of its edges, of two that meet, and of the size of its words.
 pub record IsAutomaton (auto : Automaton) : Type 0 where
   pub down : (e : Edge) → Among e auto.edges → (e.to < e.from) × (e.from < auto.states)
-  pub ordered : IsNonDecreasingBy (λ e. e.from) auto.edges
+  pub ordered : IsOrdered auto.edges
   pub left : (s : ℕ) → 0 < s → s < auto.states → (e : Edge) × Among e auto.edges × (e.from ≡ s)
   pub entered : (s : ℕ) → s < auto.states → IsEntered auto.edges auto.starts s
   pub takes : (e : Edge) → Among e auto.edges → CanTake e.label

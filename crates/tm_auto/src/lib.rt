@@ -1,6 +1,7 @@
 //! Byte automata.
 #![tactic(auto)]
 
+mod build;
 mod edge;
 mod set;
 

@@ -1,6 +1,6 @@
 ghost use Rattle.std.specs.Prelude.{◌≡◌, [], ◌∷◌, ◌↔◌, ◌≤◌, IsTrue, IfOk, OnOk, OnErr, IfSome, IfNone, insert, length};
 ghost use Rattle.std.specs.List.Sorted.{IsStrictlyIncreasing};
-ghost use Rattle.tm_auto.specs.Sets.{with_state};
+ghost use Rattle.tm_auto.specs.Sets.{with_state, with_states};
 
 use smallvec::SmallVec;
 use std::alloc::Global;
@@ -80,6 +80,16 @@ impl StateSet {
                 Err(_) => Err(Memory),
             },
         }
+    }
+
+    /// Puts each of the states in its place.
+    pub(crate) fn insert_all(&mut self, states: &[u32]) -> Result<(), Memory>
+        ensures { OnOk result (self.new ≡ with_states states.now self.old) }
+    {
+        for state in states {
+            self.insert(*state)?;
+        }
+        Ok(())
     }
 }
 
