@@ -1,5 +1,5 @@
 -- Trees of one cell, which share a state.
-use Rattle.std.proofs.Common.{◌≡◌, ◌≢◌, ℕ, suc, ◌+◌, ◌-◌, ◌<◌, ◌≤◌, ◌⊎◌, inl, inr, Bool, true, false, cond, nat_le, List, [], ◌∷◌, ◌++◌, length, take, get_or, refl, sym, ap, ◌∙◌, subst, arith, ◌↔◌, ⊎_elim, Option, Some, None, is_some, add-one}
+use Rattle.std.proofs.Common.{◌≡◌, ◌≢◌, ℕ, zero, suc, ◌+◌, ◌-◌, ◌^◌, ◌<◌, ◌≤◌, ◌⊎◌, inl, inr, Bool, true, false, cond, nat_le, List, [], ◌∷◌, ◌++◌, length, take, get_or, refl, sym, ap, ◌∙◌, subst, arith, ◌↔◌, ⊎_elim, Option, Some, None, is_some, add-one}
 use Rattle.std.proofs.Math.Seq.{take-suc}
 use Rattle.tm_base.specs.declared.cell.Cell.{Cell}
 use Rattle.tm_base.specs.declared.cell.Cell.TheVariants.{Byte}
@@ -125,3 +125,24 @@ cells_more ts t label es fs gs n m k targets starts more r some e can puts share
     let em : more ≡ n ∷ [] = shared.start ∙ one in
     let made2 : Makes ⊥ (leaves_where is_cell (ts ++ t ∷ [])) (λ A. LooseOneWhere (holds A) is_cell (ts ++ t ∷ [])) es gs n k targets more = rw (eg, ek, em) made in
     (made2, inr (em, ek))
+
+-- ---- along a list of trees
+
+pub take_one : (ts : List Tree) (i : ℕ) (t : Tree) → i < length ts → t ≡ get_or ts i t → take (i + 1) ts ≡ take i ts ++ t ∷ []
+take_one ts i t l e = rw add-one (take-suc ts i t l ∙ ap (λ (z : Tree). take i ts ++ z ∷ []) (sym e))
+
+pub leaves_where-take : (p : Tree → Bool) (ts : List Tree) (i : ℕ) → leaves_where p (take i ts) ≤ leaves_where p ts
+leaves_where-take p [] zero = omega arith
+leaves_where-take p [] (suc i) = omega arith
+leaves_where-take p (t ∷ ts) zero = omega arith
+leaves_where-take p (t ∷ ts) (suc i) = let h = leaves_where-take p ts i in omega arith
+
+pub no_label : (t : Tree) → cell_of t ≡ None → is_cell t ≡ false
+no_label t e = ap is_some e
+
+pub room_for_cell : (ts : List Tree) (i : ℕ) (t : Tree) (label : Label) (n m : ℕ) → i < length ts → t ≡ get_or ts i t → cell_of t ≡ Some label → m ≤ n + leaves_where is_cell (take i ts) → n + leaves_where is_cell ts ≤ 2 ^ 31 → m + 1 ≤ 2 ^ 31
+room_for_cell ts i t label n m l e q few room =
+    let all = leaves_where-take is_cell ts (i + 1) in
+    let one = ap (leaves_where is_cell) (take_one ts i t l e) ∙ leaves_where-add is_cell (take i ts) t (ap is_some q) in
+    let leaf = (cell_is t label q).leaf in
+    omega arith

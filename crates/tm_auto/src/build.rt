@@ -1,6 +1,6 @@
 //! The builder. It goes from the end of the words to their beginning: in front of some states, the
 //! targets, it puts those of a tree, and answers at which of them the tree's words begin.
-ghost use Rattle.std.specs.Prelude.{◌≡◌, ℕ, ◌+◌, ◌*◌, ◌^◌, ◌<◌, ◌≤◌, ◌≢◌, ◌++◌, ◌∷◌, [], List, Bool, IfOk, OnOk, length};
+ghost use Rattle.std.specs.Prelude.{◌≡◌, ℕ, ◌+◌, ◌*◌, ◌^◌, ◌<◌, ◌≤◌, ◌≢◌, ◌++◌, ◌∷◌, [], List, Bool, IfOk, IfSome, OnOk, length};
 ghost use Rattle.tm_base.specs.Cells.{Times};
 ghost use Rattle.tm_base.specs.Shapes.{leaves_of, HasNoPrivate, HasNoAlternatives};
 ghost use Rattle.tm_base.specs.Transmutes.{holds};
@@ -75,20 +75,21 @@ fn settle(b: &mut Building, edges: usize, states: u32, starts: StateSet) -> Stat
     starts
 }
 
+// The bytes of a reference, the last one first.
 fn grow_ref(
     alloc: Global,
     b: &mut Building,
-    reference: RefId,
+    id: u32,
     targets: &StateSet,
 ) -> Result<StateSet, Memory>
     requires some { targets.now ≢ [] }
     requires room { b.old.states + 8 ≤ 2 ^ 31 }
     requires ready { IsReady b.old.edges.items b.old.states targets.now }
-    ensures { IfOk result (λ starts. MakesBy (MayFollow reference 0) (Unit {0}) 8 (λ A. LooseBytes (holds A) reference.0 0 8) b.old.edges.items b.new.edges.items b.old.states b.new.states targets.now starts) }
+    ensures { IfOk result (λ starts. MakesBy (MayFollow (record { 0 = id }) 0) (Unit {0}) 8 (λ A. LooseBytes (holds A) id 0 8) b.old.edges.items b.new.edges.items b.old.states b.new.states targets.now starts) }
 {
     let mut starts = targets.copy(alloc)?;
     for turn in 0..8 {
-        starts = put(alloc, b, Label::Leaf(reference, 7 - turn), &starts)?;
+        starts = put(alloc, b, Label::Leaf(RefId(id), 7 - turn), &starts)?;
     }
     Ok(starts)
 }
@@ -118,7 +119,7 @@ pub(crate) fn grow(
             }
         }
         Tree::Pad => put(alloc, b, Label::Free, targets),
-        Tree::Ref(reference) => grow_ref(alloc, b, *reference, targets),
+        Tree::Ref(reference) => grow_ref(alloc, b, reference.0, targets),
         Tree::Seq(trees) => grow_seq(alloc, b, trees.as_slice(), targets),
         Tree::Alt(trees) => match trees.as_slice() {
             [only] => grow(alloc, b, only, targets),
@@ -248,7 +249,8 @@ fn put_or_share(
 
 // The label of a tree that is one cell and has a word.
 fn label_of(tree: &Tree) -> Option<Label>
-    ensures { result ≡ cell_of tree.now }
+    ensures label { result ≡ cell_of tree.now }
+    ensures can { IfSome result (λ label. CanTake label) }
 {
     match tree {
         Tree::Range(low, high) => {
