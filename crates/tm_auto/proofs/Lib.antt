@@ -5,3 +5,4 @@ pub mod GrowLemmas
 pub mod LooseLemmas
 pub mod MakeLemmas
 pub mod CellLemmas
+pub mod CaseLemmas

@@ -1,6 +1,6 @@
 //! The builder. It goes from the end of the words to their beginning: in front of some states, the
 //! targets, it puts those of a tree, and answers at which of them the tree's words begin.
-ghost use Rattle.std.specs.Prelude.{◌≡◌, ℕ, ◌+◌, ◌*◌, ◌^◌, ◌<◌, ◌≤◌, ◌≢◌, ◌++◌, ◌∷◌, [], List, Bool, IfOk, IfSome, OnOk, length};
+ghost use Rattle.std.specs.Prelude.{◌≡◌, ℕ, ◌+◌, ◌*◌, ◌^◌, ◌<◌, ◌≤◌, ◌≢◌, ◌++◌, ◌∷◌, [], List, Bool, IfOk, IfNone, IfSome, OnOk, length};
 ghost use Rattle.tm_base.specs.Cells.{Times};
 ghost use Rattle.tm_base.specs.Shapes.{leaves_of, HasNoPrivate, HasNoAlternatives};
 ghost use Rattle.tm_base.specs.Transmutes.{holds};
@@ -121,9 +121,9 @@ pub(crate) fn grow(
         Tree::Pad => put(alloc, b, Label::Free, targets),
         Tree::Ref(reference) => grow_ref(alloc, b, reference.0, targets),
         Tree::Seq(trees) => grow_seq(alloc, b, trees.as_slice(), targets),
-        Tree::Alt(trees) => match trees.as_slice() {
-            [only] => grow(alloc, b, only, targets),
-            many => grow_alt(alloc, b, many, targets),
+        Tree::Alt(trees) => match only_of(trees.as_slice()) {
+            Some(only) => grow(alloc, b, only, targets),
+            None => grow_alt(alloc, b, trees.as_slice(), targets),
         },
         Tree::Repeat(count, turn) => grow_times(alloc, b, *count, turn.get(), targets),
         Tree::Private(_) => Ok(StateSet::new(alloc)),
@@ -198,7 +198,7 @@ fn grow_alt(
             Some(_) => {}
             None => {
                 let more = grow(alloc, b, tree, targets)?;
-                starts.insert_all(more.as_slice())?;
+                starts.insert_all(more)?;
             }
         }
     }
@@ -244,6 +244,17 @@ fn put_or_share(
     } else {
         connect(&mut b.edges, b.states - 1, label, targets.as_slice())?;
         Ok(starts)
+    }
+}
+
+// The tree, where it is one alone.
+fn only_of(trees: &[Tree]) -> Option<&Tree>
+    ensures one { IfSome result (λ tree. trees.now ≡ tree.now ∷ []) }
+    ensures none { IfNone result (length trees.now ≢ 1) }
+{
+    match trees {
+        [only] => Some(only),
+        _ => None,
     }
 }
 

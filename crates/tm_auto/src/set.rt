@@ -82,11 +82,11 @@ impl StateSet {
         }
     }
 
-    /// Puts each of the states in its place.
-    pub(crate) fn insert_all(&mut self, states: &[u32]) -> Result<(), Memory>
-        ensures { OnOk result (self.new ≡ with_states states.now self.old) }
+    /// Puts each state of the other set in its place.
+    pub(crate) fn insert_all(&mut self, more: StateSet) -> Result<(), Memory>
+        ensures { OnOk result (self.new ≡ with_states more self.old) }
     {
-        for state in states {
+        for state in more.as_slice() {
             self.insert(*state)?;
         }
         Ok(())

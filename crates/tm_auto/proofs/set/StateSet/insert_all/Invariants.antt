@@ -3,4 +3,4 @@ use Rattle.tm_auto.specs.Sets.{with_states}
 use Rattle.tm_auto.proofs.set.StateSet.insert_all.Given as goal
 
 abbrev pub invariant-loop-state : goal.invariant-loop-state
-invariant-loop-state l = with_states (drop l.state-index l.states) l.self ≡ with_states l.states l.initial.self
+invariant-loop-state l = with_states (drop l.state-index l.state-items) l.self ≡ with_states l.fn.more l.initial.self
