@@ -1,5 +1,6 @@
 -- What is built for each kind of tree.
 use Rattle.std.proofs.Common.{◌≡◌, ◌≢◌, ℕ, zero, suc, ◌+◌, ◌-◌, ◌*◌, ◌^◌, ◌<◌, ◌≤◌, Bool, true, false, IsTrue, List, [], ◌∷◌, ◌++◌, length, take, drop, get_or, refl, sym, ap, ◌∙◌, subst, arith, ◌↔◌, Result, Ok, Err, IfOk, OnOk, add-one, drop-cons, rules, inl, inr, ◌⊎◌}
+use Rattle.std.specs.Prelude.{◌==◌}
 use Rattle.std.proofs.lemmas.List.{take_all}
 use Rattle.std.proofs.Math.Nat.{mul-le-mul_left}
 use Rattle.tm_base.specs.declared.memory.Memory.{Memory}
@@ -10,6 +11,7 @@ use Rattle.tm_base.specs.Shapes.{leaves_of, HasNoPrivate, HasNoAlternatives}
 use Rattle.tm_base.specs.Transmutes.{holds}
 use Rattle.tm_auto.specs.declared.edge.Edge.{Edge}
 use Rattle.tm_auto.specs.declared.edge.Label.{Label}
+use Rattle.tm_auto.specs.declared.edge.Label.TheVariants.{Bytes}
 use Rattle.tm_auto.specs.Builds.{edges_to, IsSound, IsReady, MayFollow, MakesBy, Makes, IsPut, IsSettled}
 use Rattle.tm_auto.specs.Labels.{CanTake, Begins}
 use Rattle.tm_auto.specs.Loose.{LooseWord, LooseBytes, LooseInTurn, LooseOneOf, LooseOneWhere}
@@ -17,9 +19,10 @@ use Rattle.tm_auto.specs.Paths.{Among}
 use Rattle.tm_auto.specs.Sets.{with_states}
 use Rattle.tm_auto.specs.Shapes.{nodes_of, all_nodes, all_leaves, NonePrivate, NoneAlternative, leaves_where, is_cell, is_no_cell}
 use Rattle.tm_auto.proofs.AmongLemmas.{with_states_to, with_states_keeps, with_states_has}
-use Rattle.tm_auto.proofs.CellLemmas.{IsCell, take_one, leaves_where-add, leaves_where-skip, leaves_where-take}
+use Rattle.tm_auto.proofs.CellLemmas.{IsCell, range_cell, take_one, leaves_where-add, leaves_where-skip, leaves_where-take}
 use Rattle.tm_auto.proofs.LooseLemmas.{LooseWord-Seq, LooseWord-Alt, LooseWord-Repeat, LooseWord-Ref, LooseWord-Never, LooseWord-Range, LooseOneWhere-more, LooseOneWhere-skip, LooseOneOf-both}
 use Rattle.tm_auto.proofs.MakeLemmas.{Both, Either, makes_as, makes_none, makes_nowhere, makes_empty, makes_leaf, makes_both, makes_either, begins_joins, ready_after, ready_still}
+use Rattle.tm_auto.proofs.SetLemmas.{same_at}
 use Rattle.tm_auto.proofs.ShapeLemmas.{leaves_of-Seq, leaves_of-Alt, leaves_of-Repeat, HasNoAlternatives-Seq, HasNoAlternatives-Alt, HasNoAlternatives-Repeat, leaves_where-both}
 
 -- what is built for a tree
@@ -65,6 +68,26 @@ tree_cell t label es fs n m targets starts cell can some r put =
     let made : MakesTree t es (es ++ edges_to n label targets) n (n + 1) targets (n ∷ []) = makes_as (omega arith) (λ l. tt) cell.words (makes_leaf Begins Begins es n label targets some can cell.begins (begins_joins label) r.sound r.below r.plain) in
     rw (put.edges, put.states, put.start) made
 
+-- a byte of a range that may be empty
+pub range_put : (low high : ℕ) (es fs : List Edge) (n m : ℕ) (targets starts : List ℕ) → low ≤ high → high < 256 → targets ≢ [] → IsReady es n targets → IsPut es fs n m (Bytes low high) targets starts → Makes (Unit {0}) 1 (λ A. LooseWord (holds A) (Range low high)) es fs n m targets starts
+range_put low high es fs n m targets starts le byte some r put =
+    let cell = range_cell low high in
+    let made : Makes (Unit {0}) 1 (λ A. LooseWord (holds A) (Range low high)) es (es ++ edges_to n (Bytes low high) targets) n (n + 1) targets (n ∷ []) = makes_as (omega arith) (λ l. tt) cell.words (makes_leaf Begins Begins es n (Bytes low high) targets some (le, byte) cell.begins (begins_joins (Bytes low high)) r.sound r.below r.plain) in
+    rw (put.edges, put.states, put.start) made
+
+pub range_none : (low high : ℕ) (es : List Edge) (n : ℕ) (targets starts : List ℕ) → high < low → starts ≡ [] → IsSound es n → Makes (Unit {0}) 1 (λ A. LooseWord (holds A) (Range low high)) es es n n targets starts
+range_none low high es n targets starts l e sound = rw e (makes_none Begins (Unit {0}) 1 es n targets (λ A. LooseWord (holds A) (Range low high)) (no_range low high l) sound)
+
+pub tree_range : (low high : ℕ) (es fs : List Edge) (n m : ℕ) (targets starts : List ℕ) → Makes (Unit {0}) 1 (λ A. LooseWord (holds A) (Range low high)) es fs n m targets starts → MakesTree (Range low high) es fs n m targets starts
+tree_range low high es fs n m targets starts h = let leaf = (range_cell low high).leaf in makes_as (omega arith) (λ l. tt) (λ A w. (λ k. k, λ k. k)) h
+
+-- an equation of lists, told of what is built
+pub in_turn_none : (ts : List Tree) (es : List Edge) (n : ℕ) (targets starts : List ℕ) → ts ≡ [] → starts ≡ targets → IsReady es n targets → MakesInTurn ts es es n n targets starts
+in_turn_none ts es n targets starts et e r = rw (et, e) (makes_empty Begins (NoneAlternative []) 0 es n targets r.sound r.below r.plain)
+
+pub times_none : (t : Tree) (es : List Edge) (n : ℕ) (targets starts : List ℕ) → starts ≡ targets → IsReady es n targets → MakesTimes 0 t es es n n targets starts
+times_none t es n targets starts e r = rw e (makes_as (omega arith) (λ l. l) (λ A w. (λ k. k, λ k. k)) (makes_empty Begins (HasNoAlternatives t) 0 es n targets r.sound r.below r.plain))
+
 pub tree_ref : (t : RefId) (es fs : List Edge) (n m : ℕ) (targets starts : List ℕ) → leaves_of (Ref t) ≡ 8 → MakesBy (MayFollow t 0) (Unit {0}) 8 (λ A. LooseBytes (holds A) t.0 0 8) es fs n m targets starts → MakesTree (Ref t) es fs n m targets starts
 tree_ref t es fs n m targets starts leaves h = makes_as (omega arith) (λ l. tt) (λ A w. let (x, y) = LooseWord-Ref (holds A) t w in (y, x)) h
 
@@ -80,15 +103,18 @@ tree_only t es fs n m targets starts h =
     let e = leaves_of-Alt (t ∷ []) in
     makes_as (omega arith) (λ l. (HasNoAlternatives-Alt (t ∷ []) l).1.0) (λ A w. let (x, y) = LooseWord-Alt (holds A) (t ∷ []) w in (λ k. y (inl k), λ k. elim (x k) [ inl j ↦ j | inr j ↦ absurd j ])) h
 
-none_alternative : (ts : List Tree) → ts ≢ [] → length ts ≢ 1 → HasNoAlternatives (Alt ts) → ⊥
-none_alternative ts some many l = let few = (HasNoAlternatives-Alt ts l).0 in elim (empty ts) [ inl e ↦ some e | inr k ↦ many (omega arith) ]
+none_alternative : (ts : List Tree) → length ts ≢ 1 → HasNoAlternatives (Alt ts) → ts ≡ []
+none_alternative ts many l = let few = (HasNoAlternatives-Alt ts l).0 in elim (empty ts) [ inl e ↦ e | inr k ↦ absurd (many (omega arith)) ]
   where
     empty : (ts : List Tree) → (ts ≡ []) ⊎ (0 < length ts)
     empty [] = inl refl
     empty (t ∷ ts) = inr (omega arith)
 
-pub tree_many : (ts : List Tree) (es fs : List Edge) (n m : ℕ) (targets starts : List ℕ) → ts ≢ [] → length ts ≢ 1 → Makes ⊥ (all_leaves ts) (λ A. LooseOneOf (holds A) ts) es fs n m targets starts → MakesTree (Alt ts) es fs n m targets starts
-tree_many ts es fs n m targets starts some many h = let e = leaves_of-Alt ts in makes_as (omega arith) (none_alternative ts some many) (λ A w. let (x, y) = LooseWord-Alt (holds A) ts w in (y, x)) h
+pub tree_many : (ts : List Tree) (es fs : List Edge) (n m : ℕ) (targets starts : List ℕ) → length ts ≢ 1 → Makes (ts ≡ []) (all_leaves ts) (λ A. LooseOneOf (holds A) ts) es fs n m targets starts → MakesTree (Alt ts) es fs n m targets starts
+tree_many ts es fs n m targets starts many h = let e = leaves_of-Alt ts in makes_as (omega arith) (none_alternative ts many) (λ A w. let (x, y) = LooseWord-Alt (holds A) ts w in (y, x)) h
+
+pub alt_none : (ts : List Tree) (es : List Edge) (n : ℕ) (targets starts : List ℕ) → ts ≡ [] → starts ≡ [] → IsSound es n → Makes (ts ≡ []) (all_leaves ts) (λ A. LooseOneOf (holds A) ts) es es n n targets starts
+alt_none ts es n targets starts et e sound = rw e (makes_none Begins (ts ≡ []) (all_leaves ts) es n targets (λ A. LooseOneOf (holds A) ts) (λ A w h. subst (λ (z : List Tree). LooseOneOf (holds A) z w) et h) sound)
 
 -- ---- along a list of trees
 
@@ -175,8 +201,8 @@ members_more ts first t es fs gs n m k targets starts more all e r ea h p =
         (λ k. elim k [ inl y ↦ elim y [ inl z ↦ inl z | inr z ↦ inr (b (inl z)) ] | inr y ↦ inr (b (inr y)) ], λ k. elim k [ inl y ↦ inl (inl y) | inr y ↦ elim (a y) [ inl z ↦ inl (inr z) | inr z ↦ inr z ] ])) both in
     rw ea made
 
-pub members_all : (ts : List Tree) (es fs : List Edge) (n m : ℕ) (targets starts : List ℕ) → MakesMembers ts ts es fs n m targets starts → Makes ⊥ (all_leaves ts) (λ A. LooseOneOf (holds A) ts) es fs n m targets starts
-members_all ts es fs n m targets starts h = let e = leaves_where-both ts in makes_as (omega arith) (λ l. l) (λ A w. LooseOneOf-both (holds A) ts w) h
+pub members_all : (ts : List Tree) (es fs : List Edge) (n m : ℕ) (targets starts : List ℕ) → ts ≢ [] → MakesMembers ts ts es fs n m targets starts → Makes (ts ≡ []) (all_leaves ts) (λ A. LooseOneOf (holds A) ts) es fs n m targets starts
+members_all ts es fs n m targets starts some h = let e = leaves_where-both ts in makes_as (omega arith) some (λ A w. LooseOneOf-both (holds A) ts w) h
 
 pub room_for_member : (ts : List Tree) (i : ℕ) (t : Tree) (n m : ℕ) → i < length ts → t ≡ get_or ts i t → is_cell t ≡ false → m ≤ n + (leaves_where is_cell ts + leaves_where is_no_cell (take i ts)) → n + all_leaves ts ≤ 2 ^ 31 → m + leaves_of t ≤ 2 ^ 31
 room_for_member ts i t n m l e other few room =
@@ -187,3 +213,10 @@ room_for_member ts i t n m l e other few room =
 
 pub room_for_cells : (ts : List Tree) (n : ℕ) → n + all_leaves ts ≤ 2 ^ 31 → n + leaves_where is_cell ts ≤ 2 ^ 31
 room_for_cells ts n room = let both = leaves_where-both ts in omega arith
+
+pub some_trees : (ts : List Tree) (b : Bool) → b ≡ (length ts == 0) → b ≡ false → ts ≢ []
+some_trees ts b e f q = let z : (length ts == 0) ≡ true = rw q refl in cc
+
+pub no_trees : (ts : List Tree) (b : Bool) → b ≡ (length ts == 0) → b ≡ true → ts ≡ []
+no_trees [] b e f = refl
+no_trees (t ∷ ts) b e f = let z = same_at (length (t ∷ ts)) 0 (sym e ∙ f) in absurd (omega arith)

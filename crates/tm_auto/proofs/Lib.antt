@@ -6,3 +6,4 @@ pub mod LooseLemmas
 pub mod MakeLemmas
 pub mod CellLemmas
 pub mod CaseLemmas
+pub mod JoinedLemmas

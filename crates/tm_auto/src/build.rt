@@ -75,6 +75,26 @@ fn settle(b: &mut Building, edges: usize, states: u32, starts: StateSet) -> Stat
     starts
 }
 
+// A byte of a range, which may be empty.
+fn grow_range(
+    alloc: Global,
+    b: &mut Building,
+    low: u8,
+    high: u8,
+    targets: &StateSet,
+) -> Result<StateSet, Memory>
+    requires some { targets.now ≢ [] }
+    requires room { b.old.states + 1 ≤ 2 ^ 31 }
+    requires ready { IsReady b.old.edges.items b.old.states targets.now }
+    ensures { IfOk result (λ starts. Makes (Unit {0}) 1 (λ A. LooseWord (holds A) (Tree.Range low high)) b.old.edges.items b.new.edges.items b.old.states b.new.states targets.now starts) }
+{
+    if low <= high {
+        put(alloc, b, Label::Bytes(low, high), targets)
+    } else {
+        Ok(StateSet::new(alloc))
+    }
+}
+
 // The bytes of a reference, the last one first.
 fn grow_ref(
     alloc: Global,
@@ -111,13 +131,7 @@ pub(crate) fn grow(
     }
     match tree {
         Tree::Never => Ok(StateSet::new(alloc)),
-        Tree::Range(low, high) => {
-            if *low <= *high {
-                put(alloc, b, Label::Bytes(*low, *high), targets)
-            } else {
-                Ok(StateSet::new(alloc))
-            }
-        }
+        Tree::Range(low, high) => grow_range(alloc, b, *low, *high, targets),
         Tree::Pad => put(alloc, b, Label::Free, targets),
         Tree::Ref(reference) => grow_ref(alloc, b, reference.0, targets),
         Tree::Seq(trees) => grow_seq(alloc, b, trees.as_slice(), targets),
@@ -142,7 +156,7 @@ fn grow_seq(
     requires ready { IsReady b.old.edges.items b.old.states targets.now }
     ensures { IfOk result (λ starts. Makes (NoneAlternative trees.now) (all_leaves trees.now) (λ A. LooseInTurn (holds A) trees.now) b.old.edges.items b.new.edges.items b.old.states b.new.states targets.now starts) }
 {
-    let edges = b.edges.len();
+    let edges = b.edges.as_slice().len();
     let states = b.states;
     let mut starts = targets.copy(alloc)?;
     let mut at = trees.len();
@@ -167,7 +181,7 @@ fn grow_times(
     requires ready { IsReady b.old.edges.items b.old.states targets.now }
     ensures { IfOk result (λ starts. Makes (HasNoAlternatives tree.now) (count * leaves_of tree.now) (λ A. Times count (LooseWord (holds A) tree.now)) b.old.edges.items b.new.edges.items b.old.states b.new.states targets.now starts) }
 {
-    let edges = b.edges.len();
+    let edges = b.edges.as_slice().len();
     let states = b.states;
     let mut starts = targets.copy(alloc)?;
     for turn in 0..count {
@@ -190,8 +204,11 @@ fn grow_alt(
     requires public { NonePrivate trees.now }
     requires room { b.old.states + all_leaves trees.now ≤ 2 ^ 31 }
     requires ready { IsReady b.old.edges.items b.old.states targets.now }
-    ensures { IfOk result (λ starts. Makes ⊥ (all_leaves trees.now) (λ A. LooseOneOf (holds A) trees.now) b.old.edges.items b.new.edges.items b.old.states b.new.states targets.now starts) }
+    ensures { IfOk result (λ starts. Makes (trees.now ≡ []) (all_leaves trees.now) (λ A. LooseOneOf (holds A) trees.now) b.old.edges.items b.new.edges.items b.old.states b.new.states targets.now starts) }
 {
+    if trees.is_empty() {
+        return Ok(StateSet::new(alloc));
+    }
     let mut starts = grow_cells(alloc, b, trees, targets)?;
     for tree in trees {
         match label_of(tree) {
