@@ -7,3 +7,5 @@ pub mod MakeLemmas
 pub mod CellLemmas
 pub mod CaseLemmas
 pub mod JoinedLemmas
+pub mod StepLemmas
+pub mod AutomatonLemmas

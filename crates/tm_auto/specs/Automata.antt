@@ -1,10 +1,12 @@
 -- What an automaton is, and what its words are.
-use Rattle.std.specs.Prelude.{◌≡◌, ℕ, Bool, ◌<◌, ◌≤◌, ◌⊎◌, ◌↔◌, ◌==◌, nat_lt, filter, List, [], ◌∷◌, ◌++◌, length}
+use Rattle.std.specs.Prelude.{◌≡◌, ◌≢◌, ℕ, suc, Bool, ◌<◌, ◌≤◌, ◌⊎◌, ◌↔◌, ◌==◌, nat_lt, filter, List, [], ◌∷◌, ◌++◌, length}
 use Rattle.std.specs.List.Sorted.{IsStrictlyIncreasing}
-use Rattle.tm_base.specs.Cells.{Word, OrOwn}
+use Rattle.tm_base.specs.declared.cell.Cell.TheVariants.{Ptr}
+use Rattle.tm_base.specs.declared.cell.RefId.{RefId}
+use Rattle.tm_base.specs.Cells.{Word, OrOwn, pointer_size}
 use Rattle.tm_base.specs.Transmutes.{holds}
 use Rattle.tm_auto.specs.declared.edge.Edge.{Edge}
-use Rattle.tm_auto.specs.Joined.{IsJoined}
+use Rattle.tm_auto.specs.Joined.{IsJoined, IsWhole, HasNoOwn}
 use Rattle.tm_auto.specs.Labels.{CanTake, Begins, Joins}
 use Rattle.tm_auto.specs.Paths.{Among, Leads, Spells, Reaches, IsPath}
 use Rattle.tm_auto.specs.Sets.{reached_from}
@@ -51,7 +53,7 @@ abbrev pub IsOrdered : List Edge → Type 0
 IsOrdered [] = Unit {0}
 IsOrdered (e ∷ es) = ((f : Edge) → Among f es → e.from ≤ f.from) × IsOrdered es
 
--- What every automaton has, said of its edges, of two that meet, and of the size of its words.
+-- What every automaton has, said of its edges, of two that meet, and of its words.
 pub record IsAutomaton (auto : Automaton) : Type 0 where
   pub down : (e : Edge) → Among e auto.edges → (e.to < e.from) × (e.from < auto.states)
   pub ordered : IsOrdered auto.edges
@@ -63,6 +65,7 @@ pub record IsAutomaton (auto : Automaton) : Type 0 where
   pub rising : IsStrictlyIncreasing auto.starts
   pub below : (s : ℕ) → Among s auto.starts → s < auto.states
   pub sized : (A : ℕ → ℕ → Bool) (w : Word) → AutoWord (holds A) auto w → length w ≡ auto.size
+  pub whole : (A : ℕ → ℕ → Bool) (w : Word) → AutoWord (holds A) auto w → IsWhole w
 
 -- a word goes through the state
 pub record LiesOnWord (A : ℕ → ℕ → Type 0) (auto : Automaton) (s : ℕ) : Type 0 where
@@ -80,3 +83,28 @@ pub record IsLayered (auto : Automaton) : Type 0 where
   pub lies : (A : ℕ → ℕ → Bool) (s : ℕ) → s < auto.states → LiesOnWord (OrOwn (holds A)) auto s
   pub one : (s j k : ℕ) → IsInLayer auto j s → IsInLayer auto k s → j ≡ k
   pub last : (k s : ℕ) → IsInLayer auto k s → (s ≡ 0) ↔ (k ≡ auto.size)
+
+-- states of the automaton
+abbrev pub AreStates : Automaton → List ℕ → Type 0
+AreStates auto states = (s : ℕ) → Among s states → s < auto.states
+
+-- states that so many edges lead to from a start
+abbrev pub AreInLayer : Automaton → ℕ → List ℕ → Type 0
+AreInLayer auto k states = (s : ℕ) → Among s states → IsInLayer auto k s
+
+-- the test of equal references
+abbrev pub equal : ℕ → ℕ → Bool
+equal x t = x == t
+
+-- What lists of cells reach. A joined list in which no reference holds itself reaches a state exactly
+-- where it is viable, in the middle of a reference too. Under the test of equal references, as for a
+-- source, each list does that begins a word, and what reaches a state is joined. And where a byte of a
+-- reference is taken, so is the next: a refused one has place 0.
+pub record ReadsWords (auto : Automaton) : Type 0 where
+  pub states : (A : ℕ → ℕ → Bool) (w : Word) (s : ℕ) → Among s (reached A auto w) ↔ ((a : ℕ) × Among a auto.starts × Leads (holds A) auto.edges w a s)
+  pub layer : (A : ℕ → ℕ → Bool) (w : Word) → AreInLayer auto (length w) (reached A auto w)
+  pub viable : (A : ℕ → ℕ → Bool) (w : Word) → IsJoined w → HasNoOwn w → (reached A auto w ≢ []) ↔ IsViable (holds A) auto w
+  pub source : (w : Word) → (reached equal auto w ≢ []) ↔ ((v : Word) × AutoWord (holds equal) auto (w ++ v))
+  pub joined : (w : Word) → reached equal auto w ≢ [] → IsJoined w
+  pub onward : (A : ℕ → ℕ → Bool) (w : Word) (r : RefId) (k : ℕ) → suc k < pointer_size → IsJoined (w ++ Ptr r k ∷ []) → HasNoOwn (w ++ Ptr r k ∷ [])
+      → reached A auto (w ++ Ptr r k ∷ []) ≢ [] → reached A auto ((w ++ Ptr r k ∷ []) ++ Ptr r (suc k) ∷ []) ≢ []

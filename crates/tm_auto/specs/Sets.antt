@@ -38,7 +38,7 @@ passes A label.Free symbol.Uninit = true
 passes A label.Free (symbol.Ptr r k) = false
 passes A (label.Leaf t j) (symbol.Bytes a b) = false
 passes A (label.Leaf t j) symbol.Uninit = false
-passes A (label.Leaf t j) (symbol.Ptr r k) = A r.0 t.0 && (k == j)
+passes A (label.Leaf t j) (symbol.Ptr r k) = (k == j) && A r.0 t.0
 
 -- the states to which an edge leads that leaves one of these states and passes the symbol
 abbrev pub next : (ℕ → ℕ → Bool) → List Edge → List ℕ → Symbol → List ℕ
