@@ -17,6 +17,7 @@ use Rattle.tm_auto.specs.Paths.{Among, Leads, Reaches, IsPath}
 use Rattle.tm_auto.specs.Sets.{passes, next, reached_from, symbol_of, has_state, with_state}
 use Rattle.tm_auto.proofs.AmongLemmas.{some_among, none_among}
 use Rattle.tm_auto.proofs.SetLemmas.{bool_cases, same_at, has_to, to_has, with_state_to, with_state_has, with_state_keeps}
+use Rattle.tm_auto.proofs.JoinedLemmas.{joined_left}
 use Rattle.tm_auto.proofs.StepLemmas.{reached_to, to_reached}
 
 abbrev last_of : Cell → Word → Cell
@@ -44,6 +45,52 @@ takes_wider A B f (Leaf t k) c (x, a, e) = (x, f x t.0 a, e)
 pub leads_wider : (A B : ℕ → ℕ → Type 0) → ((x t : ℕ) → A x t → B x t) → (es : List Edge) (w : Word) (s t : ℕ) → Leads A es w s t → Leads B es w s t
 leads_wider A B f es [] s t h = h
 leads_wider A B f es (c ∷ w) s t (e, m, q, h, r) = (e, m, q, takes_wider A B f e.label c h, leads_wider A B f es w e.to t r)
+
+takes_no_own : (A : ℕ → ℕ → Bool) (l : Label) (c : Cell) → IsNotOwn c → Takes (OrOwn (holds A)) l c → Takes (holds A) l c
+takes_no_own A (Bytes low high) c n h = h
+takes_no_own A Free c n h = h
+takes_no_own A (Leaf t k) c n (x, inl a, e) = (x, a, e)
+takes_no_own A (Leaf t k) c n (x, inr q, e) = let l : x < 2 ^ 32 = subst IsNotOwn e n in absurd (omega arith)
+
+-- under the test of equal references what two labels take that meet may meet
+joins_cell : (l m : Label) (c d : Cell) → Joins l m → Takes (holds equal) l c → Takes (holds equal) m d → Follows c d
+joins_cell l (Bytes low high) c d j h (x, p, q, e) = subst (Follows c) (sym e) tt
+joins_cell l Free c (Byte b) j h k = tt
+joins_cell l Free c Uninit j h k = tt
+joins_cell l Free c (Ptr r i) j h k = absurd k
+joins_cell l (Leaf t zero) c d j h (x, p, e) = subst (Follows c) (sym e) tt
+joins_cell l (Leaf t (suc k)) c d j h (y, q, f) =
+    let (x, p, e) = subst (λ (z : Label). Takes (holds equal) z c) j h in
+    let xy : x ≡ y = same_at x t.0 p ∙ sym (same_at y t.0 q) in
+    subst (Follows c) (sym f) (e ∙ ap (λ (z : ℕ). Ptr (record { 0 = z }) k) xy)
+
+begins_cell : (p : Cell) (m : Label) (d : Cell) → Begins m → Takes (holds equal) m d → Follows p d
+begins_cell p (Bytes low high) d j (x, q, r, e) = subst (Follows p) (sym e) tt
+begins_cell p Free (Byte b) j k = tt
+begins_cell p Free Uninit j k = tt
+begins_cell p Free (Ptr r i) j k = absurd k
+begins_cell p (Leaf t zero) d j (x, q, e) = subst (Follows p) (sym e) tt
+begins_cell p (Leaf t (suc k)) d j h = absurd j
+
+-- the relation that adds Own, as a test
+abbrev or_own : (ℕ → ℕ → Bool) → ℕ → ℕ → Bool
+or_own A x t = A x t || (x == own t)
+
+own_test : (A : ℕ → ℕ → Bool) (x t : ℕ) → OrOwn (holds A) x t → holds (or_own A) x t
+own_test A x t (inl a) = or_left (A x t) (x == own t) a
+own_test A x t (inr e) = or_right (A x t) (x == own t) (eq-eqb x (own t) e)
+
+whole_at : (w v : Word) (r : RefId) (k : ℕ) → IsWhole ((w ++ Ptr r k ∷ []) ++ v) → suc k < 8 → (u : Word) × (v ≡ Ptr r (suc k) ∷ u)
+whole_at [] v r k h l = h.0 l
+whole_at (c ∷ w) v r k h l = whole_at w v r k h.1 l
+
+last_id : (w : Word) (r : RefId) (k : ℕ) → HasNoOwn (w ++ Ptr r k ∷ []) → r.0 < 2 ^ 32
+last_id [] r k n = n.0
+last_id (c ∷ w) r k n = last_id w r k n.1
+
+no_own_more : (w : Word) (r : RefId) (k : ℕ) → HasNoOwn w → r.0 < 2 ^ 32 → HasNoOwn (w ++ Ptr r k ∷ [])
+no_own_more [] r k n l = (l, tt)
+no_own_more (c ∷ w) r k n l = (n.0, no_own_more w r k n.1 l)
 
 module _ (auto : Automaton) (h : IsAutomaton auto) where
   path_below : (k s t : ℕ) → s < auto.states → IsPath auto.edges k s t → t < auto.states
@@ -161,7 +208,7 @@ module _ (auto : Automaton) (h : IsAutomaton auto) where
   layer_below : (k s : ℕ) → IsInLayer auto k s → s < auto.states
   layer_below k s i = path_below k i.start s (h.below i.start i.among) i.path
 
-  layered : IsLayered auto
+  pub layered : IsLayered auto
   layered = record {
     lies = λ A s l. lies_on (OrOwn (holds A)) (λ t. (own t, inr refl)) s l;
     one = λ s j k p q.
@@ -183,4 +230,79 @@ module _ (auto : Automaton) (h : IsAutomaton auto) where
 
   path_of : (A : ℕ → ℕ → Type 0) (w : Word) (s t : ℕ) → Leads A auto.edges w s t → IsPath auto.edges (length w) s t
   path_of A [] s t l = l
-  path_of A (c ∷ w) s t (e, m, q, k, l) = ?
+  path_of A (c ∷ w) s t (e, m, q, k, l) = (e, m, q, path_of A w e.to t l)
+
+  no_own : (A : ℕ → ℕ → Bool) (w : Word) (s t : ℕ) → HasNoOwn w → Leads (OrOwn (holds A)) auto.edges w s t → Leads (holds A) auto.edges w s t
+  no_own A [] s t n l = l
+  no_own A (c ∷ w) s t (n, ns) (e, m, q, k, l) = (e, m, q, takes_no_own A e.label c n k, no_own A w e.to t ns l)
+
+  viable_list : (A : ℕ → ℕ → Bool) (w : Word) → IsJoined w → HasNoOwn w → (reached A auto w ≢ []) ↔ IsViable (holds A) auto w
+  viable_list A w j n = (
+    λ ne. (
+      let (s, m) = some_among (reached A auto w) ne in
+      let (a, am, l) = reached_to A auto.edges auto.starts w s m in
+      let wide = leads_wider (holds A) (OrOwn (holds A)) (λ x t p. inl p) auto.edges w a s l in
+      let (v, k, jv) = goes_on (OrOwn (holds A)) (λ t. (own t, inr refl)) w a s am j wide in
+      (v, word_of (OrOwn (holds A)) (λ t. (own t, inr refl)) w v a s am wide k jv)),
+    λ (v, word) q. (
+      let r = word.reaches in
+      let (s, l, k) = leads_parts (OrOwn (holds A)) auto.edges w v r.state 0 r.spells in
+      let m = to_reached A auto.edges auto.starts w r.state s r.among (no_own A w r.state s n l) in
+      none_among (subst (λ (z : List ℕ). Among s z) q m)),
+  )
+
+  -- ---- under the test of equal references
+
+  chained : (w : Word) (p : Cell) (a s : ℕ) → ((f : Edge) (d : Cell) → Among f auto.edges → f.from ≡ a → Takes (holds equal) f.label d → Follows p d) → Leads (holds equal) auto.edges w a s → JoinedAfter p w
+  chained [] p a s g q = tt
+  chained (c ∷ w) p a s g (e, m, f, t, r) = (g e c m f t, chained w c e.to s (λ f2 d m2 q2 t2. joins_cell e.label f2.label c d (h.joins e f2 m m2 (sym q2)) t t2) r)
+
+  source_joined : (w : Word) (a s : ℕ) → Among a auto.starts → Leads (holds equal) auto.edges w a s → IsJoined w
+  source_joined w a s m q = chained w Uninit a s (λ f d fm ff t. begins_cell Uninit f.label d (h.begins f fm (subst (λ (z : ℕ). Among z auto.starts) (sym ff) m)) t) q
+
+  reached_joined : (w : Word) → reached equal auto w ≢ [] → IsJoined w
+  reached_joined w ne =
+      let (s, m) = some_among (reached equal auto w) ne in
+      let (a, am, l) = reached_to equal auto.edges auto.starts w s m in
+      source_joined w a s am l
+
+  source_list : (w : Word) → (reached equal auto w ≢ []) ↔ ((v : Word) × AutoWord (holds equal) auto (w ++ v))
+  source_list w = (
+    λ ne. (
+      let (s, m) = some_among (reached equal auto w) ne in
+      let (a, am, l) = reached_to equal auto.edges auto.starts w s m in
+      let full : (t : ℕ) → (x : ℕ) × holds equal x t = λ t. (t, eq-eqb t t refl) in
+      let (v, k, jv) = goes_on (holds equal) full w a s am (source_joined w a s am l) l in
+      (v, word_of (holds equal) full w v a s am l k jv)),
+    λ (v, word) q. (
+      let r = word.reaches in
+      let (s, l, k) = leads_parts (holds equal) auto.edges w v r.state 0 r.spells in
+      let m = to_reached equal auto.edges auto.starts w r.state s r.among l in
+      none_among (subst (λ (z : List ℕ). Among s z) q m)),
+  )
+
+  -- ---- references stay whole
+
+  next_byte : (A : ℕ → ℕ → Bool) (w : Word) (r : RefId) (k : ℕ) → suc k < 8 → IsJoined (w ++ Ptr r k ∷ []) → HasNoOwn (w ++ Ptr r k ∷ []) → reached A auto (w ++ Ptr r k ∷ []) ≢ [] → reached A auto ((w ++ Ptr r k ∷ []) ++ Ptr r (suc k) ∷ []) ≢ []
+  next_byte A w r k lt j n ne =
+      let base = w ++ Ptr r k ∷ [] in
+      let (v, word) = (viable_list A base j n).0 ne in
+      let x = word.reaches in
+      let wide : AutoWord (holds (or_own A)) auto (base ++ v) = record {
+        joined = word.joined;
+        reaches = record { state = x.state; among = x.among; spells = leads_wider (OrOwn (holds A)) (holds (or_own A)) (own_test A) auto.edges (base ++ v) x.state 0 x.spells };
+      } in
+      let (u, e) = whole_at w v r k (h.whole (or_own A) (base ++ v) wide) lt in
+      let same : base ++ v ≡ (base ++ Ptr r (suc k) ∷ []) ++ u = ap (λ (z : Word). base ++ z) e ∙ sym (append_assoc base (Ptr r (suc k) ∷ []) u) in
+      let word2 : AutoWord (OrOwn (holds A)) auto ((base ++ Ptr r (suc k) ∷ []) ++ u) = subst (λ (z : Word). AutoWord (OrOwn (holds A)) auto z) same word in
+      (viable_list A (base ++ Ptr r (suc k) ∷ []) (joined_left Uninit (base ++ Ptr r (suc k) ∷ []) u word2.joined) (no_own_more base r (suc k) n (last_id w r k n))).1 (u, word2)
+
+  pub reads : ReadsWords auto
+  reads = record {
+    states = λ A w s. (λ m. reached_to A auto.edges auto.starts w s m, λ (a, am, l). to_reached A auto.edges auto.starts w a s am l);
+    layer = λ A w s m. let (a, am, l) = reached_to A auto.edges auto.starts w s m in record { start = a; among = am; path = path_of (holds A) w a s l };
+    viable = viable_list;
+    source = source_list;
+    joined = reached_joined;
+    onward = next_byte;
+  }

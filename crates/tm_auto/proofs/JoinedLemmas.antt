@@ -31,7 +31,7 @@ joined_any : (p q : Cell) (w : Word) → BeginsPlain w → JoinedAfter p w → J
 joined_any p q [] h j = tt
 joined_any p q (c ∷ w) h j = (first_follows c q h, j.1)
 
-joined_left : (p : Cell) (v w : Word) → JoinedAfter p (v ++ w) → JoinedAfter p v
+pub joined_left : (p : Cell) (v w : Word) → JoinedAfter p (v ++ w) → JoinedAfter p v
 joined_left p [] w j = tt
 joined_left p (c ∷ v) w (f, j) = (f, joined_left c v w j)
 

@@ -9,3 +9,4 @@ pub mod CaseLemmas
 pub mod JoinedLemmas
 pub mod StepLemmas
 pub mod AutomatonLemmas
+pub mod WholeLemmas
