@@ -10,3 +10,5 @@ pub mod JoinedLemmas
 pub mod StepLemmas
 pub mod AutomatonLemmas
 pub mod WholeLemmas
+pub mod BuiltLemmas
+pub mod NextLemmas

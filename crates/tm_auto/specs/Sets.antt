@@ -48,6 +48,11 @@ next A (e ∷ es) from symbol =
     then with_state e.to (next A es from symbol)
     else next A es from symbol
 
+-- the set with the end of each of these edges that passes the symbol
+abbrev pub with_ends : (ℕ → ℕ → Bool) → Symbol → List Edge → List ℕ → List ℕ
+with_ends A symbol [] xs = xs
+with_ends A symbol (e ∷ es) xs = with_ends A symbol es (if passes A e.label symbol then with_state e.to xs else xs)
+
 abbrev pub symbol_of : Cell → Symbol
 symbol_of (Byte b) = symbol.Bytes b b
 symbol_of Uninit = symbol.Uninit
