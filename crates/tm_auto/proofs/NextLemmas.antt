@@ -1,13 +1,13 @@
 -- The set that a step makes, edge by edge, is the next one.
-use Rattle.std.proofs.Common.{◌≡◌, ◌≢◌, ℕ, zero, suc, ◌+◌, ◌-◌, ◌<◌, ◌≤◌, ◌⊎◌, inl, inr, ◌↔◌, Bool, true, false, cond, nat_le, nat_lt, List, [], ◌∷◌, ◌++◌, length, take, drop, refl, sym, ap, ◌∙◌, subst, arith, eq-eqb}
+use Rattle.std.proofs.Common.{◌≡◌, ◌≢◌, ℕ, zero, suc, ◌+◌, ◌-◌, ◌<◌, ◌≤◌, ◌⊎◌, inl, inr, ◌↔◌, Bool, true, false, cond, nat_le, nat_lt, List, [], ◌∷◌, ◌++◌, length, take, drop, refl, sym, ap, ◌∙◌, subst, arith, eq-eqb, add-one, drop-cons, get_or}
 use Rattle.std.specs.Prelude.{◌==◌, filter}
 use Rattle.std.specs.List.{slice_index_or, AllWithin}
 use Rattle.std.specs.List.Sorted.{IsStrictlyIncreasing, IsPartitionedBy}
 use Rattle.std.proofs.lemmas.Bool.{cases_lt, ne_eqb}
 use Rattle.tm_auto.specs.declared.edge.Edge.{Edge}
 use Rattle.tm_auto.specs.declared.edge.Symbol.{Symbol}
-use Rattle.tm_auto.specs.Automata.{IsOrdered, edges_from}
-use Rattle.tm_auto.specs.Paths.{Among, here, there}
+use Rattle.tm_auto.specs.Automata.{Automaton, IsAutomaton, IsOrdered, AreStates, AreInLayer, edges_from}
+use Rattle.tm_auto.specs.Paths.{Among, here, there, IsPath}
 use Rattle.tm_auto.specs.Sets.{with_state, with_ends, passes, next}
 use Rattle.tm_auto.proofs.SetLemmas.{bool_cases, same_at, with_state_to, with_state_has, with_state_keeps, with_state-IsStrictlyIncreasing, rises_same, increasing_rises}
 use Rattle.tm_auto.proofs.StepLemmas.{next_to, to_next, next-IsStrictlyIncreasing}
@@ -178,3 +178,36 @@ between s (e ∷ es) (suc i) (suc j) b =
     let x = lt_test e.from s (b.below 0 e (omega arith) (omega arith)) in
     let less : suc j - suc i ≡ j - i = omega arith in
     rw (ne_eqb e.from s (λ q. omega arith), less) (between s es i j (tail_bounds s e es i j b))
+
+-- ---- along the states of a set
+
+module _ (A : ℕ → ℕ → Bool) (x : Symbol) where
+  pub step_turn : (es : List Edge) (ss : List ℕ) (i : ℕ) (xs : List ℕ) → i < length ss → with_all_ends A x es (drop (i + 1) ss) (with_ends A x (edges_from (get_or ss i 0) es) xs) ≡ with_all_ends A x es (drop i ss) xs
+  step_turn es ss i xs l = rw (add-one, drop-cons ss i 0) refl
+
+  pub step_done : (es fs : List Edge) (ss from : List ℕ) (i : ℕ) (reached : List ℕ) → length ss ≤ i → with_all_ends A x es (drop i ss) reached ≡ with_all_ends A x es ss [] → es ≡ fs → ss ≡ from → reached ≡ next A fs from x
+  step_done es fs ss from i reached l e ee es2 =
+      let none : drop i ss ≡ [] = drop_none ss i l in
+      let whole : reached ≡ with_all_ends A x es ss [] = rw none at e in
+      whole ∙ with_all_ends-next A x es ss ∙ ap (λ (z : List Edge). next A z ss x) ee ∙ ap (λ (z : List ℕ). next A fs z x) es2
+    where
+      drop_none : (ss : List ℕ) (i : ℕ) → length ss ≤ i → drop i ss ≡ []
+      drop_none [] zero l = refl
+      drop_none [] (suc i) l = refl
+      drop_none (s ∷ ss) zero l = absurd (omega arith)
+      drop_none (s ∷ ss) (suc i) l = drop_none ss i (omega arith)
+
+  -- what a step makes of states is states, and of a layer the next one
+  pub next_states : (auto : Automaton) → IsAutomaton auto → (from : List ℕ) → AreStates auto (next A auto.edges from x)
+  next_states auto h from s m = let (e, ea, ef, ep, eq) = next_to A auto.edges from x s m in let (y, z) = h.down e ea in omega arith
+
+  path_more : (es : List Edge) (k a s : ℕ) (e : Edge) → IsPath es k a s → Among e es → e.from ≡ s → IsPath es (suc k) a e.to
+  path_more es zero a s e p m q = (e, m, q ∙ sym p, refl)
+  path_more es (suc k) a s e (f, fm, ff, p) m q = (f, fm, ff, path_more es k f.to s e p m q)
+
+  pub next_layer : (auto : Automaton) (from : List ℕ) (k : ℕ) → AreInLayer auto k from → AreInLayer auto (k + 1) (next A auto.edges from x)
+  next_layer auto from k h s m =
+      let (e, ea, ef, ep, eq) = next_to A auto.edges from x s m in
+      let r = h e.from ef in
+      let more : suc k ≡ k + 1 = omega arith in
+      record { start = r.start; among = r.among; path = subst (λ (n : ℕ). IsPath auto.edges n r.start s) more (subst (λ (z : ℕ). IsPath auto.edges (suc k) r.start z) eq (path_more auto.edges k r.start e.from e r.path ea refl)) }

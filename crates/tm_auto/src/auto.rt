@@ -1,9 +1,9 @@
-ghost use Rattle.std.specs.Prelude.{◌≡◌, ℕ, ◌+◌, ◌^◌, ◌<◌, ◌↔◌, Bool, IfOk, OnOk};
+ghost use Rattle.std.specs.Prelude.{◌≡◌, ℕ, ◌+◌, ◌^◌, ◌<◌, ◌≤◌, ◌↔◌, Bool, IfOk, OnOk, length, slice_range};
 ghost use Rattle.tm_base.specs.Cells.{Word};
 ghost use Rattle.tm_base.specs.Shapes.{leaves_of, HasNoPrivate, HasNoAlternatives, HasSize};
 ghost use Rattle.tm_base.specs.Transmutes.{holds};
 ghost use Rattle.tm_base.specs.Trees.{TreeWord};
-ghost use Rattle.tm_auto.specs.Automata.{AutoWord, IsAutomaton, HasOneStateALayer, IsLayered, ReadsWords, AreStates, AreInLayer, edges_from};
+ghost use Rattle.tm_auto.specs.Automata.{AutoWord, IsAutomaton, HasOneStateALayer, IsLayered, ReadsWords, AreStates, AreInLayer, IsOrdered, edges_from};
 ghost use Rattle.tm_auto.specs.Sets.{next, passes, with_ends};
 
 use crate::build::{Building, grow};
@@ -90,10 +90,7 @@ impl Auto {
         requires { state < self.now.states }
         ensures { result.now ≡ edges_from state self.now.edges }
     {
-        let edges = self.edges.as_slice();
-        let first = edges.partition_point(|edge| edge.from < state);
-        let last = edges.partition_point(|edge| edge.from <= state);
-        &edges[first..last]
+        edges_of(self.edges.as_slice(), state)
     }
 
     /// The set of the states to which an edge leads that leaves one of these and passes the symbol. A
@@ -110,12 +107,34 @@ impl Auto {
         ensures states { IfOk result (λ set. AreStates self.now set) }
         ensures layer { (k : ℕ) → AreInLayer self.now k from.now → IfOk result (λ set. AreInLayer self.now (k + 1) set) }
     {
+        let edges = self.edges.as_slice();
         let mut reached = StateSet::new(alloc);
         for state in from.as_slice() {
-            follow(refs, self.edges(*state), symbol, &mut reached)?;
+            follow(refs, edges_of(edges, *state), symbol, &mut reached)?;
         }
         Ok(reached)
     }
+}
+
+// The edges that leave a state: they stand side by side.
+fn edges_of(edges: &[Edge], state: u32) -> &[Edge]
+    requires { IsOrdered edges.now }
+    ensures { result.now ≡ edges_from state edges.now }
+{
+    let (first, end) = places_of(edges, state);
+    &edges[first..end]
+}
+
+// Where they begin and end.
+fn places_of(edges: &[Edge], state: u32) -> (usize, usize)
+    requires { IsOrdered edges.now }
+    ensures rising { result.0 ≤ result.1 }
+    ensures within { result.1 ≤ length edges.now }
+    ensures edges { slice_range edges.now result.0 result.1 ≡ edges_from state edges.now }
+{
+    let first = edges.partition_point(|edge| edge.from < state);
+    let end = edges.partition_point(|edge| edge.from <= state);
+    (first, end)
 }
 
 // Puts the end of each edge that passes the symbol into the set.
