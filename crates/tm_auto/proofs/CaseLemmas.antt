@@ -7,7 +7,7 @@ use Rattle.tm_base.specs.declared.memory.Memory.{Memory}
 use Rattle.tm_base.specs.declared.tree.Tree.{Tree, Never, Range, Pad, Ref, Seq, Alt, Repeat}
 use Rattle.tm_base.specs.declared.cell.RefId.{RefId}
 use Rattle.tm_base.specs.Cells.{Word, Times}
-use Rattle.tm_base.specs.Shapes.{leaves_of, HasNoPrivate, HasNoAlternatives}
+use Rattle.tm_base.specs.Shapes.{leaves_of, all_leaves, HasNoPrivate, NonePrivate, HasNoAlternatives, NoneAlternative}
 use Rattle.tm_base.specs.Transmutes.{holds}
 use Rattle.tm_auto.specs.declared.edge.Edge.{Edge}
 use Rattle.tm_auto.specs.declared.edge.Label.{Label}
@@ -17,13 +17,14 @@ use Rattle.tm_auto.specs.Labels.{CanTake, Begins}
 use Rattle.tm_auto.specs.Loose.{LooseWord, LooseBytes, LooseInTurn, LooseOneOf, LooseOneWhere}
 use Rattle.tm_auto.specs.Paths.{Among}
 use Rattle.tm_auto.specs.Sets.{with_states}
-use Rattle.tm_auto.specs.Shapes.{nodes_of, all_nodes, all_leaves, NonePrivate, NoneAlternative, leaves_where, is_cell, is_no_cell}
+use Rattle.tm_auto.specs.Shapes.{nodes_of, all_nodes, leaves_where, is_cell, is_no_cell}
 use Rattle.tm_auto.proofs.AmongLemmas.{with_states_to, with_states_keeps, with_states_has}
 use Rattle.tm_auto.proofs.CellLemmas.{IsCell, range_cell, take_one, leaves_where-add, leaves_where-skip, leaves_where-take}
 use Rattle.tm_auto.proofs.LooseLemmas.{LooseWord-Seq, LooseWord-Alt, LooseWord-Repeat, LooseWord-Ref, LooseWord-Never, LooseWord-Range, LooseOneWhere-more, LooseOneWhere-skip, LooseOneOf-both}
 use Rattle.tm_auto.proofs.MakeLemmas.{Both, Either, makes_as, makes_none, makes_nowhere, makes_empty, makes_leaf, makes_both, makes_either, begins_joins, ready_after, ready_still}
 use Rattle.tm_auto.proofs.SetLemmas.{same_at}
-use Rattle.tm_auto.proofs.ShapeLemmas.{leaves_of-Seq, leaves_of-Alt, leaves_of-Repeat, HasNoAlternatives-Seq, HasNoAlternatives-Alt, HasNoAlternatives-Repeat, leaves_where-both}
+use Rattle.tm_base.proofs.ShapeLemmas.{leaves_of-Seq, leaves_of-Alt, leaves_of-Repeat, HasNoAlternatives-Seq, HasNoAlternatives-Alt, HasNoAlternatives-Repeat}
+use Rattle.tm_auto.proofs.ShapeLemmas.{leaves_where-both}
 
 -- what is built for a tree
 abbrev pub MakesTree : Tree → List Edge → List Edge → ℕ → ℕ → List ℕ → List ℕ → Type 0
@@ -92,19 +93,19 @@ pub tree_ref : (t : RefId) (es fs : List Edge) (n m : ℕ) (targets starts : Lis
 tree_ref t es fs n m targets starts leaves h = makes_as (omega arith) (λ l. tt) (λ A w. let (x, y) = LooseWord-Ref (holds A) t w in (y, x)) h
 
 pub tree_seq : (ts : List Tree) (es fs : List Edge) (n m : ℕ) (targets starts : List ℕ) → MakesInTurn ts es fs n m targets starts → MakesTree (Seq ts) es fs n m targets starts
-tree_seq ts es fs n m targets starts h = let e = leaves_of-Seq ts in makes_as (omega arith) (HasNoAlternatives-Seq ts) (λ A w. let (x, y) = LooseWord-Seq (holds A) ts w in (y, x)) h
+tree_seq ts es fs n m targets starts h = let e = leaves_of-Seq ts in makes_as (omega arith) (HasNoAlternatives-Seq ts).0 (λ A w. let (x, y) = LooseWord-Seq (holds A) ts w in (y, x)) h
 
 pub tree_repeat : (k : ℕ) (t : Tree) (es fs : List Edge) (n m : ℕ) (targets starts : List ℕ) → MakesTimes k t es fs n m targets starts → MakesTree (Repeat k t) es fs n m targets starts
-tree_repeat k t es fs n m targets starts h = let e = leaves_of-Repeat k t in makes_as (omega arith) (HasNoAlternatives-Repeat k t) (λ A w. let (x, y) = LooseWord-Repeat (holds A) k t w in (y, x)) h
+tree_repeat k t es fs n m targets starts h = let e = leaves_of-Repeat k t in makes_as (omega arith) (HasNoAlternatives-Repeat k t).0 (λ A w. let (x, y) = LooseWord-Repeat (holds A) k t w in (y, x)) h
 
 -- an alternative of one tree is that tree
 pub tree_only : (t : Tree) (es fs : List Edge) (n m : ℕ) (targets starts : List ℕ) → MakesTree t es fs n m targets starts → MakesTree (Alt (t ∷ [])) es fs n m targets starts
 tree_only t es fs n m targets starts h =
     let e = leaves_of-Alt (t ∷ []) in
-    makes_as (omega arith) (λ l. (HasNoAlternatives-Alt (t ∷ []) l).1.0) (λ A w. let (x, y) = LooseWord-Alt (holds A) (t ∷ []) w in (λ k. y (inl k), λ k. elim (x k) [ inl j ↦ j | inr j ↦ absurd j ])) h
+    makes_as (omega arith) (λ l. ((HasNoAlternatives-Alt (t ∷ [])).0 l).1.0) (λ A w. let (x, y) = LooseWord-Alt (holds A) (t ∷ []) w in (λ k. y (inl k), λ k. elim (x k) [ inl j ↦ j | inr j ↦ absurd j ])) h
 
 none_alternative : (ts : List Tree) → length ts ≢ 1 → HasNoAlternatives (Alt ts) → ts ≡ []
-none_alternative ts many l = let few = (HasNoAlternatives-Alt ts l).0 in elim (empty ts) [ inl e ↦ e | inr k ↦ absurd (many (omega arith)) ]
+none_alternative ts many l = let few = ((HasNoAlternatives-Alt ts).0 l).0 in elim (empty ts) [ inl e ↦ e | inr k ↦ absurd (many (omega arith)) ]
   where
     empty : (ts : List Tree) → (ts ≡ []) ⊎ (0 < length ts)
     empty [] = inl refl

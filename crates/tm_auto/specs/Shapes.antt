@@ -1,7 +1,7 @@
 -- Numbers and tests over trees that the builder goes by.
 use Rattle.std.specs.Prelude.{ℕ, ◌+◌, Bool, true, false, if◌then◌else◌, nat_le, Option, Some, None, is_some, List, [], ◌∷◌}
 use Rattle.tm_base.specs.declared.tree.Tree.{Tree, Row_of-Tree, end_of-Tree, more_of-Tree, Never, Range, Pad, Ref, Seq', Alt', Repeat', Private'}
-use Rattle.tm_base.specs.Shapes.{leaves_of, HasNoPrivate, HasNoAlternatives}
+use Rattle.tm_base.specs.Shapes.{leaves_of}
 use Rattle.tm_auto.specs.declared.edge.Label.{Label}
 use Rattle.tm_auto.specs.declared.edge.Label.TheVariants.{Bytes, Free}
 
@@ -24,18 +24,6 @@ unfoldable mutual
 abbrev pub all_nodes : List Tree → ℕ
 all_nodes [] = 0
 all_nodes (t ∷ ts) = nodes_of t + all_nodes ts
-
-abbrev pub all_leaves : List Tree → ℕ
-all_leaves [] = 0
-all_leaves (t ∷ ts) = leaves_of t + all_leaves ts
-
-abbrev pub NonePrivate : List Tree → Type 0
-NonePrivate [] = Unit {0}
-NonePrivate (t ∷ ts) = HasNoPrivate t × NonePrivate ts
-
-abbrev pub NoneAlternative : List Tree → Type 0
-NoneAlternative [] = Unit {0}
-NoneAlternative (t ∷ ts) = HasNoAlternatives t × NoneAlternative ts
 
 -- the label of a tree that is one cell and has a word
 abbrev pub cell_of : Tree → Option Label

@@ -70,6 +70,7 @@ impl Auto {
     /// cells reaches.
     pub fn start(&self, alloc: Global) -> Result<StateSet, Memory>
         ensures starts { IfOk result (λ set. set ≡ self.now.starts) }
+        ensures states { IfOk result (λ set. AreStates self.now set) }
         ensures automaton { IsAutomaton self.now }
         ensures reads { ReadsWords self.now }
     {

@@ -2,13 +2,13 @@
 //! targets, it puts those of a tree, and answers at which of them the tree's words begin.
 ghost use Rattle.std.specs.Prelude.{◌≡◌, ℕ, ◌+◌, ◌*◌, ◌^◌, ◌<◌, ◌≤◌, ◌≢◌, ◌++◌, ◌∷◌, [], List, Bool, IfOk, IfNone, IfSome, OnOk, length};
 ghost use Rattle.tm_base.specs.Cells.{Times};
-ghost use Rattle.tm_base.specs.Shapes.{leaves_of, HasNoPrivate, HasNoAlternatives};
+ghost use Rattle.tm_base.specs.Shapes.{leaves_of, all_leaves, HasNoPrivate, NonePrivate, HasNoAlternatives, NoneAlternative};
 ghost use Rattle.tm_base.specs.Transmutes.{holds};
 ghost use Rattle.tm_auto.specs.declared.edge.Edge.{Edge};
 ghost use Rattle.tm_auto.specs.Builds.{edges_to, IsReady, Makes, MakesBy, IsSettled, IsPut, IsShared, MayFollow};
 ghost use Rattle.tm_auto.specs.Labels.{CanTake, Begins};
 ghost use Rattle.tm_auto.specs.Loose.{LooseWord, LooseBytes, LooseInTurn, LooseOneOf, LooseOneWhere};
-ghost use Rattle.tm_auto.specs.Shapes.{all_leaves, leaves_where, cell_of, is_cell, is_no_cell, NonePrivate, NoneAlternative};
+ghost use Rattle.tm_auto.specs.Shapes.{leaves_where, cell_of, is_cell, is_no_cell};
 
 use crate::edge::{Edge, Label};
 use crate::set::StateSet;

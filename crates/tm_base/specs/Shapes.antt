@@ -1,5 +1,5 @@
 -- What is asked of the shape of a tree, and of the size of its words.
-use Rattle.std.specs.Prelude.{◌≡◌, ℕ, ◌+◌, ◌*◌, ◌≤◌, Bool, true, length}
+use Rattle.std.specs.Prelude.{◌≡◌, ℕ, ◌+◌, ◌*◌, ◌≤◌, Bool, true, List, [], ◌∷◌, length}
 use Rattle.tm_base.specs.declared.tree.Tree.{Tree, Row_of-Tree, end_of-Tree, more_of-Tree, Never, Range, Pad, Ref, Seq', Alt', Repeat', Private'}
 use Rattle.tm_base.specs.Cells.{Word, pointer_size}
 use Rattle.tm_base.specs.Transmutes.{holds}
@@ -21,6 +21,10 @@ unfoldable mutual
   row_leaves end_of-Tree = 0
   row_leaves (more_of-Tree t ts) = leaves_of t + row_leaves ts
 
+abbrev pub all_leaves : List Tree → ℕ
+all_leaves [] = 0
+all_leaves (t ∷ ts) = leaves_of t + all_leaves ts
+
 -- no part of the tree is private
 unfoldable mutual
   pub HasNoPrivate : Tree → Type 0
@@ -36,6 +40,10 @@ unfoldable mutual
   pub RowHasNoPrivate : {m : _} → Row_of-Tree m → Type 0
   RowHasNoPrivate end_of-Tree = Unit {0}
   RowHasNoPrivate (more_of-Tree t ts) = HasNoPrivate t × RowHasNoPrivate ts
+
+abbrev pub NonePrivate : List Tree → Type 0
+NonePrivate [] = Unit {0}
+NonePrivate (t ∷ ts) = HasNoPrivate t × NonePrivate ts
 
 -- how many trees a row has
 abbrev pub row_length : {m : _} → Row_of-Tree m → ℕ
@@ -57,6 +65,10 @@ unfoldable mutual
   pub RowHasNoAlternatives : {m : _} → Row_of-Tree m → Type 0
   RowHasNoAlternatives end_of-Tree = Unit {0}
   RowHasNoAlternatives (more_of-Tree t ts) = HasNoAlternatives t × RowHasNoAlternatives ts
+
+abbrev pub NoneAlternative : List Tree → Type 0
+NoneAlternative [] = Unit {0}
+NoneAlternative (t ∷ ts) = HasNoAlternatives t × NoneAlternative ts
 
 -- whatever its references may hold, each word of the tree, its private parts' among them, has so many cells
 abbrev pub HasSize : ℕ → Tree → Type 0

@@ -2,13 +2,14 @@ use Rattle.std.proofs.Common.{◌≡◌, ◌≢◌, ℕ, ◌+◌, ◌-◌, ◌<�
 use Rattle.std.proofs.lemmas.List.{take_all}
 use Rattle.std.proofs.Math.Seq.{drop-length}
 use Rattle.tm_base.specs.declared.tree.Tree.{Tree, Alt}
-use Rattle.tm_base.specs.Shapes.{leaves_of, HasNoPrivate}
+use Rattle.tm_base.specs.Shapes.{leaves_of, all_leaves, HasNoPrivate, NonePrivate}
 use Rattle.tm_auto.specs.declared.edge.Label.TheVariants as label
 use Rattle.tm_auto.specs.Builds.{IsReady}
-use Rattle.tm_auto.specs.Shapes.{nodes_of, all_nodes, all_leaves, NonePrivate, cell_of, is_cell}
+use Rattle.tm_auto.specs.Shapes.{nodes_of, all_nodes, cell_of, is_cell}
 use Rattle.tm_auto.proofs.CaseLemmas as cases
 use Rattle.tm_auto.proofs.CellLemmas.{range_cell, pad_cell, take_one, no_label}
 use Rattle.tm_auto.proofs.MakeLemmas.{makes_empty, makes_as, ready_after, ready_still}
+use Rattle.tm_base.proofs.ShapeLemmas as tree
 use Rattle.tm_auto.proofs.ShapeLemmas as shape
 use Rattle.tm_auto.proofs.build.+grow.Goals as goal
 use Rattle.tm_auto.proofs.build.+grow.Goals.{grow_alt-in-Some, grow_alt-in-None+in_ok-more-in-None+in_ok-insert_all-in-None}
@@ -31,8 +32,8 @@ grow-grow_ref-requires-clause-room t c = rw c.in-Ref.is at c.requires.room
 pub grow-grow_seq-requires : goal.grow-grow_seq-requires
 grow-grow_seq-requires t c =
     let ready = c.requires.ready in
-    let private : NonePrivate c.as_slice.result.now = rw c.as_slice.ensures (shape.HasNoPrivate-Seq c.in-Seq.trees (rw c.in-Seq.is at c.requires.public)) in
-    let room : c.args.b.now.states + all_leaves c.as_slice.result.now ≤ 2147483648 = rw (c.as_slice.ensures, ← shape.leaves_of-Seq c.in-Seq.trees, ← c.in-Seq.is) c.requires.room in
+    let private : NonePrivate c.as_slice.result.now = rw c.as_slice.ensures ((tree.HasNoPrivate-Seq c.in-Seq.trees).0 (rw c.in-Seq.is at c.requires.public)) in
+    let room : c.args.b.now.states + all_leaves c.as_slice.result.now ≤ 2147483648 = rw (c.as_slice.ensures, ← tree.leaves_of-Seq c.in-Seq.trees, ← c.in-Seq.is) c.requires.room in
     let smaller : 1 + all_nodes c.as_slice.result.now < nodes_of c.args.tree.now = rw (c.in-Seq.is, c.as_slice.ensures, shape.nodes_of-Seq) (omega arith) in
     search rules
 
@@ -40,8 +41,8 @@ pub grow-grow-requires : goal.grow-grow-requires
 grow-grow-requires t c =
     let ready = c.requires.ready in
     let one : c.in-Alt.trees ≡ c.in-Some.only.now ∷ [] = sym c.as_slice-in-Alt.ensures ∙ c.in-Some.ensures.one in
-    let private : HasNoPrivate c.in-Some.only.now = (rw one at (shape.HasNoPrivate-Alt c.in-Alt.trees (rw c.in-Alt.is at c.requires.public))).0 in
-    let leaves : leaves_of c.args.tree.now ≡ all_leaves (c.in-Some.only.now ∷ []) = ap leaves_of c.in-Alt.is ∙ shape.leaves_of-Alt c.in-Alt.trees ∙ ap all_leaves one in
+    let private : HasNoPrivate c.in-Some.only.now = (rw one at ((tree.HasNoPrivate-Alt c.in-Alt.trees).0 (rw c.in-Alt.is at c.requires.public))).0 in
+    let leaves : leaves_of c.args.tree.now ≡ all_leaves (c.in-Some.only.now ∷ []) = ap leaves_of c.in-Alt.is ∙ tree.leaves_of-Alt c.in-Alt.trees ∙ ap all_leaves one in
     let all = c.requires.room in
     let room : c.args.b.now.states + leaves_of c.in-Some.only.now ≤ 2147483648 = omega arith in
     let nodes : nodes_of c.args.tree.now ≡ 2 + all_nodes (c.in-Some.only.now ∷ []) = ap nodes_of c.in-Alt.is ∙ shape.nodes_of-Alt c.in-Alt.trees ∙ ap (λ ts. 2 + all_nodes ts) one in
@@ -52,16 +53,16 @@ pub grow-grow_alt-requires : goal.grow-grow_alt-requires
 grow-grow_alt-requires t c =
     let ready = c.requires.ready in
     let some = cases.not_empty _ _ c.is_empty.ensures c.if-is_empty.false in
-    let private : NonePrivate c.as_slice-in-None.result.now = rw c.as_slice-in-None.ensures (shape.HasNoPrivate-Alt c.in-Alt.trees (rw c.in-Alt.is at c.requires.public)) in
-    let room : c.args.b.now.states + all_leaves c.as_slice-in-None.result.now ≤ 2147483648 = rw (c.as_slice-in-None.ensures, ← shape.leaves_of-Alt c.in-Alt.trees, ← c.in-Alt.is) c.requires.room in
+    let private : NonePrivate c.as_slice-in-None.result.now = rw c.as_slice-in-None.ensures ((tree.HasNoPrivate-Alt c.in-Alt.trees).0 (rw c.in-Alt.is at c.requires.public)) in
+    let room : c.args.b.now.states + all_leaves c.as_slice-in-None.result.now ≤ 2147483648 = rw (c.as_slice-in-None.ensures, ← tree.leaves_of-Alt c.in-Alt.trees, ← c.in-Alt.is) c.requires.room in
     let smaller : 1 + all_nodes c.as_slice-in-None.result.now < nodes_of c.args.tree.now = rw (c.in-Alt.is, c.as_slice-in-None.ensures, shape.nodes_of-Alt) (omega arith) in
     search rules
 
 pub grow-grow_times-requires : goal.grow-grow_times-requires
 grow-grow_times-requires t c =
     let ready = c.requires.ready in
-    let private : HasNoPrivate c.get.result.now = rw c.get.ensures (shape.HasNoPrivate-Repeat c.in-Repeat.count c.in-Repeat.turn (rw c.in-Repeat.is at c.requires.public)) in
-    let room = rw (c.in-Repeat.is, shape.leaves_of-Repeat, ← c.get.ensures) at c.requires.room in
+    let private : HasNoPrivate c.get.result.now = rw c.get.ensures ((tree.HasNoPrivate-Repeat c.in-Repeat.count c.in-Repeat.turn).0 (rw c.in-Repeat.is at c.requires.public)) in
+    let room = rw (c.in-Repeat.is, tree.leaves_of-Repeat, ← c.get.ensures) at c.requires.room in
     let smaller : 1 + nodes_of c.get.result.now < nodes_of c.args.tree.now = rw (c.in-Repeat.is, c.get.ensures, shape.nodes_of-Repeat) (omega arith) in
     search rules
 
@@ -98,7 +99,7 @@ pub grow-returns-in-Repeat : goal.grow-returns-in-Repeat
 grow-returns-in-Repeat t c = cases.into c.grow_times.result _ _ (λ s h. rw c.in-Repeat.is (cases.tree_repeat c.in-Repeat.count c.in-Repeat.turn _ _ _ _ _ s (rw c.get.ensures at h))) c.grow_times.ensures
 
 pub grow-returns-in-Private : goal.grow-returns-in-Private
-grow-returns-in-Private t c = absurd (shape.HasNoPrivate-Private _ (rw c.in-Private.is at c.requires.public))
+grow-returns-in-Private t c = absurd (tree.HasNoPrivate-Private _ (rw c.in-Private.is at c.requires.public))
 
 pub grow_alt-grow_cells-requires-clause-room : goal.grow_alt-grow_cells-requires-clause-room
 grow_alt-grow_cells-requires-clause-room t c = cases.room_for_cells c.args.trees.now _ c.requires.room

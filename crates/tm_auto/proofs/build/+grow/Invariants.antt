@@ -1,10 +1,10 @@
 use Rattle.std.proofs.Common.{◌≡◌, ◌+◌, ◌*◌, ◌≤◌, drop, take, length}
 use Rattle.tm_base.specs.Cells.{Times}
-use Rattle.tm_base.specs.Shapes.{leaves_of, HasNoAlternatives}
+use Rattle.tm_base.specs.Shapes.{leaves_of, all_leaves, HasNoAlternatives, NoneAlternative}
 use Rattle.tm_base.specs.Transmutes.{holds}
 use Rattle.tm_auto.specs.Builds.{Makes}
 use Rattle.tm_auto.specs.Loose.{LooseWord, LooseInTurn, LooseOneWhere}
-use Rattle.tm_auto.specs.Shapes.{nodes_of, all_nodes, all_leaves, NoneAlternative, leaves_where, is_cell, is_no_cell}
+use Rattle.tm_auto.specs.Shapes.{nodes_of, all_nodes, leaves_where, is_cell, is_no_cell}
 use Rattle.tm_auto.proofs.MakeLemmas.{Either}
 use Rattle.tm_auto.proofs.build.+grow.Given as goal
 
