@@ -9,3 +9,6 @@ mod set;
 pub use auto::Auto;
 pub use edge::{Edge, Label, Symbol};
 pub use set::StateSet;
+
+#[cfg(test)]
+mod tests;
