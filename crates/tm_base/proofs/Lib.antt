@@ -20,3 +20,4 @@ pub mod RowTexts
 pub mod ExpandedLemmas
 pub mod WorldLemmas
 pub mod TextLemmas
+pub mod ShapeLemmas

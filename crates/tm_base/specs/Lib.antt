@@ -25,3 +25,4 @@ pub mod Whole
 pub mod Worlds
 pub mod Trees
 pub mod Laws
+pub mod Shapes

@@ -1,0 +1,213 @@
+-- The set that a step makes, edge by edge, is the next one.
+use Rattle.std.proofs.Common.{◌≡◌, ◌≢◌, ℕ, zero, suc, ◌+◌, ◌-◌, ◌<◌, ◌≤◌, ◌⊎◌, inl, inr, ◌↔◌, Bool, true, false, cond, nat_le, nat_lt, List, [], ◌∷◌, ◌++◌, length, take, drop, refl, sym, ap, ◌∙◌, subst, arith, eq-eqb, add-one, drop-cons, get_or}
+use Rattle.std.specs.Prelude.{◌==◌, filter}
+use Rattle.std.specs.List.{slice_index_or, AllWithin}
+use Rattle.std.specs.List.Sorted.{IsStrictlyIncreasing, IsPartitionedBy}
+use Rattle.std.proofs.lemmas.Bool.{cases_lt, ne_eqb}
+use Rattle.tm_auto.specs.declared.edge.Edge.{Edge}
+use Rattle.tm_auto.specs.declared.edge.Symbol.{Symbol}
+use Rattle.tm_auto.specs.Automata.{Automaton, IsAutomaton, IsOrdered, AreStates, AreInLayer, edges_from}
+use Rattle.tm_auto.specs.Paths.{Among, here, there, IsPath}
+use Rattle.tm_auto.specs.Sets.{with_state, with_ends, passes, next}
+use Rattle.tm_auto.proofs.SetLemmas.{bool_cases, same_at, with_state_to, with_state_has, with_state_keeps, with_state-IsStrictlyIncreasing, rises_same, increasing_rises}
+use Rattle.tm_auto.proofs.StepLemmas.{next_to, to_next, next-IsStrictlyIncreasing}
+
+-- the set with the ends of all edges that leave these states and pass the symbol
+abbrev pub with_all_ends : (ℕ → ℕ → Bool) → Symbol → List Edge → List ℕ → List ℕ → List ℕ
+with_all_ends A x es [] xs = xs
+with_all_ends A x es (s ∷ ss) xs = with_all_ends A x es ss (with_ends A x (edges_from s es) xs)
+
+pub among_from : (s : ℕ) (es : List Edge) (e : Edge) → Among e (edges_from s es) → Among e es × (e.from ≡ s)
+among_from s [] e a = elim a [ ]
+among_from s (f ∷ es) e a = elim (bool_cases (f.from == s)) [
+  | inl b ↦ own f es e b (λ a. among_from s es e a) (subst (λ (z : Bool). Among e (cond z (f ∷ edges_from s es) (edges_from s es))) b a)
+  | inr b ↦ (let (x, y) = among_from s es e (subst (λ (z : Bool). Among e (cond z (f ∷ edges_from s es) (edges_from s es))) b a) in (there x, y))
+]
+  where
+    own : (f : Edge) (es : List Edge) (e : Edge) → (f.from == s) ≡ true → (Among e (edges_from s es) → Among e es × (e.from ≡ s)) → Among e (f ∷ edges_from s es) → Among e (f ∷ es) × (e.from ≡ s)
+    own f es e b g here = (here, same_at e.from s b)
+    own f es e b g (there a) = let (x, y) = g a in (there x, y)
+
+pub from_among : (s : ℕ) (es : List Edge) (e : Edge) → Among e es → e.from ≡ s → Among e (edges_from s es)
+from_among s [] e a q = elim a [ ]
+from_among s (f ∷ es) e here q = rw (eq-eqb e.from s q) here
+from_among s (f ∷ es) e (there a) q = elim (bool_cases (f.from == s)) [ inl b ↦ rw b (there (from_among s es e a q)) | inr b ↦ rw b (from_among s es e a q) ]
+
+module _ (A : ℕ → ℕ → Bool) (x : Symbol) where
+  -- an edge of these leads there and passes
+  abbrev pub Ends : List Edge → ℕ → Type 0
+  Ends es t = (e : Edge) × Among e es × (passes A e.label x ≡ true) × (e.to ≡ t)
+
+  ends_to : (es : List Edge) (xs : List ℕ) (t : ℕ) → Among t (with_ends A x es xs) → Among t xs ⊎ Ends es t
+  ends_to [] xs t a = inl a
+  ends_to (e ∷ es) xs t a = elim (bool_cases (passes A e.label x)) [
+    | inl p ↦ elim (ends_to es (with_state e.to xs) t (subst (λ (b : Bool). Among t (with_ends A x es (cond b (with_state e.to xs) xs))) p a)) [
+      | inl b ↦ elim (with_state_to e.to xs t b) [ inl q ↦ inr (e, here, p, sym q) | inr c ↦ inl c ]
+      | inr (f, fa, fp, fq) ↦ inr (f, there fa, fp, fq)
+    ]
+    | inr p ↦ elim (ends_to es xs t (subst (λ (b : Bool). Among t (with_ends A x es (cond b (with_state e.to xs) xs))) p a)) [ inl b ↦ inl b | inr (f, fa, fp, fq) ↦ inr (f, there fa, fp, fq) ]
+  ]
+
+  ends_keep : (es : List Edge) (xs : List ℕ) (t : ℕ) → Among t xs → Among t (with_ends A x es xs)
+  ends_keep [] xs t a = a
+  ends_keep (e ∷ es) xs t a = elim (bool_cases (passes A e.label x)) [ inl p ↦ rw p (ends_keep es (with_state e.to xs) t (with_state_keeps e.to xs t a)) | inr p ↦ rw p (ends_keep es xs t a) ]
+
+  ends_has : (es : List Edge) (xs : List ℕ) (t : ℕ) → Ends es t → Among t (with_ends A x es xs)
+  ends_has [] xs t (f, fa, fp, fq) = elim fa [ ]
+  ends_has (e ∷ es) xs t (f, here, fp, fq) = rw fp (ends_keep es (with_state e.to xs) t (subst (λ (z : ℕ). Among z (with_state e.to xs)) fq (with_state_has e.to xs)))
+  ends_has (e ∷ es) xs t (f, there fa, fp, fq) = elim (bool_cases (passes A e.label x)) [ inl p ↦ rw p (ends_has es (with_state e.to xs) t (f, fa, fp, fq)) | inr p ↦ rw p (ends_has es xs t (f, fa, fp, fq)) ]
+
+  ends_rise : (es : List Edge) (xs : List ℕ) → IsStrictlyIncreasing xs → IsStrictlyIncreasing (with_ends A x es xs)
+  ends_rise [] xs h = h
+  ends_rise (e ∷ es) xs h = elim (bool_cases (passes A e.label x)) [ inl p ↦ rw p (ends_rise es (with_state e.to xs) (with_state-IsStrictlyIncreasing e.to xs h)) | inr p ↦ rw p (ends_rise es xs h) ]
+
+  module _ (es : List Edge) where
+    all_to : (ss xs : List ℕ) (t : ℕ) → Among t (with_all_ends A x es ss xs) → Among t xs ⊎ ((e : Edge) × Among e es × Among e.from ss × (passes A e.label x ≡ true) × (e.to ≡ t))
+    all_to [] xs t a = inl a
+    all_to (s ∷ ss) xs t a = elim (all_to ss (with_ends A x (edges_from s es) xs) t a) [
+      | inl b ↦ elim (ends_to (edges_from s es) xs t b) [
+        | inl c ↦ inl c
+        | inr (e, ea, ep, eq) ↦ (let (m, f) = among_from s es e ea in inr (e, m, subst (λ (z : ℕ). Among z (s ∷ ss)) (sym f) here, ep, eq))
+      ]
+      | inr (e, ea, ef, ep, eq) ↦ inr (e, ea, there ef, ep, eq)
+    ]
+
+    all_keep : (ss xs : List ℕ) (t : ℕ) → Among t xs → Among t (with_all_ends A x es ss xs)
+    all_keep [] xs t a = a
+    all_keep (s ∷ ss) xs t a = all_keep ss (with_ends A x (edges_from s es) xs) t (ends_keep (edges_from s es) xs t a)
+
+    all_has : (ss xs : List ℕ) (e : Edge) → Among e es → Among e.from ss → passes A e.label x ≡ true → Among e.to (with_all_ends A x es ss xs)
+    all_has [] xs e a m p = elim m [ ]
+    all_has (s ∷ ss) xs e a here p = all_keep ss (with_ends A x (edges_from e.from es) xs) e.to (ends_has (edges_from e.from es) xs e.to (e, from_among e.from es e a refl, p, refl))
+    all_has (s ∷ ss) xs e a (there m) p = all_has ss (with_ends A x (edges_from s es) xs) e a m p
+
+    all_rise : (ss xs : List ℕ) → IsStrictlyIncreasing xs → IsStrictlyIncreasing (with_all_ends A x es ss xs)
+    all_rise [] xs h = h
+    all_rise (s ∷ ss) xs h = all_rise ss (with_ends A x (edges_from s es) xs) (ends_rise (edges_from s es) xs h)
+
+    pub with_all_ends-next : (from : List ℕ) → with_all_ends A x es from [] ≡ next A es from x
+    with_all_ends-next from =
+        let none : IsStrictlyIncreasing [] = λ k l. absurd (omega arith) in
+        rises_same (with_all_ends A x es from []) (next A es from x) (increasing_rises _ (all_rise from [] none)) (increasing_rises _ (next-IsStrictlyIncreasing A es from x))
+        (λ t a. elim (all_to from [] t a) [ inl b ↦ elim b [ ] | inr (e, ea, ef, ep, eq) ↦ subst (λ (z : ℕ). Among z (next A es from x)) eq (to_next A es from x e ea ef ep) ])
+        (λ t a. let (e, ea, ef, ep, eq) = next_to A es from x t a in subst (λ (z : ℕ). Among z (with_all_ends A x es from [])) eq (all_has from [] e ea ef ep))
+
+-- ---- the edges of a state lie side by side
+
+ordered_at : (es : List Edge) → IsOrdered es → (i j : ℕ) (d : Edge) → i ≤ j → j < length es → (slice_index_or es i d).from ≤ (slice_index_or es j d).from
+ordered_at [] h i j d le l = absurd (omega arith)
+ordered_at (e ∷ es) h zero zero d le l = omega arith
+ordered_at (e ∷ es) h zero (suc j) d le l = h.0 (slice_index_or es j d) (at es j d (omega arith))
+  where
+    at : (es : List Edge) (j : ℕ) (d : Edge) → j < length es → Among (slice_index_or es j d) es
+    at [] j d l = absurd (omega arith)
+    at (e ∷ es) zero d l = here
+    at (e ∷ es) (suc j) d l = there (at es j d (omega arith))
+ordered_at (e ∷ es) h (suc i) zero d le l = absurd (omega arith)
+ordered_at (e ∷ es) h (suc i) (suc j) d le l = ordered_at es h.1 i j d (omega arith) (omega arith)
+
+lt_test : (a b : ℕ) → nat_lt a b ≡ true → a < b
+lt_test a b e = grind arith
+
+not_lt : (a b : ℕ) → nat_lt a b ≡ false → b ≤ a
+not_lt a b e = grind arith
+
+lt_holds : (a b : ℕ) → a < b → nat_lt a b ≡ true
+lt_holds a b h = grind arith
+
+le_test : (a b : ℕ) → nat_le a b ≡ true → a ≤ b
+le_test a b e = grind arith
+
+not_le : (a b : ℕ) → nat_le a b ≡ false → b < a
+not_le a b e = grind arith
+
+le_holds : (a b : ℕ) → a ≤ b → nat_le a b ≡ true
+le_holds a b h = grind arith
+
+pub below_partitioned : (s : ℕ) (es : List Edge) → IsOrdered es → IsPartitionedBy (λ e. nat_lt e.from s) es
+below_partitioned s es h i j d le l e = let a = ordered_at es h i j d le l in let b = lt_test _ s e in lt_holds _ s (omega arith)
+
+pub upto_partitioned : (s : ℕ) (es : List Edge) → IsOrdered es → IsPartitionedBy (λ e. nat_le e.from s) es
+upto_partitioned s es h i j d le l e = let a = ordered_at es h i j d le l in let b = le_test _ s e in le_holds _ s (omega arith)
+
+-- the place of the first of them, and the place behind the last
+pub record Bounds (s : ℕ) (es : List Edge) (i j : ℕ) : Type 0 where
+  pub first : i ≤ length es
+  pub last : j ≤ length es
+  pub below : AllWithin (λ (e : Edge). nat_lt e.from s ≡ true) es 0 i
+  pub from : AllWithin (λ (e : Edge). nat_lt e.from s ≡ false) es i (length es)
+  pub upto : AllWithin (λ (e : Edge). nat_le e.from s ≡ true) es 0 j
+  pub above : AllWithin (λ (e : Edge). nat_le e.from s ≡ false) es j (length es)
+
+tail_bounds : (s : ℕ) (e : Edge) (es : List Edge) (i j : ℕ) → Bounds s (e ∷ es) (suc i) (suc j) → Bounds s es i j
+tail_bounds s e es i j b = record {
+  first = let x = b.first in omega arith;
+  last = let x = b.last in omega arith;
+  below = λ k d l u. b.below (suc k) d (omega arith) (omega arith);
+  from = λ k d l u. b.from (suc k) d (omega arith) (omega arith);
+  upto = λ k d l u. b.upto (suc k) d (omega arith) (omega arith);
+  above = λ k d l u. b.above (suc k) d (omega arith) (omega arith);
+}
+
+pub bounds_le : (s : ℕ) (es : List Edge) (i j : ℕ) → Bounds s es i j → i ≤ j
+bounds_le s [] i j b = let x = b.first in omega arith
+bounds_le s (e ∷ es) zero j b = omega arith
+bounds_le s (e ∷ es) (suc i) zero b = let x = lt_test e.from s (b.below 0 e (omega arith) (omega arith)) in let y = not_le e.from s (b.above 0 e (omega arith) (omega arith)) in absurd (omega arith)
+bounds_le s (e ∷ es) (suc i) (suc j) b = let x = bounds_le s es i j (tail_bounds s e es i j b) in omega arith
+
+-- how many there are from the first on
+fore : (s : ℕ) (es : List Edge) (j : ℕ) → j ≤ length es → ((k : ℕ) (d : Edge) → k < length es → nat_lt (slice_index_or es k d).from s ≡ false) → AllWithin (λ (e : Edge). nat_le e.from s ≡ true) es 0 j → AllWithin (λ (e : Edge). nat_le e.from s ≡ false) es j (length es) → take j es ≡ edges_from s es
+fore s [] zero l from upto above = refl
+fore s [] (suc j) l from upto above = absurd (omega arith)
+fore s (e ∷ es) zero l from upto above =
+    let y = not_le e.from s (above 0 e (omega arith) (omega arith)) in
+    let rest = fore s es zero (omega arith) (λ k d m. from (suc k) d (omega arith)) (λ k d m u. absurd (omega arith)) (λ k d m u. above (suc k) d (omega arith) (omega arith)) in
+    rw (ne_eqb e.from s (λ q. omega arith)) rest
+fore s (e ∷ es) (suc j) l from upto above =
+    let x = le_test e.from s (upto 0 e (omega arith) (omega arith)) in
+    let y = not_lt e.from s (from 0 e (omega arith)) in
+    let rest = fore s es j (omega arith) (λ k d m. from (suc k) d (omega arith)) (λ k d m u. upto (suc k) d (omega arith) (omega arith)) (λ k d m u. above (suc k) d (omega arith) (omega arith)) in
+    rw (eq-eqb e.from s (omega arith)) (ap (λ (z : List Edge). e ∷ z) rest)
+
+pub between : (s : ℕ) (es : List Edge) (i j : ℕ) → Bounds s es i j → take (j - i) (drop i es) ≡ edges_from s es
+between s [] zero j b = let none : j - 0 ≡ 0 = let x = b.last in omega arith in rw none refl
+between s [] (suc i) j b = let x = b.first in absurd (omega arith)
+between s (e ∷ es) zero j b = let less : j - 0 ≡ j = omega arith in rw less (fore s (e ∷ es) j b.last (λ k d l. b.from k d (omega arith) l) b.upto b.above)
+between s (e ∷ es) (suc i) zero b = let x = bounds_le s (e ∷ es) (suc i) zero b in absurd (omega arith)
+between s (e ∷ es) (suc i) (suc j) b =
+    let x = lt_test e.from s (b.below 0 e (omega arith) (omega arith)) in
+    let less : suc j - suc i ≡ j - i = omega arith in
+    rw (ne_eqb e.from s (λ q. omega arith), less) (between s es i j (tail_bounds s e es i j b))
+
+-- ---- along the states of a set
+
+module _ (A : ℕ → ℕ → Bool) (x : Symbol) where
+  pub step_turn : (es : List Edge) (ss : List ℕ) (i : ℕ) (xs : List ℕ) → i < length ss → with_all_ends A x es (drop (i + 1) ss) (with_ends A x (edges_from (get_or ss i 0) es) xs) ≡ with_all_ends A x es (drop i ss) xs
+  step_turn es ss i xs l = rw (add-one, drop-cons ss i 0) refl
+
+  pub step_done : (es fs : List Edge) (ss from : List ℕ) (i : ℕ) (reached : List ℕ) → length ss ≤ i → with_all_ends A x es (drop i ss) reached ≡ with_all_ends A x es ss [] → es ≡ fs → ss ≡ from → reached ≡ next A fs from x
+  step_done es fs ss from i reached l e ee es2 =
+      let none : drop i ss ≡ [] = drop_none ss i l in
+      let whole : reached ≡ with_all_ends A x es ss [] = rw none at e in
+      whole ∙ with_all_ends-next A x es ss ∙ ap (λ (z : List Edge). next A z ss x) ee ∙ ap (λ (z : List ℕ). next A fs z x) es2
+    where
+      drop_none : (ss : List ℕ) (i : ℕ) → length ss ≤ i → drop i ss ≡ []
+      drop_none [] zero l = refl
+      drop_none [] (suc i) l = refl
+      drop_none (s ∷ ss) zero l = absurd (omega arith)
+      drop_none (s ∷ ss) (suc i) l = drop_none ss i (omega arith)
+
+  -- what a step makes of states is states, and of a layer the next one
+  pub next_states : (auto : Automaton) → IsAutomaton auto → (from : List ℕ) → AreStates auto (next A auto.edges from x)
+  next_states auto h from s m = let (e, ea, ef, ep, eq) = next_to A auto.edges from x s m in let (y, z) = h.down e ea in omega arith
+
+  path_more : (es : List Edge) (k a s : ℕ) (e : Edge) → IsPath es k a s → Among e es → e.from ≡ s → IsPath es (suc k) a e.to
+  path_more es zero a s e p m q = (e, m, q ∙ sym p, refl)
+  path_more es (suc k) a s e (f, fm, ff, p) m q = (f, fm, ff, path_more es k f.to s e p m q)
+
+  pub next_layer : (auto : Automaton) (from : List ℕ) (k : ℕ) → AreInLayer auto k from → AreInLayer auto (k + 1) (next A auto.edges from x)
+  next_layer auto from k h s m =
+      let (e, ea, ef, ep, eq) = next_to A auto.edges from x s m in
+      let r = h e.from ef in
+      let more : suc k ≡ k + 1 = omega arith in
+      record { start = r.start; among = r.among; path = subst (λ (n : ℕ). IsPath auto.edges n r.start s) more (subst (λ (z : ℕ). IsPath auto.edges (suc k) r.start z) eq (path_more auto.edges k r.start e.from e r.path ea refl)) }

@@ -1,0 +1,110 @@
+-- What an automaton is, and what its words are.
+use Rattle.std.specs.Prelude.{◌≡◌, ◌≢◌, ℕ, suc, Bool, ◌<◌, ◌≤◌, ◌⊎◌, ◌↔◌, ◌==◌, nat_lt, filter, List, [], ◌∷◌, ◌++◌, length}
+use Rattle.std.specs.List.Sorted.{IsStrictlyIncreasing}
+use Rattle.tm_base.specs.declared.cell.Cell.TheVariants.{Ptr}
+use Rattle.tm_base.specs.declared.cell.RefId.{RefId}
+use Rattle.tm_base.specs.Cells.{Word, OrOwn, pointer_size}
+use Rattle.tm_base.specs.Transmutes.{holds}
+use Rattle.tm_auto.specs.declared.edge.Edge.{Edge}
+use Rattle.tm_auto.specs.Joined.{IsJoined, IsWhole, HasNoOwn}
+use Rattle.tm_auto.specs.Labels.{CanTake, Begins, Joins}
+use Rattle.tm_auto.specs.Paths.{Among, Leads, Spells, Reaches, IsPath}
+use Rattle.tm_auto.specs.Sets.{reached_from}
+
+-- States are the numbers below `states`, and 0 is the end. Each word has `size` cells.
+pub record Automaton : Type 0 where
+  pub states : ℕ
+  pub edges : List Edge
+  pub starts : List ℕ
+  pub size : ℕ
+
+-- a word: a joined list of cells that the labels of a path from a start to the end spell
+pub record AutoWord (A : ℕ → ℕ → Type 0) (auto : Automaton) (w : Word) : Type 0 where
+  pub joined : IsJoined w
+  pub reaches : Reaches A auto.edges auto.starts w
+
+-- Some word begins with the list, where a reference may also hold itself.
+abbrev pub IsViable : (ℕ → ℕ → Type 0) → Automaton → Word → Type 0
+IsViable A auto w = (v : Word) × AutoWord (OrOwn A) auto (w ++ v)
+
+-- the edges that leave a state, in order
+abbrev pub edges_from : ℕ → List Edge → List Edge
+edges_from s es = filter (λ e. e.from == s) es
+
+-- the states that a list of cells reaches from the starts
+abbrev pub reached : (ℕ → ℕ → Bool) → Automaton → Word → List ℕ
+reached A auto w = reached_from A auto.edges auto.starts w
+
+-- a path of so many edges leads from a start to the state
+pub record IsInLayer (auto : Automaton) (k s : ℕ) : Type 0 where
+  pub start : ℕ
+  pub among : Among start auto.starts
+  pub path : IsPath auto.edges k start s
+
+abbrev pub HasOneStateALayer : Automaton → Type 0
+HasOneStateALayer auto = (k s t : ℕ) → IsInLayer auto k s → IsInLayer auto k t → s ≡ t
+
+-- a start, or a state to which an edge leads
+abbrev pub IsEntered : List Edge → List ℕ → ℕ → Type 0
+IsEntered es starts s = Among s starts ⊎ ((e : Edge) × Among e es × (e.to ≡ s))
+
+-- no edge stands behind one that leaves a later state
+abbrev pub IsOrdered : List Edge → Type 0
+IsOrdered [] = Unit {0}
+IsOrdered (e ∷ es) = ((f : Edge) → Among f es → e.from ≤ f.from) × IsOrdered es
+
+-- What every automaton has, said of its edges, of two that meet, and of its words.
+pub record IsAutomaton (auto : Automaton) : Type 0 where
+  pub down : (e : Edge) → Among e auto.edges → (e.to < e.from) × (e.from < auto.states)
+  pub ordered : IsOrdered auto.edges
+  pub left : (s : ℕ) → 0 < s → s < auto.states → (e : Edge) × Among e auto.edges × (e.from ≡ s)
+  pub entered : (s : ℕ) → s < auto.states → IsEntered auto.edges auto.starts s
+  pub takes : (e : Edge) → Among e auto.edges → CanTake e.label
+  pub joins : (e f : Edge) → Among e auto.edges → Among f auto.edges → e.to ≡ f.from → Joins e.label f.label
+  pub begins : (e : Edge) → Among e auto.edges → Among e.from auto.starts → Begins e.label
+  pub rising : IsStrictlyIncreasing auto.starts
+  pub below : (s : ℕ) → Among s auto.starts → s < auto.states
+  pub sized : (A : ℕ → ℕ → Bool) (w : Word) → AutoWord (holds A) auto w → length w ≡ auto.size
+  pub whole : (A : ℕ → ℕ → Bool) (w : Word) → AutoWord (holds A) auto w → IsWhole w
+
+-- a word goes through the state
+pub record LiesOnWord (A : ℕ → ℕ → Type 0) (auto : Automaton) (s : ℕ) : Type 0 where
+  pub before : Word
+  pub behind : Word
+  pub start : ℕ
+  pub among : Among start auto.starts
+  pub leads : Leads A auto.edges before start s
+  pub spells : Spells A auto.edges behind s
+  pub word : AutoWord A auto (before ++ behind)
+
+-- Each state lies on a word where a reference may hold itself, and is in one layer: that of its place
+-- in the words. The end alone is in the last one.
+pub record IsLayered (auto : Automaton) : Type 0 where
+  pub lies : (A : ℕ → ℕ → Bool) (s : ℕ) → s < auto.states → LiesOnWord (OrOwn (holds A)) auto s
+  pub one : (s j k : ℕ) → IsInLayer auto j s → IsInLayer auto k s → j ≡ k
+  pub last : (k s : ℕ) → IsInLayer auto k s → (s ≡ 0) ↔ (k ≡ auto.size)
+
+-- states of the automaton
+abbrev pub AreStates : Automaton → List ℕ → Type 0
+AreStates auto states = (s : ℕ) → Among s states → s < auto.states
+
+-- states that so many edges lead to from a start
+abbrev pub AreInLayer : Automaton → ℕ → List ℕ → Type 0
+AreInLayer auto k states = (s : ℕ) → Among s states → IsInLayer auto k s
+
+-- the test of equal references
+abbrev pub equal : ℕ → ℕ → Bool
+equal x t = x == t
+
+-- What lists of cells reach. A joined list in which no reference holds itself reaches a state exactly
+-- where it is viable, in the middle of a reference too. Under the test of equal references, as for a
+-- source, each list does that begins a word, and what reaches a state is joined. And where a byte of a
+-- reference is taken, so is the next: a refused one has place 0.
+pub record ReadsWords (auto : Automaton) : Type 0 where
+  pub states : (A : ℕ → ℕ → Bool) (w : Word) (s : ℕ) → Among s (reached A auto w) ↔ ((a : ℕ) × Among a auto.starts × Leads (holds A) auto.edges w a s)
+  pub layer : (A : ℕ → ℕ → Bool) (w : Word) → AreInLayer auto (length w) (reached A auto w)
+  pub viable : (A : ℕ → ℕ → Bool) (w : Word) → IsJoined w → HasNoOwn w → (reached A auto w ≢ []) ↔ IsViable (holds A) auto w
+  pub source : (w : Word) → (reached equal auto w ≢ []) ↔ ((v : Word) × AutoWord (holds equal) auto (w ++ v))
+  pub joined : (w : Word) → reached equal auto w ≢ [] → IsJoined w
+  pub onward : (A : ℕ → ℕ → Bool) (w : Word) (r : RefId) (k : ℕ) → suc k < pointer_size → IsJoined (w ++ Ptr r k ∷ []) → HasNoOwn (w ++ Ptr r k ∷ [])
+      → reached A auto (w ++ Ptr r k ∷ []) ≢ [] → reached A auto ((w ++ Ptr r k ∷ []) ++ Ptr r (suc k) ∷ []) ≢ []

@@ -1,0 +1,171 @@
+ghost use Rattle.std.specs.Prelude.{◌≡◌, ℕ, ◌+◌, ◌^◌, ◌<◌, ◌≤◌, ◌↔◌, Bool, IfOk, OnOk, length, slice_range};
+ghost use Rattle.tm_base.specs.Cells.{Word};
+ghost use Rattle.tm_base.specs.Shapes.{leaves_of, HasNoPrivate, HasNoAlternatives, HasSize};
+ghost use Rattle.tm_base.specs.Transmutes.{holds};
+ghost use Rattle.tm_base.specs.Trees.{TreeWord};
+ghost use Rattle.tm_auto.specs.Automata.{AutoWord, IsAutomaton, HasOneStateALayer, IsLayered, ReadsWords, AreStates, AreInLayer, IsOrdered, edges_from};
+ghost use Rattle.tm_auto.specs.Sets.{next, passes, with_ends};
+
+use crate::build::{Building, grow};
+use crate::edge::{Edge, Label, Symbol};
+use crate::set::StateSet;
+use std::alloc::Global;
+use std::marker::Model;
+use tm_base::{Memory, RefTest, Tree};
+
+/// An automaton over cells. Contracts see its states, its edges, its starts and the size of its words.
+#[derive(Drop)]
+pub struct Auto {
+    states: u32,
+    edges: Vec<Edge>,
+    starts: StateSet,
+    size: u32,
+}
+
+impl Model for Auto {
+    ghost use Rattle.tm_auto.specs.Automata.{Automaton, IsAutomaton};
+
+    ghost Value = { Automaton };
+
+    ghost view = { λ auto. record { states = auto.states; edges = auto.edges.items; starts = auto.starts; size = auto.size } };
+
+    ghost invariant = { λ auto. IsAutomaton (record { states = auto.states; edges = auto.edges.items; starts = auto.starts; size = auto.size }) };
+}
+
+impl Auto {
+    /// The automaton of a tree without private parts, whose words all have `size` cells.
+    pub fn build(alloc: Global, tree: &Tree, size: u32) -> Result<Auto, Memory>
+        requires public { HasNoPrivate tree.now }
+        requires leaves { leaves_of tree.now < 2 ^ 31 }
+        requires sized { HasSize size tree.now }
+        ensures automaton { IfOk result (λ auto. IsAutomaton auto) }
+        ensures size { IfOk result (λ auto. auto.size ≡ size) }
+        ensures words { IfOk result (λ auto. (A : ℕ → ℕ → Bool) (keep : Bool) (w : Word)
+            → TreeWord (holds A) keep tree.now w ↔ AutoWord (holds A) auto w) }
+        ensures single { HasNoAlternatives tree.now → IfOk result (λ auto. HasOneStateALayer auto) }
+    {
+        let mut b = Building {
+            edges: Vec::new(alloc),
+            states: 1,
+        };
+        let end = StateSet::of_one(alloc, 0)?;
+        let starts = grow(alloc, &mut b, tree, &end)?;
+        if starts.as_slice().is_empty() {
+            return Ok(Auto {
+                states: 0,
+                edges: Vec::new(alloc),
+                starts,
+                size,
+            });
+        }
+        Ok(Auto {
+            states: b.states,
+            edges: b.edges,
+            starts,
+            size,
+        })
+    }
+
+    /// The set of the states at which words begin. What follows from a set by `step` is what a list of
+    /// cells reaches.
+    pub fn start(&self, alloc: Global) -> Result<StateSet, Memory>
+        ensures starts { IfOk result (λ set. set ≡ self.now.starts) }
+        ensures states { IfOk result (λ set. AreStates self.now set) }
+        ensures automaton { IsAutomaton self.now }
+        ensures reads { ReadsWords self.now }
+    {
+        self.starts.copy(alloc)
+    }
+
+    /// How many cells each word has.
+    pub fn size(&self) -> u32
+        ensures size { result ≡ self.now.size }
+        ensures automaton { IsAutomaton self.now }
+        ensures layers { IsLayered self.now }
+    {
+        self.size
+    }
+
+    /// The edges that leave a state of the automaton, in order.
+    pub fn edges(&self, state: u32) -> &[Edge]
+        requires { state < self.now.states }
+        ensures { result.now ≡ edges_from state self.now.edges }
+    {
+        edges_of(self.edges.as_slice(), state)
+    }
+
+    /// The set of the states to which an edge leads that leaves one of these and passes the symbol. A
+    /// range of bytes is passed as a whole or not at all.
+    pub fn step<M: RefTest>(
+        &self,
+        alloc: Global,
+        refs: &M,
+        from: &StateSet,
+        symbol: Symbol,
+    ) -> Result<StateSet, Memory>
+        requires { AreStates self.now from.now }
+        ensures next { IfOk result (λ set. set ≡ next (M.test refs.now) self.now.edges from.now symbol) }
+        ensures states { IfOk result (λ set. AreStates self.now set) }
+        ensures layer { (k : ℕ) → AreInLayer self.now k from.now → IfOk result (λ set. AreInLayer self.now (k + 1) set) }
+    {
+        let edges = self.edges.as_slice();
+        let mut reached = StateSet::new(alloc);
+        for state in from.as_slice() {
+            follow(refs, edges_of(edges, *state), symbol, &mut reached)?;
+        }
+        Ok(reached)
+    }
+}
+
+// The edges that leave a state: they stand side by side.
+fn edges_of(edges: &[Edge], state: u32) -> &[Edge]
+    requires { IsOrdered edges.now }
+    ensures { result.now ≡ edges_from state edges.now }
+{
+    let (first, end) = places_of(edges, state);
+    &edges[first..end]
+}
+
+// Where they begin and end.
+fn places_of(edges: &[Edge], state: u32) -> (usize, usize)
+    requires { IsOrdered edges.now }
+    ensures rising { result.0 ≤ result.1 }
+    ensures within { result.1 ≤ length edges.now }
+    ensures edges { slice_range edges.now result.0 result.1 ≡ edges_from state edges.now }
+{
+    let first = edges.partition_point(|edge| edge.from < state);
+    let end = edges.partition_point(|edge| edge.from <= state);
+    (first, end)
+}
+
+// Puts the end of each edge that passes the symbol into the set.
+fn follow<M: RefTest>(
+    refs: &M,
+    edges: &[Edge],
+    symbol: Symbol,
+    reached: &mut StateSet,
+) -> Result<(), Memory>
+    ensures { OnOk result (reached.new ≡ with_ends (M.test refs.now) symbol edges.now reached.old) }
+{
+    for edge in edges {
+        if takes(refs, edge.label, symbol) {
+            reached.insert(edge.to)?;
+        }
+    }
+    Ok(())
+}
+
+// Whether the label passes the symbol.
+fn takes<M: RefTest>(refs: &M, label: Label, symbol: Symbol) -> bool
+    ensures { result ≡ passes (M.test refs.now) label symbol }
+{
+    match (label, symbol) {
+        (Label::Bytes(low, high), Symbol::Bytes(first, last)) => low <= first && last <= high,
+        (Label::Free, Symbol::Bytes(_, _)) => true,
+        (Label::Free, Symbol::Uninit) => true,
+        (Label::Leaf(target, place), Symbol::Ptr(source, k)) => {
+            k == place && refs.holds(source, target)
+        }
+        _ => false,
+    }
+}

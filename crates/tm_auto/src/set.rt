@@ -1,0 +1,109 @@
+ghost use Rattle.std.specs.Prelude.{◌≡◌, [], ◌∷◌, ◌↔◌, ◌≤◌, IsTrue, IfOk, OnOk, OnErr, IfSome, IfNone, insert, length};
+ghost use Rattle.std.specs.List.Sorted.{IsStrictlyIncreasing};
+ghost use Rattle.tm_auto.specs.Sets.{with_state, with_states};
+
+use smallvec::SmallVec;
+use std::alloc::Global;
+use std::marker::Model;
+use tm_base::Memory;
+
+/// A set of states. Contracts see it as the list of their numbers, rising, each once.
+#[derive(Drop)]
+pub struct StateSet {
+    states: SmallVec<u32, 4>,
+}
+
+impl Model for StateSet {
+    ghost use Rattle.std.specs.Prelude.{List, ℕ};
+    ghost use Rattle.std.specs.List.Sorted.{IsStrictlyIncreasing};
+
+    ghost Value = { List ℕ };
+
+    ghost view = { λ set. set.states.items };
+
+    ghost invariant = { λ set. IsStrictlyIncreasing set.states.items };
+}
+
+impl StateSet {
+    /// The states, in rising order and each once.
+    pub fn as_slice(&self) -> &[u32]
+        ensures states { result.now ≡ self.now }
+        ensures rising { IsStrictlyIncreasing result.now }
+    {
+        self.states.as_slice()
+    }
+
+    /// The empty set. It takes no memory.
+    pub(crate) fn new(alloc: Global) -> StateSet
+        ensures { result ≡ [] }
+    {
+        StateSet {
+            states: SmallVec::new(alloc),
+        }
+    }
+
+    /// The set of one state.
+    pub(crate) fn of_one(alloc: Global, state: u32) -> Result<StateSet, Memory>
+        ensures { IfOk result (λ set. set ≡ state ∷ []) }
+    {
+        let mut set = StateSet::new(alloc);
+        set.insert(state)?;
+        Ok(set)
+    }
+
+    /// A set of the same states.
+    pub(crate) fn copy(&self, alloc: Global) -> Result<StateSet, Memory>
+        ensures { IfOk result (λ set. set ≡ self.now) }
+    {
+        match SmallVec::from_slice(alloc, self.states.as_slice()) {
+            Ok(states) => Ok(StateSet { states }),
+            Err(_) => Err(Memory),
+        }
+    }
+
+    /// Whether there is no state in it.
+    pub(crate) fn is_empty(&self) -> bool
+        ensures { IsTrue result ↔ (self.now ≡ []) }
+    {
+        self.states.as_slice().is_empty()
+    }
+
+    /// Puts a state in its place, unless it is there. Where memory is wanting, the set is as it was.
+    pub(crate) fn insert(&mut self, state: u32) -> Result<(), Memory>
+        ensures added { OnOk result (self.new ≡ with_state state self.old) }
+        ensures kept { OnErr result (self.new ≡ self.old) }
+    {
+        match place_of(self.states.as_slice(), state) {
+            None => Ok(()),
+            Some(place) => match self.states.insert(place, state) {
+                Ok(()) => Ok(()),
+                Err(_) => Err(Memory),
+            },
+        }
+    }
+
+    /// Puts each state of the other set in its place.
+    pub(crate) fn insert_all(&mut self, more: StateSet) -> Result<(), Memory>
+        ensures { OnOk result (self.new ≡ with_states more self.old) }
+    {
+        for state in more.as_slice() {
+            self.insert(*state)?;
+        }
+        Ok(())
+    }
+}
+
+// Where a state goes among rising ones; `None` if it is there.
+fn place_of(states: &[u32], state: u32) -> Option<usize>
+    requires { IsStrictlyIncreasing states.now }
+    ensures bound { IfSome result (λ place. place ≤ length states.now) }
+    ensures place { IfSome result (λ place. insert states.now place state ≡ with_state state states.now) }
+    ensures there { IfNone result (with_state state states.now ≡ states.now) }
+{
+    let place = states.partition_point(|other| *other < state);
+    if place < states.len() && states[place] == state {
+        None
+    } else {
+        Some(place)
+    }
+}

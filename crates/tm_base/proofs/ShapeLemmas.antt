@@ -1,0 +1,141 @@
+-- Private parts, alternatives, leaves and the size of words, at each kind of tree.
+use Rattle.std.proofs.Common.{◌≡◌, ℕ, zero, suc, ◌+◌, ◌*◌, ◌≤◌, ◌<◌, Bool, true, List, [], ◌∷◌, ◌++◌, length, ◌∙◌, sym, ap, subst, refl, arith, length-append, inl, inr, ◌↔◌}
+use Rattle.tm_base.specs.declared.tree.Tree.{Tree, Row_of-Tree, end_of-Tree, more_of-Tree, items-the_row-Tree, items_hidden-the_row-Tree-0, Never, Range, Pad, Ref, Seq, Alt, Repeat, Private}
+use Rattle.tm_base.specs.declared.tree.Tree.TheBlock.{hidden-the_row-Tree-0, shape-the_row-Tree-1, hidden-the_row-Tree-1}
+use Rattle.tm_base.specs.declared.cell.RefId.{RefId}
+use Rattle.tm_base.specs.Cells.{Word, Times}
+use Rattle.tm_base.specs.Shapes.{leaves_of, row_leaves, all_leaves, row_length, HasNoPrivate, RowHasNoPrivate, NonePrivate, HasNoAlternatives, RowHasNoAlternatives, NoneAlternative, HasSize}
+use Rattle.tm_base.specs.Transmutes.{holds}
+use Rattle.tm_base.specs.Trees.{TreeWord, InTurn, OneOf}
+use Rattle.tm_base.proofs.TreeLemmas.{TreeWord-Seq, TreeWord-Alt, TreeWord-Repeat}
+
+-- ---- private parts
+
+private-row : {n : _} (row : Row_of-Tree n) → RowHasNoPrivate row ↔ NonePrivate (items-the_row-Tree n row)
+unfolding HasNoPrivate
+private-row end_of-Tree = (λ h. h, λ h. h)
+private-row (more_of-Tree t ts) = let both = private-row ts in (λ h. (h.0, both.0 h.1), λ h. (h.0, both.1 h.1))
+
+pub HasNoPrivate-Seq : (ts : List Tree) → HasNoPrivate (Seq ts) ↔ NonePrivate ts
+unfolding HasNoPrivate
+HasNoPrivate-Seq ts =
+    let e = items_hidden-the_row-Tree-0 ts in
+    let both = private-row (hidden-the_row-Tree-0 ts) in
+    (λ h. subst NonePrivate e (both.0 h), λ h. both.1 (subst NonePrivate (sym e) h))
+
+pub HasNoPrivate-Alt : (ts : List Tree) → HasNoPrivate (Alt ts) ↔ NonePrivate ts
+unfolding HasNoPrivate
+HasNoPrivate-Alt ts =
+    let e = items_hidden-the_row-Tree-0 ts in
+    let both = private-row (hidden-the_row-Tree-0 ts) in
+    (λ h. subst NonePrivate e (both.0 h), λ h. both.1 (subst NonePrivate (sym e) h))
+
+pub HasNoPrivate-Repeat : (n : ℕ) (t : Tree) → HasNoPrivate (Repeat n t) ↔ HasNoPrivate t
+unfolding HasNoPrivate shape-the_row-Tree-1 hidden-the_row-Tree-1 denote.Hole.Carrier.hidden
+HasNoPrivate-Repeat n t = (λ h. h.0, λ h. (h, tt))
+
+pub HasNoPrivate-Private : (t : Tree) → HasNoPrivate (Private t) → ⊥
+unfolding HasNoPrivate
+HasNoPrivate-Private t h = h
+
+-- ---- alternatives
+
+alternative-row : {n : _} (row : Row_of-Tree n) → RowHasNoAlternatives row ↔ NoneAlternative (items-the_row-Tree n row)
+unfolding HasNoAlternatives
+alternative-row end_of-Tree = (λ h. h, λ h. h)
+alternative-row (more_of-Tree t ts) = let both = alternative-row ts in (λ h. (h.0, both.0 h.1), λ h. (h.0, both.1 h.1))
+
+length-row : {n : _} (row : Row_of-Tree n) → row_length row ≡ length (items-the_row-Tree n row)
+length-row end_of-Tree = refl
+length-row (more_of-Tree t ts) = let e = length-row ts in omega arith
+
+pub HasNoAlternatives-Seq : (ts : List Tree) → HasNoAlternatives (Seq ts) ↔ NoneAlternative ts
+unfolding HasNoAlternatives
+HasNoAlternatives-Seq ts =
+    let e = items_hidden-the_row-Tree-0 ts in
+    let both = alternative-row (hidden-the_row-Tree-0 ts) in
+    (λ h. subst NoneAlternative e (both.0 h), λ h. both.1 (subst NoneAlternative (sym e) h))
+
+pub HasNoAlternatives-Alt : (ts : List Tree) → HasNoAlternatives (Alt ts) ↔ ((length ts ≤ 1) × NoneAlternative ts)
+unfolding HasNoAlternatives
+HasNoAlternatives-Alt ts =
+    let e = items_hidden-the_row-Tree-0 ts in
+    let both = alternative-row (hidden-the_row-Tree-0 ts) in
+    let n : row_length (hidden-the_row-Tree-0 ts) ≡ length ts = length-row (hidden-the_row-Tree-0 ts) ∙ ap length e in
+    (λ h. (subst (λ k. k ≤ 1) n h.0, subst NoneAlternative e (both.0 h.1)), λ h. (subst (λ k. k ≤ 1) (sym n) h.0, both.1 (subst NoneAlternative (sym e) h.1)))
+
+pub HasNoAlternatives-Repeat : (n : ℕ) (t : Tree) → HasNoAlternatives (Repeat n t) ↔ HasNoAlternatives t
+unfolding HasNoAlternatives shape-the_row-Tree-1 hidden-the_row-Tree-1 denote.Hole.Carrier.hidden
+HasNoAlternatives-Repeat n t = (λ h. h.0, λ h. (h, tt))
+
+-- ---- leaves
+
+leaves-row : {n : _} (row : Row_of-Tree n) → row_leaves row ≡ all_leaves (items-the_row-Tree n row)
+unfolding leaves_of
+leaves-row end_of-Tree = refl
+leaves-row (more_of-Tree t ts) = ap (λ n. leaves_of t + n) (leaves-row ts)
+
+pub leaves_of-Seq : (ts : List Tree) → leaves_of (Seq ts) ≡ all_leaves ts
+unfolding leaves_of
+leaves_of-Seq ts = leaves-row (hidden-the_row-Tree-0 ts) ∙ ap all_leaves (items_hidden-the_row-Tree-0 ts)
+
+pub leaves_of-Alt : (ts : List Tree) → leaves_of (Alt ts) ≡ all_leaves ts
+unfolding leaves_of
+leaves_of-Alt ts = leaves-row (hidden-the_row-Tree-0 ts) ∙ ap all_leaves (items_hidden-the_row-Tree-0 ts)
+
+times_one : (n m : ℕ) → n * (m + 0) ≡ n * m
+times_one n m = let e : m + 0 ≡ m = omega arith in ap (λ k. n * k) e
+
+pub leaves_of-Repeat : (n : ℕ) (t : Tree) → leaves_of (Repeat n t) ≡ n * leaves_of t
+unfolding leaves_of shape-the_row-Tree-1 hidden-the_row-Tree-1 denote.Hole.Carrier.hidden
+leaves_of-Repeat n t = times_one n (leaves_of t)
+
+-- ---- sizes of words
+
+pub HasSize-Never : (n : ℕ) → HasSize n Never
+unfolding TreeWord
+HasSize-Never n A w h = absurd h
+
+pub HasSize-Range : (low high : ℕ) → HasSize 1 (Range low high)
+unfolding TreeWord
+HasSize-Range low high A w (b, lo, hi, e) = ap length e
+
+pub HasSize-Pad : HasSize 1 Pad
+unfolding TreeWord
+HasSize-Pad A w (c, free, e) = ap length e
+
+pub HasSize-Ref : (t : RefId) → HasSize 8 (Ref t)
+unfolding TreeWord
+HasSize-Ref t A w (x, a, e) = ap length e
+
+pub HasSize-Seq-none : HasSize 0 (Seq [])
+HasSize-Seq-none A w h = ap length ((TreeWord-Seq (holds A) true [] w).0 h)
+
+pub HasSize-Seq-more : (m n : ℕ) (t : Tree) (ts : List Tree) → HasSize m t → HasSize n (Seq ts) → HasSize (m + n) (Seq (t ∷ ts))
+HasSize-Seq-more m n t ts first rest A w h =
+    let (u, v, e, p, q) = (TreeWord-Seq (holds A) true (t ∷ ts) w).0 h in
+    let x = first A u p in
+    let y = rest A v ((TreeWord-Seq (holds A) true ts v).1 q) in
+    let z = ap length e in
+    omega (arith, length-append u v)
+
+pub HasSize-Alt-none : (n : ℕ) → HasSize n (Alt [])
+HasSize-Alt-none n A w h = absurd ((TreeWord-Alt (holds A) true [] w).0 h)
+
+pub HasSize-Alt-more : (n : ℕ) (t : Tree) (ts : List Tree) → HasSize n t → HasSize n (Alt ts) → HasSize n (Alt (t ∷ ts))
+HasSize-Alt-more n t ts first rest A w h = elim ((TreeWord-Alt (holds A) true (t ∷ ts) w).0 h) [
+  | inl p ↦ first A w p
+  | inr q ↦ rest A w ((TreeWord-Alt (holds A) true ts w).1 q)
+]
+
+length-Times : (P : Word → Type 0) (m n : ℕ) → ((w : Word) → P w → length w ≡ m) → (w : Word) → Times n P w → length w ≡ n * m
+length-Times P m zero f w e = let x = ap length e in omega arith
+length-Times P m (suc n) f w (u, v, e, p, q) =
+    let x = f u p in
+    let y = length-Times P m n f v q in
+    let z = ap length e in
+    let s : suc n * m ≡ m + n * m = grind arith in
+    omega (arith, length-append u v)
+
+pub HasSize-Repeat : (m n : ℕ) (t : Tree) → HasSize m t → HasSize (n * m) (Repeat n t)
+HasSize-Repeat m n t each A w h = length-Times (TreeWord (holds A) true t) m n (each A) w ((TreeWord-Repeat (holds A) true n t w).0 h)
