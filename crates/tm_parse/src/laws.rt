@@ -1,0 +1,4 @@
+/// What holds of the grammar.
+pub fn grammar_is_exact()
+{
+}
