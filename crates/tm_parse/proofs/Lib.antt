@@ -1,0 +1,17 @@
+pub mod ClassLists
+pub mod Lawful
+pub mod Fronts
+pub mod Forms
+pub mod Spellings
+pub mod Single
+pub mod Carrying
+pub mod Choices
+pub mod Pairs
+pub mod Marks
+pub mod Repetitions
+pub mod ShapeLaws
+pub mod TypeForms
+pub mod Widening
+pub mod TypeLaws
+pub mod DefinitionLaws
+pub mod FileLaws

@@ -43,7 +43,7 @@ names = integer ∷ scalar ∷ alias ∷ generic ∷ c.NonZero ∷ c.Foreign ∷
 
 -- the terminals that begin a type
 abbrev pub type_first : List Class
-type_first = integer ∷ scalar ∷ c.Bang ∷ c.OpenParen ∷ c.OpenBracket ∷ c.Ampersand ∷ c.NonZero ∷ alias ∷ generic ∷ definition_names
+type_first = c.OpenParen ∷ integer ∷ scalar ∷ c.Bang ∷ c.OpenBracket ∷ c.Ampersand ∷ c.NonZero ∷ alias ∷ generic ∷ definition_names
 
 -- what a terminal carries
 abbrev pub primitive_of : Terminal → Primitive
