@@ -1,16 +1,15 @@
 -- The laws of another value, and of a choice by the next terminal.
-use Rattle.std.proofs.Common.{◌≡◌, ℕ, zero, suc, refl, sym, ap, ◌∙◌, subst, Bool, true, false, List, [], ◌∷◌, ◌++◌, ◌⊎◌, inl, inr}
+use Rattle.std.proofs.Common.{◌≡◌, ℕ, zero, refl, sym, ap, ◌∙◌, subst, Bool, true, false, List, [], ◌∷◌, ◌++◌, ◌⊎◌, inl, inr}
 use Rattle.tm_parse.proofs.Carrying.{mapped-same, spelling, begun, emptied, carried}
 use Rattle.tm_parse.proofs.ClassLists.{among-either, among-apart}
 use Rattle.tm_parse.proofs.Forms.{filled-front, to_form, or_form}
 use Rattle.tm_parse.proofs.Fronts.{clear-both, starts-same, starts-front, front-first}
-use Rattle.tm_parse.proofs.Lawful.{Clear, Front, Same, Form, Spelling, Begun, IsRight, Laws}
+use Rattle.tm_parse.proofs.Lawful.{Clear, Front, Begun, IsRight, Laws}
 use Rattle.tm_parse.specs.Classes.{among, apart, joined}
 use Rattle.tm_parse.specs.Combinators.{starts, pick, ◌or◌, mapped, to}
 use Rattle.tm_parse.specs.Events.{Event, terminals}
 use Rattle.tm_parse.specs.Limits.{Verdict, Within, Beyond, count}
-use Rattle.tm_parse.specs.Parts.{Outcome, Done, Stuck, Passed, Part, finish}
-use Rattle.tm_parse.specs.declared.class.Class.{Class}
+use Rattle.tm_parse.specs.Parts.{Part, finish}
 use Rattle.tm_parse.specs.declared.counts.Counts.{Counts}
 use Rattle.tm_parse.specs.declared.terminal.Terminal.{Terminal}
 
@@ -32,7 +31,8 @@ module _ {A B : Type 0} (f : A → B) (P : ℕ → Part A) (p : Laws P) where
     none = λ h. emptied f P M spells (p.none h);
     begins = λ t h. begun f P M spells t (p.begins t h);
     reads = λ n v e c z h k. ap (mapped f) (p.reads n h.0 e c z h.1 k) ∙ mapped-finish f h.0 z (count c e) ∙ ap (λ y. finish y z (count c e)) (sym h.2);
-    right = λ c ts. carried f P M spells c ts (λ o s. refl) ((P zero).read c ts) (p.right c ts) }
+    right = λ c ts. carried f P M spells c ts (λ o s. refl) ((P zero).read c ts) (p.right c ts);
+  }
 
 pub to_laws : {A B : Type 0} {P : ℕ → Part A} (f : A → B) → Laws P → Laws (λ n. to f (P n))
 to_laws {P = P} f p = map-laws f P p
@@ -66,9 +66,9 @@ module _ {V : Type 0} (P Q : ℕ → Part V) (p : Laws P) (q : Laws Q) (filled :
 
   right : (c : Counts) (ts : List Terminal) (b : Bool) → starts (P zero).first ts ≡ b → IsRight R c ts (pick b (P zero).read (Q zero).read c ts)
   right c ts true h = subst (IsRight R c ts) (mapped-same ((P zero).read c ts))
-    (carried (λ v. v) P R by-first c ts (λ o s. picked c o (sym (starts-same (P zero).first ts o s) ∙ h) ∙ sym (mapped-same ((P zero).read c o))) ((P zero).read c ts) (p.right c ts))
+      (carried (λ v. v) P R by-first c ts (λ o s. picked c o (sym (starts-same (P zero).first ts o s) ∙ h) ∙ sym (mapped-same ((P zero).read c o))) ((P zero).read c ts) (p.right c ts))
   right c ts false h = subst (IsRight R c ts) (mapped-same ((Q zero).read c ts))
-    (carried (λ v. v) Q R by-second c ts (λ o s. picked c o (sym (starts-same (P zero).first ts o s) ∙ h) ∙ sym (mapped-same ((Q zero).read c o))) ((Q zero).read c ts) (q.right c ts))
+      (carried (λ v. v) Q R by-second c ts (λ o s. picked c o (sym (starts-same (P zero).first ts o s) ∙ h) ∙ sym (mapped-same ((Q zero).read c o))) ((Q zero).read c ts) (q.right c ts))
 
   begins : (t : Terminal) → (among (P zero).first t.class ≡ true) ⊎ (among (Q zero).first t.class ≡ true) → Begun R t
   begins t (inl h) = begun (λ v. v) P R by-first t (p.begins t h)
@@ -81,7 +81,8 @@ module _ {V : Type 0} (P Q : ℕ → Part V) (p : Laws P) (q : Laws Q) (filled :
     none = λ h. emptied (λ v. v) Q R by-second (q.none h);
     begins = λ t h. begins t (among-either (P zero).first (Q zero).first t.class h);
     reads = reads;
-    right = λ c ts. right c ts (starts (P zero).first ts) refl }
+    right = λ c ts. right c ts (starts (P zero).first ts) refl;
+  }
 
 pub or_laws : {V : Type 0} {P Q : ℕ → Part V} → Laws P → Laws Q → (P zero).empty ≡ false → apart (P zero).first (Q zero).first ≡ true → Laws (λ n. P n or Q n)
 or_laws {P = P} {Q = Q} p q s t = choice-laws P Q p q s t

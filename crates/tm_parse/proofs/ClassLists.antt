@@ -1,5 +1,5 @@
 -- Lists of classes: what is in one, in both, or in neither.
-use Rattle.std.proofs.Common.{◌≡◌, ◌==◌, refl, sym, ap, subst, Bool, true, false, not, ◌&&◌, ◌||◌, List, [], ◌∷◌, ◌++◌, ◌⊎◌, inl, inr, ne_eqb}
+use Rattle.std.proofs.Common.{◌≡◌, ◌==◌, refl, sym, ap, subst, Bool, true, false, not, ◌||◌, List, [], ◌∷◌, ◌++◌, ◌⊎◌, inl, inr, ne_eqb}
 use Rattle.std.proofs.lemmas.Bool.{cases_eq, and_parts}
 use Rattle.tm_parse.specs.Classes.{code, alike, among, apart}
 use Rattle.tm_parse.specs.declared.class.Class.{Class}

@@ -1,6 +1,5 @@
 -- The laws of the rules of definitions. Each choice and each sequence is settled by one terminal.
-use Rattle.std.proofs.Common.{◌≡◌, ℕ, zero, suc, refl, Bool, List, [], ◌∷◌}
-use Rattle.tm_base.specs.declared.definition.Kind.{Kind}
+use Rattle.std.proofs.Common.{refl, [], ◌∷◌}
 use Rattle.tm_base.specs.declared.definition.Kind.TheVariants as kind
 use Rattle.tm_parse.proofs.Choices.{to_laws, or_laws}
 use Rattle.tm_parse.proofs.Lawful.{Laws}
@@ -10,7 +9,6 @@ use Rattle.tm_parse.proofs.ShapeLaws.{any_laws, the_laws, optional_laws, many_la
 use Rattle.tm_parse.proofs.TypeForms.{definition_name_laws, behind_laws, plain_laws}
 use Rattle.tm_parse.proofs.TypeLaws.{type_laws}
 use Rattle.tm_parse.specs.Events.{a_definition, a_parameter, a_field, a_variant, a_type}
-use Rattle.tm_parse.specs.Parts.{Part}
 use Rattle.tm_parse.specs.Shapes.{any}
 use Rattle.tm_parse.specs.Definitions.{in_parens, repr_item, repr, derive, attribute, narrower, visibility, field, behind_pub, place, variant_field, variant_place, variant_fields, discriminant, variant, parameters, struct_body, union_body, enum_body, headed, definition}
 use Rattle.tm_parse.specs.Types.{integer, scalar, alias, generic, number, names, type_first, SpellsType, read_type}
@@ -24,7 +22,7 @@ in-parens-laws = between_laws c.OpenParen (the_laws number) c.CloseParen refl
 
 repr-item-laws : Laws (λ n. repr_item)
 repr-item-laws = or_laws (to_laws _ (the_laws c.C)) (or_laws (to_laws _ (the_laws c.Transparent)) (or_laws (to_laws _ (the_laws integer))
-  (or_laws (to_laws _ (seq_laws (the_laws c.Packed) (optional_laws in-parens-laws refl) refl)) (to_laws _ (seq_laws (the_laws c.Align) in-parens-laws refl)) refl refl) refl refl) refl refl) refl refl
+    (or_laws (to_laws _ (seq_laws (the_laws c.Packed) (optional_laws in-parens-laws refl) refl)) (to_laws _ (seq_laws (the_laws c.Align) in-parens-laws refl)) refl refl) refl refl) refl refl) refl refl
 
 repr-laws : Laws (λ n. repr)
 repr-laws = to_laws _ (seq_laws (the_laws c.Repr) (between_laws c.OpenParen (listed1_laws repr-item-laws refl refl refl) c.CloseParen refl) refl)
@@ -46,7 +44,7 @@ field-laws = mark_laws a_field (to_laws _ (seq_laws (optional_laws visibility-la
 
 behind-pub-laws : Laws behind_pub
 behind-pub-laws = or_laws (to_laws _ (mark_laws (a_type 0) (plain_laws type_first (SpellsType 1) (read_type 1 32) refl refl refl refl (type_laws 1)) refl))
-  (to_laws _ (seq_laws (the_laws c.OpenParen) (or_laws
+    (to_laws _ (seq_laws (the_laws c.OpenParen) (or_laws
     (to_laws _ (seq_laws narrower-laws (seq_laws (the_laws c.CloseParen) (type_laws 0) refl) refl))
     (to_laws _ (mark_laws (a_type 0) (behind_laws type_first (SpellsType 1) (read_type 1 32) refl refl refl refl (type_laws 1)) refl)) refl refl) refl)) refl refl
 
@@ -73,7 +71,7 @@ parameters-laws = to_laws _ (optional_laws (between_laws c.Less (listed1_laws (m
 
 struct-laws : Laws struct_body
 struct-laws = or_laws (to_laws _ (the_laws c.Semicolon)) (or_laws (to_laws _ (between_laws c.OpenBrace (listed_laws field-laws refl refl refl) c.CloseBrace refl))
-  (to_laws _ (seq_laws (between_laws c.OpenParen (listed_laws place-laws refl refl refl) c.CloseParen refl) (the_laws c.Semicolon) refl)) refl refl) refl refl
+    (to_laws _ (seq_laws (between_laws c.OpenParen (listed_laws place-laws refl refl refl) c.CloseParen refl) (the_laws c.Semicolon) refl)) refl refl) refl refl
 
 union-laws : Laws union_body
 union-laws = to_laws _ (between_laws c.OpenBrace (listed1_laws field-laws refl refl refl) c.CloseBrace refl)

@@ -1,5 +1,5 @@
 -- The laws of the rules of files.
-use Rattle.std.proofs.Common.{◌≡◌, ℕ, zero, suc, refl, List, [], ◌∷◌}
+use Rattle.std.proofs.Common.{refl, [], ◌∷◌}
 use Rattle.tm_parse.proofs.Choices.{to_laws, or_laws}
 use Rattle.tm_parse.proofs.DefinitionLaws.{definition_laws}
 use Rattle.tm_parse.proofs.Lawful.{Laws}
@@ -22,7 +22,7 @@ flag-laws = any_laws c.Alignment (c.Lifetimes ∷ c.Safety ∷ c.Validity ∷ []
 
 question-laws : Laws question
 question-laws = to_laws _ (seq_laws (mark_laws a_question (the_laws c.Ask) refl) (seq_laws (type_laws 0) (seq_laws (the_laws c.Arrow) (seq_laws (type_laws 0)
-  (seq_laws (optional_laws (seq_laws (the_laws c.Assume) (listed1_laws flag-laws refl refl refl) refl) refl) (the_laws c.Semicolon) refl) refl) refl) refl) refl)
+    (seq_laws (optional_laws (seq_laws (the_laws c.Assume) (listed1_laws flag-laws refl refl refl) refl) refl) (the_laws c.Semicolon) refl) refl) refl) refl) refl)
 
 item-laws : Laws item
 item-laws = or_laws lifetime-laws (or_laws outlives-laws (or_laws question-laws (to_laws _ definition_laws) refl refl) refl refl) refl refl

@@ -1,11 +1,11 @@
 -- What stands at the front of a list of terminals, and what follows it.
-use Rattle.std.proofs.Common.{◌≡◌, ℕ, zero, suc, ◌+◌, refl, sym, ap, ◌∙◌, subst, Bool, true, false, ◌&&◌, List, [], ◌∷◌, ◌++◌, append_assoc, arith}
+use Rattle.std.proofs.Common.{◌≡◌, refl, sym, ap, ◌∙◌, subst, Bool, true, false, ◌&&◌, List, [], ◌∷◌, ◌++◌, append_assoc}
 use Rattle.tm_parse.proofs.ClassLists.{among-left, among-right, among-neither, among-apart}
 use Rattle.tm_parse.proofs.Lawful.{Clear, Front, Same}
 use Rattle.tm_parse.specs.Classes.{among, apart, joined}
 use Rattle.tm_parse.specs.Combinators.{starts}
-use Rattle.tm_parse.specs.Events.{Mark, Event, terminal, mark, terminals}
-use Rattle.tm_parse.specs.Limits.{Step, Fine, Passes, step, Verdict, Within, Beyond, counted, count}
+use Rattle.tm_parse.specs.Events.{Event, terminal, mark, terminals}
+use Rattle.tm_parse.specs.Limits.{Step, Fine, Passes, step, Within, Beyond, counted, count}
 use Rattle.tm_parse.specs.declared.class.Class.{Class}
 use Rattle.tm_parse.specs.declared.counts.Counts.{Counts}
 use Rattle.tm_parse.specs.declared.limit.LimitKind.{LimitKind}

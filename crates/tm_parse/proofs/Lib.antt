@@ -15,3 +15,6 @@ pub mod Widening
 pub mod TypeLaws
 pub mod DefinitionLaws
 pub mod FileLaws
+pub mod Answering
+pub mod Prefixes
+pub mod Exactness

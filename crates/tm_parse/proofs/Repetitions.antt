@@ -3,10 +3,10 @@ use Rattle.std.proofs.Common.{◌≡◌, ℕ, zero, suc, ◌+◌, ◌<◌, ◌�
 use Rattle.tm_parse.proofs.ClassLists.{among-apart}
 use Rattle.tm_parse.proofs.Forms.{filled-front, repeat_form}
 use Rattle.tm_parse.proofs.Fronts.{terminals-before, count-within, count-beyond, same-append, same-text, starts-same, starts-front, clear-both}
-use Rattle.tm_parse.proofs.Lawful.{Clear, Front, Same, Form, Spelling, Begun, IsDone, Stops, IsRight, Laws}
+use Rattle.tm_parse.proofs.Lawful.{Clear, Front, Same, IsDone, Stops, IsRight, Laws}
 use Rattle.tm_parse.proofs.Spellings.{deeper, deeper-too}
 use Rattle.tm_parse.specs.Classes.{apart}
-use Rattle.tm_parse.specs.Combinators.{starts, pick, Others, Repeats, put_first, go_on, and_again, read_most, read_all, repeat}
+use Rattle.tm_parse.specs.Combinators.{starts, pick, Others, put_first, go_on, and_again, read_most, read_all, repeat}
 use Rattle.tm_parse.specs.Events.{Event, terminals}
 use Rattle.tm_parse.specs.Limits.{Verdict, Within, Beyond, count}
 use Rattle.tm_parse.specs.Parts.{Outcome, Done, Stuck, Passed, Reader, Part, finish}
@@ -40,13 +40,13 @@ module _ {V : Type 0} (P : ℕ → Part (V × Bool)) (p : Laws P) (filled : (P z
   go-same g h false d z e = refl
 
   again-same : (g h : Reader (List V)) (c : Counts) (ts : List Terminal) (o : Outcome (V × Bool)) → IsRight P c ts o
-    → ((d : Counts) (z : List Terminal) → length z < length ts → g d z ≡ h d z) → and_again g o ≡ and_again h o
+      → ((d : Counts) (z : List Terminal) → length z < length ts → g d z ≡ h d z) → and_again g o ≡ and_again h o
   again-same g h c ts (Done v d rest) i same = ap (put_first v.0) (go-same g h v.1 d rest (same d rest (shorter (terminals i.events) rest ts (front i.depth v i.events i.spelled) i.text)))
   again-same g h c ts (Stuck rest) i same = refl
   again-same g h c ts (Passed kind rest) i same = refl
 
   pick-same : (g h : Reader (List V)) (c : Counts) (ts : List Terminal) (b : Bool) → and_again g ((P zero).read c ts) ≡ and_again h ((P zero).read c ts)
-    → pick b (λ c ts. and_again g ((P zero).read c ts)) (λ c ts. Done [] c ts) c ts ≡ pick b (λ c ts. and_again h ((P zero).read c ts)) (λ c ts. Done [] c ts) c ts
+      → pick b (λ c ts. and_again g ((P zero).read c ts)) (λ c ts. Done [] c ts) c ts ≡ pick b (λ c ts. and_again h ((P zero).read c ts)) (λ c ts. Done [] c ts) c ts
   pick-same g h c ts true e = e
   pick-same g h c ts false e = refl
 
@@ -67,7 +67,7 @@ module _ {V : Type 0} (P : ℕ → Part (V × Bool)) (p : Laws P) (filled : (P z
   -- one part, and then the rest of them; or none
   pub all-on : (c : Counts) (ts : List Terminal) → starts first ts ≡ true → all c ts ≡ and_again all ((P zero).read c ts)
   all-on c ts s = opened c ts ∙ ap (λ b. pick b (λ d z. and_again (most (length ts)) ((P zero).read d z)) (λ d z. Done [] d z) c ts) s
-    ∙ again-same (most (length ts)) all c ts ((P zero).read c ts) (p.right c ts) λ d z m. enough (length ts) (length z) d z (omega arith) (omega arith)
+      ∙ again-same (most (length ts)) all c ts ((P zero).read c ts) (p.right c ts) λ d z m. enough (length ts) (length z) d z (omega arith) (omega arith)
 
   pub all-stop : (c : Counts) (ts : List Terminal) → starts first ts ≡ false → all c ts ≡ Done [] c ts
   all-stop c ts s = opened c ts ∙ ap (λ b. pick b (λ d z. and_again (most (length ts)) ((P zero).read d z)) (λ d z. Done [] d z) c ts) s
@@ -87,8 +87,8 @@ module _ {V : Type 0} (P : ℕ → Part (V × Bool)) (p : Laws P) (filled : (P z
   others-front n false vs e h = subst (λ e. Front first true (terminals e)) (sym h.1) tt
 
   second : (v : V) (more : Bool) (vs : List V) (c : Counts) (e f : List Event) (z : List Terminal) (x : Verdict) → count c e ≡ x
-    → ((d : Counts) → go_on more all d (terminals f ++ z) ≡ finish vs z (count d f))
-    → and_again all (finish (v, more) (terminals f ++ z) x) ≡ finish (v ∷ vs) z (count c (e ++ f))
+      → ((d : Counts) → go_on more all d (terminals f ++ z) ≡ finish vs z (count d f))
+      → and_again all (finish (v, more) (terminals f ++ z) x) ≡ finish (v ∷ vs) z (count c (e ++ f))
   second v more vs c e f z (Within d) h r = ap (put_first v) (r d) ∙ go (count d f) ∙ ap (finish (v ∷ vs) z) (sym (count-within c d e f h))
     where
       go : (y : Verdict) → put_first v (finish vs z y) ≡ finish (v ∷ vs) z y
@@ -99,9 +99,9 @@ module _ {V : Type 0} (P : ℕ → Part (V × Bool)) (p : Laws P) (filled : (P z
   reads : (n : ℕ) (vs : List V) (e : List Event) (c : Counts) (z : List Terminal) → (R n).spells vs e → Clear (first ++ (P zero).bars) z → all c (terminals e ++ z) ≡ finish vs z (count c e)
   reads n [] e c z h l = subst (λ e. all c (terminals e ++ z) ≡ finish [] z (count c e)) (sym h) (all-stop c z (stopped z (clear-both first (P zero).bars z l).0))
   reads n (v ∷ vs) e c z (more, f, g, s, t, eq) l =
-    let begun = front n (v, more) f s in
-    let clear : Clear (P zero).bars (terminals g ++ z) = clear-on (terminals g) z (others-front n more vs g t) (clear-both first (P zero).bars z l).1 in
-    subst (λ e. all c (terminals e ++ z) ≡ finish (v ∷ vs) z (count c e)) (sym eq)
+      let begun = front n (v, more) f s in
+      let clear : Clear (P zero).bars (terminals g ++ z) = clear-on (terminals g) z (others-front n more vs g t) (clear-both first (P zero).bars z l).1 in
+      subst (λ e. all c (terminals e ++ z) ≡ finish (v ∷ vs) z (count c e)) (sym eq)
       (ap (all c) (terminals-before f g z) ∙ all-on c (terminals f ++ (terminals g ++ z)) (starts-front first (terminals f) (terminals g ++ z) begun)
       ∙ ap (and_again all) (p.reads n (v, more) f c (terminals g ++ z) s clear)
       ∙ second v more vs c f g z (count c f) refl (next more t (λ d h. reads n vs g d z h l)))
@@ -128,42 +128,59 @@ module _ {V : Type 0} (P : ℕ → Part (V × Bool)) (p : Laws P) (filled : (P z
     -- one part is read to its end, whatever comes behind the same terminal
     again : (f : List Event) (r o : List Terminal) → rest ≡ terminals f ++ r → Same r o → all c (terminals (g.events ++ f) ++ o) ≡ put_first v.0 (go_on v.1 all d (terminals f ++ o))
     again f r o h same = ap (all c) (terminals-before g.events f o)
-      ∙ all-on c (terminals g.events ++ (terminals f ++ o)) (starts-front first (terminals g.events) (terminals f ++ o) (front g.depth v g.events g.spelled))
-      ∙ ap (and_again all) (g.alone (terminals f ++ o) (subst (λ x. Same x (terminals f ++ o)) (sym h) (same-append (terminals f) r o same)))
+        ∙ all-on c (terminals g.events ++ (terminals f ++ o)) (starts-front first (terminals g.events) (terminals f ++ o) (front g.depth v g.events g.spelled))
+        ∙ ap (and_again all) (g.alone (terminals f ++ o) (subst (λ x. Same x (terminals f ++ o)) (sym h) (same-append (terminals f) r o same)))
 
   module _ (c d : Counts) (v : V) (ts rest : List Terminal) (g : IsDone P c ts (v, true) d rest) where
     more-stops : (rest2 : List Terminal) (back : List Event) (after : Counts) (answer : List Terminal → Outcome (List V)) → Stops R d rest rest2 back after answer
-      → Stops R c ts rest2 back after (λ o. put_first v (answer o))
+        → Stops R c ts rest2 back after (λ o. put_first v (answer o))
     more-stops rest2 back after answer h = record {
-      depth = g.depth + h.depth; value = v ∷ h.value; front = g.events ++ h.front;
+      depth = g.depth + h.depth;
+      value = v ∷ h.value;
+      front = g.events ++ h.front;
       spelled = subst ((R (g.depth + h.depth)).spells (v ∷ h.value)) (sym (append_assoc g.events h.front back)) (both g.depth h.depth v h.value g.events (h.front ++ back) g.spelled h.spelled);
       text = g.text ∙ ap (λ x. terminals g.events ++ x) h.text ∙ sym (terminals-before g.events h.front rest2);
       within = count-within c d g.events h.front g.within ∙ h.within;
-      alone = λ o s. again c d (v, true) ts rest g h.front rest2 o h.text s ∙ ap (put_first v) (h.alone o s) }
+      alone = λ o s. again c d (v, true) ts rest g h.front rest2 o h.text s ∙ ap (put_first v) (h.alone o s);
+    }
 
     more-right : (o : Outcome (List V)) → IsRight R d rest o → IsRight R c ts (put_first v o)
     more-right (Done vs d2 rest2) h = record {
-      depth = g.depth + h.depth; events = g.events ++ h.events; spelled = both g.depth h.depth v vs g.events h.events g.spelled h.spelled;
+      depth = g.depth + h.depth;
+      events = g.events ++ h.events;
+      spelled = both g.depth h.depth v vs g.events h.events g.spelled h.spelled;
       text = g.text ∙ ap (λ x. terminals g.events ++ x) h.text ∙ sym (terminals-before g.events h.events rest2);
       within = count-within c d g.events h.events g.within ∙ h.within;
-      alone = λ o s. again c d (v, true) ts rest g h.events rest2 o h.text s ∙ ap (put_first v) (h.alone o s) }
+      alone = λ o s. again c d (v, true) ts rest g h.events rest2 o h.text s ∙ ap (put_first v) (h.alone o s);
+    }
     more-right (Stuck rest2) (back, after, h) = (back, after, more-stops rest2 back after Stuck h)
     more-right (Passed kind rest2) (back, after, h, past) = (back, after, more-stops rest2 back after (Passed kind) h, past)
 
   next-right : (c d : Counts) (v : V) (more : Bool) (ts rest : List Terminal) (g : IsDone P c ts (v, more) d rest) → IsRight R d rest (all d rest) → IsRight R c ts (put_first v (go_on more all d rest))
   next-right c d v true ts rest g h = more-right c d v ts rest g (all d rest) h
   next-right c d v false ts rest g h = record {
-    depth = g.depth; events = g.events; spelled = single g.depth (v, false) g.events g.spelled; text = g.text; within = g.within;
-    alone = λ o s. all-on c (terminals g.events ++ o) (starts-front first (terminals g.events) o (front g.depth (v, false) g.events g.spelled)) ∙ ap (and_again all) (g.alone o s) }
+    depth = g.depth;
+    events = g.events;
+    spelled = single g.depth (v, false) g.events g.spelled;
+    text = g.text;
+    within = g.within;
+    alone = λ o s. all-on c (terminals g.events ++ o) (starts-front first (terminals g.events) o (front g.depth (v, false) g.events g.spelled)) ∙ ap (and_again all) (g.alone o s);
+  }
 
   first-stops : (c : Counts) (ts rest : List Terminal) (back : List Event) (after : Counts) (answer : List Terminal → Outcome (V × Bool)) → starts first ts ≡ true → Stops P c ts rest back after answer
-    → Stops R c ts rest back after (λ o. and_again all (answer o))
+      → Stops R c ts rest back after (λ o. and_again all (answer o))
   first-stops c ts rest back after answer b g = record {
-    depth = g.depth; value = g.value.0 ∷ []; front = g.front; spelled = single g.depth g.value (g.front ++ back) g.spelled; text = g.text; within = g.within;
-    alone = λ o s. all-on c (terminals g.front ++ o) (sym (starts-same first ts (terminals g.front ++ o) (same-text ts (terminals g.front) rest o g.text s)) ∙ b) ∙ ap (and_again all) (g.alone o s) }
+    depth = g.depth;
+    value = g.value.0 ∷ [];
+    front = g.front;
+    spelled = single g.depth g.value (g.front ++ back) g.spelled;
+    text = g.text;
+    within = g.within;
+    alone = λ o s. all-on c (terminals g.front ++ o) (sym (starts-same first ts (terminals g.front ++ o) (same-text ts (terminals g.front) rest o g.text s)) ∙ b) ∙ ap (and_again all) (g.alone o s);
+  }
 
   first-right : (c : Counts) (ts : List Terminal) → starts first ts ≡ true → ((d : Counts) (z : List Terminal) → length z < length ts → IsRight R d z (all d z))
-    → (o : Outcome (V × Bool)) → IsRight P c ts o → IsRight R c ts (and_again all o)
+      → (o : Outcome (V × Bool)) → IsRight P c ts o → IsRight R c ts (and_again all o)
   first-right c ts b rec (Done v d rest) g = next-right c d v.0 v.1 ts rest g (rec d rest (shorter (terminals g.events) rest ts (front g.depth v g.events g.spelled) g.text))
   first-right c ts b rec (Stuck rest) (back, after, g) = (back, after, first-stops c ts rest back after Stuck b g)
   first-right c ts b rec (Passed kind rest) (back, after, g, past) = (back, after, first-stops c ts rest back after (Passed kind) b g, past)
@@ -174,7 +191,7 @@ module _ {V : Type 0} (P : ℕ → Part (V × Bool)) (p : Laws P) (filled : (P z
     where
       by : (b : Bool) → starts first ts ≡ b → ((d : Counts) (z : List Terminal) → length z < length ts → IsRight R d z (all d z)) → IsRight R c ts (all c ts)
       by false s rec = subst (IsRight R c ts) (sym (all-stop c ts s))
-        (record { depth = 0; events = []; spelled = refl; text = refl; within = refl; alone = λ o e. all-stop c o (sym (starts-same first ts o e) ∙ s) })
+          (record { depth = 0; events = []; spelled = refl; text = refl; within = refl; alone = λ o e. all-stop c o (sym (starts-same first ts o e) ∙ s) })
       by true s rec = subst (IsRight R c ts) (sym (all-on c ts s)) (first-right c ts s rec ((P zero).read c ts) (p.right c ts))
 
   pub repetition-laws : Laws (λ n. repeat (P n))
@@ -184,9 +201,12 @@ module _ {V : Type 0} (P : ℕ → Part (V × Bool)) (p : Laws P) (filled : (P z
     none = λ h. record { spelling = record { depth = 0; value = []; events = []; spelled = refl }; nothing = refl };
     begins = λ t h. let x = p.begins t h in let y = x.spelling in record {
       spelling = record { depth = y.depth; value = y.value.0 ∷ []; events = y.events; spelled = single y.depth y.value y.events y.spelled };
-      others = x.others; next = x.next };
+      others = x.others;
+      next = x.next;
+    };
     reads = reads;
-    right = λ c ts. right-below (suc (length ts)) c ts (omega arith) }
+    right = λ c ts. right-below (suc (length ts)) c ts (omega arith);
+  }
 
 pub repeat_laws : {V : Type 0} {P : ℕ → Part (V × Bool)} → Laws P → (P zero).empty ≡ false → apart (P zero).bars (P zero).first ≡ true → Laws (λ n. repeat (P n))
 repeat_laws {P = P} p s t = repetition-laws P p s t

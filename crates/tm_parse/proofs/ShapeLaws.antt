@@ -1,5 +1,5 @@
 -- The laws of the shapes that rules are written in.
-use Rattle.std.proofs.Common.{◌≡◌, ℕ, zero, suc, refl, sym, ap, ◌∙◌, subst, Bool, true, false, ◌&&◌, List, [], ◌∷◌, ◌++◌, Option, Some, None}
+use Rattle.std.proofs.Common.{◌≡◌, ℕ, zero, refl, sym, subst, true, false, ◌&&◌, List, [], ◌∷◌, ◌++◌, Some, None}
 use Rattle.tm_parse.proofs.Choices.{to_laws, or_laws}
 use Rattle.tm_parse.proofs.Lawful.{Laws}
 use Rattle.tm_parse.proofs.Pairs.{seq_laws}
@@ -30,11 +30,11 @@ many_laws p s t = repeat_laws (to_laws _ p) s t
 
 -- a comma goes on with no part of the list, and nothing that goes on with one begins one
 pub listed_laws : {V : Type 0} {P : ℕ → Part V} → Laws P → (P zero).empty ≡ false → apart (P zero).bars (c.Comma ∷ []) ≡ true
-  → apart ((P zero).bars ++ c.Comma ∷ []) (joined (P zero).empty (c.Comma ∷ []) (P zero).first) ≡ true → Laws (λ n. listed (P n))
+    → apart ((P zero).bars ++ c.Comma ∷ []) (joined (P zero).empty (c.Comma ∷ []) (P zero).first) ≡ true → Laws (λ n. listed (P n))
 listed_laws {P = P} p s t u = repeat_laws (to_laws _ (seq_laws p (optional_laws (the_laws c.Comma) refl) t)) (subst (λ b. (b && true) ≡ false) (sym s) refl) u
 
 pub listed1_laws : {V : Type 0} {P : ℕ → Part V} → Laws P → (P zero).empty ≡ false → apart (P zero).bars (c.Comma ∷ []) ≡ true
-  → apart ((P zero).bars ++ c.Comma ∷ []) (joined (P zero).empty (c.Comma ∷ []) (P zero).first) ≡ true → Laws (λ n. listed1 (P n))
+    → apart ((P zero).bars ++ c.Comma ∷ []) (joined (P zero).empty (c.Comma ∷ []) (P zero).first) ≡ true → Laws (λ n. listed1 (P n))
 listed1_laws {P = P} p s t u = to_laws _ (seq_laws p (optional_laws (seq_laws (the_laws c.Comma) (listed_laws p s t u) refl) refl) t)
 
 pub between_laws : {V : Type 0} {P : ℕ → Part V} (opening : Class) → Laws P → (closing : Class) → apart (P zero).bars (closing ∷ []) ≡ true → Laws (λ n. between opening (P n) closing)

@@ -1,5 +1,5 @@
 -- Spellings of a part, at any greater depth.
-use Rattle.std.proofs.Common.{◌≡◌, ℕ, zero, suc, ◌+◌, subst, List, arith}
+use Rattle.std.proofs.Common.{ℕ, zero, suc, ◌+◌, subst, List, arith}
 use Rattle.tm_parse.proofs.Lawful.{Form}
 use Rattle.tm_parse.specs.Events.{Event}
 use Rattle.tm_parse.specs.Parts.{Part}

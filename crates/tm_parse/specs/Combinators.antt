@@ -2,11 +2,10 @@
 -- terminal, nothing, another value, a mark, and a repetition.
 use Rattle.std.specs.Prelude.{◌≡◌, ℕ, zero, suc, Bool, true, false, ◌&&◌, ◌⊎◌, List, [], ◌∷◌, ◌++◌, length}
 use Rattle.tm_parse.specs.Classes.{among, joined}
-use Rattle.tm_parse.specs.Events.{Mark, Role, plain, array_length, Event, terminal, mark}
+use Rattle.tm_parse.specs.Events.{Mark, Role, Event, terminal, mark}
 use Rattle.tm_parse.specs.Limits.{Step, Fine, Passes, step}
 use Rattle.tm_parse.specs.Parts.{Outcome, Done, Stuck, Passed, Reader, Part}
 use Rattle.tm_parse.specs.declared.class.Class.{Class}
-use Rattle.tm_parse.specs.declared.counts.Counts.{Counts}
 use Rattle.tm_parse.specs.declared.terminal.Terminal.{Terminal}
 
 -- whether the next terminal is of one of the classes
@@ -30,7 +29,11 @@ read_one role classes n (t ∷ ts) = read_if (among classes t.class) (step n (te
 abbrev pub one : Role → List Class → Part Terminal
 one role classes = record {
   spells = λ t e. (among classes t.class ≡ true) × (e ≡ terminal role t ∷ []);
-  read = read_one role classes; first = classes; bars = []; empty = false }
+  read = read_one role classes;
+  first = classes;
+  bars = [];
+  empty = false;
+}
 
 -- one part and then another
 abbrev pub paired : {A B : Type 0} → A → Outcome B → Outcome (A × B)
@@ -48,7 +51,10 @@ abbrev pub ◌>>◌ : {A B : Type 0} → Part A → Part B → Part (A × B)
 p >> q = record {
   spells = λ v e. (f : List Event) × (g : List Event) × p.spells v.0 f × q.spells v.1 g × (e ≡ f ++ g);
   read = λ n ts. followed q.read (p.read n ts);
-  first = joined p.empty q.first p.first; bars = joined q.empty p.bars q.bars; empty = p.empty && q.empty }
+  first = joined p.empty q.first p.first;
+  bars = joined q.empty p.bars q.bars;
+  empty = p.empty && q.empty;
+}
 
 -- one part or, where the next terminal doesn't begin it, another
 abbrev pub pick : {V : Type 0} → Bool → Reader V → Reader V → Reader V
@@ -60,7 +66,10 @@ abbrev pub ◌or◌ : {V : Type 0} → Part V → Part V → Part V
 p or q = record {
   spells = λ v e. p.spells v e ⊎ q.spells v e;
   read = λ n ts. pick (starts p.first ts) p.read q.read n ts;
-  first = p.first ++ q.first; bars = joined q.empty p.first (p.bars ++ q.bars); empty = q.empty }
+  first = p.first ++ q.first;
+  bars = joined q.empty p.first (p.bars ++ q.bars);
+  empty = q.empty;
+}
 
 -- nothing, which stands for a value
 abbrev pub nothing : {V : Type 0} → V → Part V
@@ -75,7 +84,11 @@ mapped f (Passed kind ts) = Passed kind ts
 abbrev pub to : {A B : Type 0} → (A → B) → Part A → Part B
 to {A = A} f p = record {
   spells = λ w e. (v : A) × p.spells v e × (w ≡ f v);
-  read = λ n ts. mapped f (p.read n ts); first = p.first; bars = p.bars; empty = p.empty }
+  read = λ n ts. mapped f (p.read n ts);
+  first = p.first;
+  bars = p.bars;
+  empty = p.empty;
+}
 
 -- a part before which something is counted: a limit is passed only where the part can begin
 abbrev pub read_marked : {V : Type 0} → Bool → Step → Reader V → List Terminal → Outcome V
@@ -87,7 +100,10 @@ abbrev pub counts_as : {V : Type 0} → Mark → Part V → Part V
 counts_as m p = record {
   spells = λ v e. (inner : List Event) × p.spells v inner × (e ≡ mark m ∷ inner);
   read = λ n ts. read_marked (starts p.first ts) (step n (mark m)) p.read ts;
-  first = p.first; bars = p.bars; empty = p.empty }
+  first = p.first;
+  bars = p.bars;
+  empty = p.empty;
+}
 
 -- parts one after another, each of which says whether another may follow
 abbrev pub Others : {V : Type 0} → Bool → Type 0 → List V → List Event → Type 0
@@ -122,5 +138,9 @@ read_all first part n ts = read_most (length ts) first part n ts
 
 abbrev pub repeat : {V : Type 0} → Part (V × Bool) → Part (List V)
 repeat p = record {
-  spells = Repeats p.spells; read = read_all p.first p.read;
-  first = p.first; bars = p.first ++ p.bars; empty = true }
+  spells = Repeats p.spells;
+  read = read_all p.first p.read;
+  first = p.first;
+  bars = p.first ++ p.bars;
+  empty = true;
+}

@@ -2,7 +2,7 @@
 use Rattle.std.specs.Prelude.{ℕ, Bool, true, false, Option, Some, None, List, [], ◌∷◌, ◌++◌, map}
 use Rattle.tm_base.specs.declared.definition.Kind.{Kind}
 use Rattle.tm_base.specs.declared.definition.Kind.TheVariants as kind
-use Rattle.tm_parse.specs.Combinators.{◌>>◌, ◌or◌, nothing, to, counts_as}
+use Rattle.tm_parse.specs.Combinators.{◌>>◌, ◌or◌, to, counts_as}
 use Rattle.tm_parse.specs.Events.{a_definition, a_parameter, a_field, a_variant, a_type}
 use Rattle.tm_parse.specs.Limits.{number_of}
 use Rattle.tm_parse.specs.Parts.{Part}
@@ -30,14 +30,14 @@ packed_to (Some t) = number_of t
 
 abbrev pub repr_item : Part ReprItem
 repr_item = to (λ t. item.C) (the c.C)
-  or to (λ t. item.Transparent) (the c.Transparent)
-  or to (λ t. item.Int (primitive_of t)) (the integer)
-  or to (λ v. item.Packed (packed_to v.1)) (the c.Packed >> optional in_parens)
-  or to (λ v. item.Align (number_of v.1)) (the c.Align >> in_parens)
+    or to (λ t. item.Transparent) (the c.Transparent)
+    or to (λ t. item.Int (primitive_of t)) (the integer)
+    or to (λ v. item.Packed (packed_to v.1)) (the c.Packed >> optional in_parens)
+    or to (λ v. item.Align (number_of v.1)) (the c.Align >> in_parens)
 
 abbrev pub repr : Part (List DeclRepr)
 repr = to (λ v. map (λ what. record { token = v.0.place; item = what }) v.1)
-  (the c.Repr >> between c.OpenParen (listed1 repr_item) c.CloseParen)
+    (the c.Repr >> between c.OpenParen (listed1 repr_item) c.CloseParen)
 
 -- it says nothing
 abbrev pub derive : Part (List DeclRepr)
@@ -76,16 +76,16 @@ unnamed public ty = record { name = None; public = public; ty = ty }
 
 abbrev pub field : ℕ → Part DeclField
 field levels = counts_as a_field (to (λ v. named_as v.1.0 (is_public v.0) v.1.1.1)
-  (optional visibility >> any names >> the c.Colon >> type_at 0 levels))
+    (optional visibility >> any names >> the c.Colon >> type_at 0 levels))
 
 -- What may stand behind `pub` in a field of a tuple. Behind `pub (` the next terminal tells whether the
 -- `(` belongs to `pub` or to the type. In the second case the type is counted behind the `(` that it
 -- begins with; an outermost type passes no limit.
 abbrev pub behind_pub : ℕ → Part DeclField
 behind_pub levels = to (λ ty. unnamed true ty) (counts_as (a_type 0) (plain_type (type_at 1 levels)))
-  or to (λ v. v.1) (the c.OpenParen >>
+    or to (λ v. v.1) (the c.OpenParen >>
     (to (λ v. unnamed false v.1.1) (narrower >> the c.CloseParen >> type_at 0 levels)
-      or to (λ ty. unnamed true ty) (counts_as (a_type 0) (behind_paren (type_at 1 levels)))))
+    or to (λ ty. unnamed true ty) (counts_as (a_type 0) (behind_paren (type_at 1 levels)))))
 
 abbrev pub place : ℕ → Part DeclField
 place levels = counts_as a_field (to (λ ty. unnamed false ty) (type_at 0 levels) or to (λ v. v.1) (the c.Pub >> behind_pub levels))
@@ -101,7 +101,7 @@ variant_place levels = counts_as a_field (to (λ ty. unnamed false ty) (type_at 
 
 abbrev pub variant_fields : ℕ → Part (List DeclField)
 variant_fields levels = between c.OpenBrace (listed (variant_field levels)) c.CloseBrace
-  or between c.OpenParen (listed (variant_place levels)) c.CloseParen
+    or between c.OpenParen (listed (variant_place levels)) c.CloseParen
 
 -- `= 3` or `= -3`
 abbrev pub discriminant : Part (Bool × ℕ)
@@ -113,7 +113,7 @@ variant_of name fields (Some d) = record { name = Some name.place; negative = d.
 
 abbrev pub variant : ℕ → Part DeclVariant
 variant levels = counts_as a_variant (to (λ v. variant_of v.0 v.1.0 v.1.1)
-  (any names >> optional (variant_fields levels) >> optional discriminant))
+    (any names >> optional (variant_fields levels) >> optional discriminant))
 
 -- definitions
 
@@ -126,8 +126,8 @@ single fields = record { name = None; negative = false; value = None; fields = f
 
 abbrev pub struct_body : ℕ → Part (List DeclVariant)
 struct_body levels = to (λ v. single []) (the c.Semicolon)
-  or to single (between c.OpenBrace (listed (field levels)) c.CloseBrace)
-  or to (λ v. single v.0) (between c.OpenParen (listed (place levels)) c.CloseParen >> the c.Semicolon)
+    or to single (between c.OpenBrace (listed (field levels)) c.CloseBrace)
+    or to (λ v. single v.0) (between c.OpenParen (listed (place levels)) c.CloseParen >> the c.Semicolon)
 
 abbrev pub union_body : ℕ → Part (List DeclVariant)
 union_body levels = to single (between c.OpenBrace (listed1 (field levels)) c.CloseBrace)
@@ -144,4 +144,4 @@ headed what word body = counts_as a_definition (to (λ v. defined what (v.0, v.1
 
 abbrev pub definition : ℕ → Part Decl
 definition levels = to (λ v. v.1.1 (together v.0)) (many attribute >> optional visibility >>
-  (headed kind.Struct (the c.Struct) (struct_body levels) or headed kind.Union (the c.Union) (union_body levels) or headed kind.Enum (the c.Enum) (enum_body levels)))
+    (headed kind.Struct (the c.Struct) (struct_body levels) or headed kind.Union (the c.Union) (union_body levels) or headed kind.Enum (the c.Enum) (enum_body levels)))

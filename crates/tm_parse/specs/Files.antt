@@ -1,18 +1,15 @@
--- The grammar of files, and what a list of terminals is by it.
-use Rattle.std.specs.Prelude.{◌≡◌, ℕ, Bool, true, false, ◌||◌, Option, Some, None, List, [], ◌∷◌, ◌++◌}
+-- The grammar of files.
+use Rattle.std.specs.Prelude.{ℕ, Bool, false, ◌||◌, Option, Some, None, List, [], ◌∷◌}
 use Rattle.tm_base.specs.declared.assume.Assume.{Assume}
 use Rattle.tm_parse.specs.Classes.{alike}
-use Rattle.tm_parse.specs.Combinators.{◌>>◌, ◌or◌, nothing, to, counts_as}
+use Rattle.tm_parse.specs.Combinators.{◌>>◌, ◌or◌, to, counts_as}
 use Rattle.tm_parse.specs.Definitions.{definition}
-use Rattle.tm_parse.specs.Events.{a_question, a_lifetime, Event, terminals}
-use Rattle.tm_parse.specs.Limits.{Within, Beyond, count, none_yet}
-use Rattle.tm_parse.specs.Parts.{Outcome, Done, Stuck, Passed, Part}
+use Rattle.tm_parse.specs.Events.{a_question, a_lifetime}
+use Rattle.tm_parse.specs.Parts.{Part}
 use Rattle.tm_parse.specs.Shapes.{any, the, optional, many, listed1}
 use Rattle.tm_parse.specs.Types.{type_at}
 use Rattle.tm_parse.specs.declared.class.Class.{Class}
 use Rattle.tm_parse.specs.declared.class.Class.TheVariants as c
-use Rattle.tm_parse.specs.declared.counts.Counts.{Counts}
-use Rattle.tm_parse.specs.declared.limit.LimitKind.{LimitKind}
 use Rattle.tm_parse.specs.declared.parsed.Decl.{Decl}
 use Rattle.tm_parse.specs.declared.parsed.DeclAsk.{DeclAsk}
 use Rattle.tm_parse.specs.declared.parsed.DeclBound.{DeclBound}
@@ -30,7 +27,7 @@ lifetime = to (λ v. a_region v.1.0.place) (the c.Declare >> counts_as a_lifetim
 
 abbrev pub outlives : Part Item
 outlives = to (λ v. a_bound (record { longer = v.1.0.place; shorter = v.1.1.1.0.place }))
-  (the c.Outlives >> the c.Lifetime >> the c.Colon >> the c.Lifetime >> the c.Semicolon)
+    (the c.Outlives >> the c.Lifetime >> the c.Colon >> the c.Lifetime >> the c.Semicolon)
 
 -- the flags that are written, each once or several times
 abbrev pub is_flagged : Class → List Terminal → Bool
@@ -49,7 +46,7 @@ flag = any (c.Alignment ∷ c.Lifetimes ∷ c.Safety ∷ c.Validity ∷ [])
 
 abbrev pub question : ℕ → Part Item
 question levels = to (λ v. an_ask (record { src = v.1.0; dst = v.1.1.1.0; assume = assumed v.1.1.1.1.0 }))
-  (counts_as a_question (the c.Ask) >> type_at 0 levels >> the c.Arrow >> type_at 0 levels >> optional (the c.Assume >> listed1 flag) >> the c.Semicolon)
+    (counts_as a_question (the c.Ask) >> type_at 0 levels >> the c.Arrow >> type_at 0 levels >> optional (the c.Assume >> listed1 flag) >> the c.Semicolon)
 
 abbrev pub item : ℕ → Part Item
 item levels = lifetime or outlives or question levels or to a_decl (definition levels)
@@ -68,46 +65,3 @@ sorted (i ∷ items) = with_item i (sorted items)
 -- a file whose types go at most so deep
 abbrev pub file : ℕ → Part Parsed
 file levels = to sorted (many (item levels))
-
--- these events spell the file
-pub record SpelledBy (v : Parsed) (e : List Event) : Type 0 where
-  pub levels : ℕ
-  pub spelled : (file levels).spells v e
-
--- some file begins with these terminals, and none of them passes a limit
-pub record BeginsWithin (p : List Terminal) : Type 0 where
-  pub value : Parsed
-  pub front : List Event
-  pub back : List Event
-  pub after : Counts
-  pub spelled : SpelledBy value (front ++ back)
-  pub text : terminals front ≡ p
-  pub within : count none_yet front ≡ Within after
-
--- some file goes on with this terminal behind these; it passes a limit, and none of these does
-pub record PassesAt (kind : LimitKind) (p : List Terminal) (t : Terminal) : Type 0 where
-  pub value : Parsed
-  pub front : List Event
-  pub back : List Event
-  pub others : List Terminal
-  pub after : Counts
-  pub spelled : SpelledBy value (front ++ back)
-  pub text : terminals front ≡ p
-  pub next : terminals back ≡ t ∷ others
-  pub within : count none_yet front ≡ Within after
-  pub passes : count after back ≡ Beyond kind back
-
--- no file begins with these terminals and the next; where there is no next, these are no file
-abbrev pub NoFile : List Terminal → List Terminal → Type 0
-NoFile p [] = (v : Parsed) (e : List Event) → SpelledBy v e → terminals e ≡ p → ⊥
-NoFile p (t ∷ rest) = (v : Parsed) (e : List Event) (others : List Terminal) → SpelledBy v e → terminals e ≡ p ++ (t ∷ others) → ⊥
-
--- what a list of terminals is answered: nothing may be left
-abbrev pub whole : Outcome Parsed → Outcome Parsed
-whole (Done v after []) = Done v after []
-whole (Done v after (t ∷ ts)) = Stuck (t ∷ ts)
-whole (Stuck ts) = Stuck ts
-whole (Passed kind ts) = Passed kind ts
-
-unfoldable pub answer_of : List Terminal → Outcome Parsed
-answer_of ts = whole ((file 0).read none_yet ts)

@@ -7,3 +7,4 @@ pub mod Shapes
 pub mod Types
 pub mod Definitions
 pub mod Files
+pub mod Accepted

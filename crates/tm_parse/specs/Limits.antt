@@ -1,7 +1,7 @@
 -- The limits that are passed at a terminal.
-use Rattle.std.specs.Prelude.{ℕ, zero, suc, ◌+◌, Bool, true, false, nat_lt, if◌then◌else◌, List, [], ◌∷◌}
+use Rattle.std.specs.Prelude.{ℕ, zero, suc, ◌+◌, Bool, nat_lt, if◌then◌else◌, List, [], ◌∷◌}
 use Rattle.tm_parse.specs.Classes.{among}
-use Rattle.tm_parse.specs.Events.{Mark, a_definition, a_question, a_lifetime, a_parameter, a_field, a_variant, a_type, Role, plain, array_length, Event, terminal, mark}
+use Rattle.tm_parse.specs.Events.{a_definition, a_question, a_lifetime, a_parameter, a_field, a_variant, a_type, plain, array_length, Event, terminal, mark}
 use Rattle.tm_parse.specs.declared.class.Class.{Class}
 use Rattle.tm_parse.specs.declared.class.Class.TheVariants as c
 use Rattle.tm_parse.specs.declared.counts.Counts.{Counts}
@@ -70,7 +70,7 @@ step n (mark a_parameter) = within limit.Parameters (n.parameters + 1) (record n
 step n (mark a_field) = within limit.Fields (n.fields + 1) (record n { fields = n.fields + 1 })
 step n (mark a_variant) = within limit.Variants (n.variants + 1) (record n { variants = n.variants + 1 })
 step n (mark (a_type depth)) = and_then (within limit.Nesting (depth + 1) n)
-  (let nodes = nodes_before depth n + 1 in within limit.TypeNodes nodes (record n { nodes = nodes }))
+    (let nodes = nodes_before depth n + 1 in within limit.TypeNodes nodes (record n { nodes = nodes }))
 step n (terminal array_length t) = and_then (within limit.ArrayLength (number_of t) n) (name_bytes n t)
 step n (terminal plain t) = name_bytes n t
 

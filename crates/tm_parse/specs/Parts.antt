@@ -1,6 +1,6 @@
 -- A part of a grammar: which events spell a value, and how a list of terminals is read with one place
 -- of look-ahead.
-use Rattle.std.specs.Prelude.{ℕ, Bool, List, [], ◌∷◌, ◌++◌}
+use Rattle.std.specs.Prelude.{Bool, List, ◌++◌}
 use Rattle.tm_parse.specs.Events.{Event, terminals}
 use Rattle.tm_parse.specs.Limits.{Verdict, Within, Beyond}
 use Rattle.tm_parse.specs.declared.class.Class.{Class}

@@ -1,17 +1,16 @@
 -- The grammar of types.
-use Rattle.std.specs.Prelude.{◌≡◌, ℕ, zero, suc, Bool, true, false, Option, Some, None, List, [], ◌∷◌, map}
+use Rattle.std.specs.Prelude.{ℕ, zero, suc, Bool, true, false, Option, Some, None, List, [], ◌∷◌, map}
 use Rattle.tm_base.specs.declared.ground.Primitive.{Primitive}
 use Rattle.tm_base.specs.declared.ground.Primitive.TheVariants as primitive
 use Rattle.tm_base.specs.declared.ground.Wrapper.{Wrapper}
 use Rattle.tm_base.specs.declared.ground.Wrapper.TheVariants as wrapper
-use Rattle.tm_parse.specs.Combinators.{starts, one, ◌>>◌, ◌or◌, nothing, to, counts_as}
-use Rattle.tm_parse.specs.Events.{array_length, a_parameter, a_type, Event}
+use Rattle.tm_parse.specs.Combinators.{starts, one, ◌>>◌, ◌or◌, to, counts_as}
+use Rattle.tm_parse.specs.Events.{array_length, a_type, Event}
 use Rattle.tm_parse.specs.Limits.{number_of}
 use Rattle.tm_parse.specs.Parts.{Outcome, Stuck, Passed, Reader, Part}
 use Rattle.tm_parse.specs.Shapes.{any, the, optional, is_there, listed, listed1, between}
 use Rattle.tm_parse.specs.declared.class.Class.{Class}
 use Rattle.tm_parse.specs.declared.class.Class.TheVariants as c
-use Rattle.tm_parse.specs.declared.counts.Counts.{Counts}
 use Rattle.tm_parse.specs.declared.limit.LimitKind.TheVariants as limit
 use Rattle.tm_parse.specs.declared.parsed.Expr.{Expr}
 use Rattle.tm_parse.specs.declared.parsed.Expr.TheVariants as expr
@@ -89,18 +88,18 @@ module _ (type : Part Expr) where
   -- what stands behind `(`
   abbrev pub behind_paren : Part Expr
   behind_paren = to (λ t. expr.Tuple []) (the c.CloseParen)
-    or to (λ v. tuple_or_inner v.0 v.1.0) (type >> optional (the c.Comma >> listed type) >> the c.CloseParen)
+      or to (λ v. tuple_or_inner v.0 v.1.0) (type >> optional (the c.Comma >> listed type) >> the c.CloseParen)
 
   abbrev pub paren_type : Part Expr
   paren_type = to (λ v. v.1) (the c.OpenParen >> behind_paren)
 
   abbrev pub array_type : Part Expr
   array_type = to (λ v. expr.Array v.1.0 (number_of v.1.1.1.0))
-    (the c.OpenBracket >> type >> the c.Semicolon >> one array_length (number ∷ []) >> the c.CloseBracket)
+      (the c.OpenBracket >> type >> the c.Semicolon >> one array_length (number ∷ []) >> the c.CloseBracket)
 
   abbrev pub reference_type : Part Expr
   reference_type = to (λ v. expr.Ref v.1.0.place (is_there v.1.1.0) v.1.1.1)
-    (the c.Ampersand >> the c.Lifetime >> optional (the c.Mut) >> type)
+      (the c.Ampersand >> the c.Lifetime >> optional (the c.Mut) >> type)
 
   abbrev pub nonzero_type : Part Expr
   nonzero_type = to (λ v. expr.NonZero (primitive_of v.1)) (the c.NonZero >> between c.Less (the integer) c.Greater)

@@ -13,5 +13,7 @@ pub use class::Class;
 pub use counts::Counts;
 pub use laws::grammar_is_exact;
 pub use limit::LimitKind;
-pub use parsed::{Decl, DeclAsk, DeclBound, DeclField, DeclRepr, DeclVariant, Expr, Parsed, ReprItem};
+pub use parsed::{
+    Decl, DeclAsk, DeclBound, DeclField, DeclRepr, DeclVariant, Expr, Parsed, ReprItem,
+};
 pub use terminal::Terminal;
