@@ -1,5 +1,5 @@
 -- Each answer says what the list of terminals is, and a spelled file is answered.
-use Rattle.std.proofs.Common.{◌≡◌, refl, sym, ap, ◌∙◌, subst, List, [], ◌∷◌, ◌++◌, append-nil}
+use Rattle.std.proofs.Common.{◌≡◌, refl, sym, ap, ◌∙◌, subst, List, [], ◌∷◌, ◌++◌, append-nil, append_assoc}
 use Rattle.tm_parse.proofs.FileLaws.{file_laws}
 use Rattle.tm_parse.proofs.Lawful.{Same, IsDone, Stops, IsPast, IsRight}
 use Rattle.tm_parse.specs.Accepted.{SpelledBy, PassesAt, NoFile, IsFile, whole, answer_of, IsAnswer}
@@ -38,7 +38,8 @@ stuck-answer ts rest back after g = (
   where
     hopeless : (rest : List Terminal) → ((o : List Terminal) → Same rest o → read (terminals g.front ++ o) ≡ Stuck o) → NoFile (terminals g.front) rest
     hopeless [] alone = λ v e h eq. not-stuck v (count none_yet e) [] (sym (reads v e h) ∙ ap read (eq ∙ sym (append-nil (terminals g.front))) ∙ alone [] refl)
-    hopeless (t ∷ rest) alone = λ v e z h eq. not-stuck v (count none_yet e) (t ∷ z) (sym (reads v e h) ∙ ap read eq ∙ alone (t ∷ z) refl)
+    hopeless (t ∷ rest) alone = λ b. not-stuck b.value (count none_yet b.events) (t ∷ b.others)
+        (sym (reads b.value b.events b.spelled) ∙ ap read (b.text ∙ append_assoc (terminals g.front) (t ∷ []) b.others) ∙ alone (t ∷ b.others) refl)
 
 passed-answer : (ts rest : List Terminal) (kind : LimitKind) (back : List Event) (after : Counts) → Stops file none_yet ts rest back after (Passed kind) → IsPast kind rest back after → IsAnswer ts (Passed kind rest)
 passed-answer ts [] kind back after g past = absurd (past.some refl)
@@ -66,7 +67,8 @@ done-answer ts v c (t ∷ rest) g = (
   g.text,
   (
     record { value = v; front = g.events; back = []; after = c; spelled = record { levels = g.depth; spelled = subst ((file g.depth).spells v) (sym (append-nil g.events)) g.spelled }; text = refl; within = g.within },
-    λ w e z h eq. not-longer w v c (count none_yet e) t z (sym (reads w e h) ∙ ap read eq ∙ g.alone (t ∷ z) refl),
+    λ b. not-longer b.value v c (count none_yet b.events) t b.others
+        (sym (reads b.value b.events b.spelled) ∙ ap read (b.text ∙ append_assoc (terminals g.events) (t ∷ []) b.others) ∙ g.alone (t ∷ b.others) refl),
   ),
 )
 

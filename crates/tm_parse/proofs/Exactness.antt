@@ -5,7 +5,7 @@ use Rattle.tm_parse.proofs.Answering.{read, reads, is_right, answer_is_right, fi
 use Rattle.tm_parse.proofs.Fronts.{terminals-append, count-within}
 use Rattle.tm_parse.proofs.Lawful.{IsRight}
 use Rattle.tm_parse.proofs.Prefixes.{Cuts, cuts}
-use Rattle.tm_parse.specs.Accepted.{SpelledBy, BeginsWithin, PassesAt, NoFile, IsFile, IsFaultAt, whole, answer_of, IsAnswer}
+use Rattle.tm_parse.specs.Accepted.{Begins, SpelledBy, BeginsWithin, PassesAt, NoFile, IsFile, IsFaultAt, whole, answer_of, IsAnswer}
 use Rattle.tm_parse.specs.Events.{Event, terminal, mark, terminals}
 use Rattle.tm_parse.specs.Files.{file}
 use Rattle.tm_parse.specs.Limits.{Step, Fine, Passes, step, Verdict, Within, Beyond, counted, count, none_yet}
@@ -59,19 +59,22 @@ no-within kind p t x o b =
     go (Beyond other g) e q = let a : terminals g ++ [] ≡ t ∷ (x ++ terminals b.back) = cc in
         let l = ap length (sym (append-nil (terminals g)) ∙ a) in omega (arith, l, length-append x (terminals b.back), left-shorter b.after other b.back g e)
 
+begins-so : (p : List Terminal) (t : Terminal) (z : List Terminal) (v : Parsed) (e : List Event) → SpelledBy v e → terminals e ≡ p ++ (t ∷ z) → Begins (p ++ (t ∷ []))
+begins-so p t z v e s q = record { value = v; events = e; others = z; spelled = s; text = q ∙ sym (append_assoc p (t ∷ []) z) }
+
 -- no file goes on at a fault: none begins past it, none passes a limit there or later, and none ends there
 no-begin : (p : List Terminal) (t : Terminal) (rest x : List Terminal) → NoFile p (t ∷ rest) → BeginsWithin (p ++ (t ∷ x)) → ⊥
-no-begin p t rest x h b = h b.value (b.front ++ b.back) (x ++ terminals b.back) b.spelled (begun-text b ∙ append_assoc p (t ∷ x) (terminals b.back))
+no-begin p t rest x h b = h (begins-so p t (x ++ terminals b.back) b.value (b.front ++ b.back) b.spelled (begun-text b ∙ append_assoc p (t ∷ x) (terminals b.back)))
 
 no-pass : (kind : LimitKind) (p : List Terminal) (t : Terminal) (rest : List Terminal) → NoFile p (t ∷ rest) → PassesAt kind p t → ⊥
-no-pass kind p t rest h o = h o.value (o.front ++ o.back) o.others o.spelled (passing-text o)
+no-pass kind p t rest h o = h (begins-so p t o.others o.value (o.front ++ o.back) o.spelled (passing-text o))
 
 no-pass-later : (kind : LimitKind) (p : List Terminal) (t u : Terminal) (rest x : List Terminal) → NoFile p (t ∷ rest) → PassesAt kind (p ++ (t ∷ x)) u → ⊥
-no-pass-later kind p t u rest x h o = h o.value (o.front ++ o.back) (x ++ (u ∷ o.others)) o.spelled (passing-text o ∙ append_assoc p (t ∷ x) (u ∷ o.others))
+no-pass-later kind p t u rest x h o = h (begins-so p t (x ++ (u ∷ o.others)) o.value (o.front ++ o.back) o.spelled (passing-text o ∙ append_assoc p (t ∷ x) (u ∷ o.others)))
 
 no-whole : (p rest : List Terminal) (v : Parsed) (e : List Event) → NoFile p rest → SpelledBy v e → terminals e ≡ p ++ rest → ⊥
 no-whole p [] v e h s q = h v e s (q ∙ append-nil p)
-no-whole p (t ∷ rest) v e h s q = h v e rest s q
+no-whole p (t ∷ rest) v e h s q = h (begins-so p t rest v e s q)
 
 -- a fault and a limit don't stand in one list
 not-both : (kind : LimitKind) (p rest q : List Terminal) (t : Terminal) (z : List Terminal) → BeginsWithin p → NoFile p rest → PassesAt kind q t → Cuts p rest q (t ∷ z) → ⊥

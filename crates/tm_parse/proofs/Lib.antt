@@ -18,3 +18,5 @@ pub mod FileLaws
 pub mod Answering
 pub mod Prefixes
 pub mod Exactness
+pub mod Worked
+pub mod WorkedLimits

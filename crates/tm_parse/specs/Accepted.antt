@@ -38,10 +38,18 @@ pub record PassesAt (kind : LimitKind) (p : List Terminal) (t : Terminal) : Type
   pub within : count none_yet front ≡ Within after
   pub passes : count after back ≡ Beyond kind back
 
+-- some file begins with these terminals
+pub record Begins (p : List Terminal) : Type 0 where
+  pub value : Parsed
+  pub events : List Event
+  pub others : List Terminal
+  pub spelled : SpelledBy value events
+  pub text : terminals events ≡ p ++ others
+
 -- no file begins with these terminals and the next; where there is no next, these are no file
 abbrev pub NoFile : List Terminal → List Terminal → Type 0
 NoFile p [] = (v : Parsed) (e : List Event) → SpelledBy v e → terminals e ≡ p → ⊥
-NoFile p (t ∷ rest) = (v : Parsed) (e : List Event) (others : List Terminal) → SpelledBy v e → terminals e ≡ p ++ (t ∷ others) → ⊥
+NoFile p (t ∷ rest) = Begins (p ++ (t ∷ [])) → ⊥
 
 -- these terminals spell the file, within the limits
 pub record IsFile (v : Parsed) (ts : List Terminal) (after : Counts) : Type 0 where
