@@ -8,3 +8,4 @@ pub mod Types
 pub mod Definitions
 pub mod Files
 pub mod Accepted
+pub mod Read

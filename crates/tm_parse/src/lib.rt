@@ -7,6 +7,8 @@ mod counts;
 mod laws;
 mod limit;
 mod parsed;
+mod reading;
+mod stop;
 mod terminal;
 
 pub use class::Class;

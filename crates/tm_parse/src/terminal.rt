@@ -1,3 +1,6 @@
+ghost use Rattle.std.specs.Prelude.{◌≡◌, ◌&&◌, nat_lt, not};
+ghost use Rattle.tm_parse.specs.Limits.{is_number_or_sign};
+
 use crate::class::Class;
 
 /// A token as the grammar sees it.
@@ -8,4 +11,13 @@ pub struct Terminal {
     pub class: Class,
     pub place: u32,
     pub size: u32,
+}
+
+impl Terminal {
+    /// Whether this is a word or a lifetime of more than 64 bytes.
+    pub fn is_name_too_long(self) -> bool
+        ensures { result ≡ (not (is_number_or_sign self.class) && nat_lt 64 self.size) }
+    {
+        self.class.is_name() && self.size > 64
+    }
 }
