@@ -3,6 +3,7 @@
 #![tactic(auto)]
 
 mod class;
+mod counting;
 mod counts;
 mod laws;
 mod limit;
