@@ -7,6 +7,7 @@ mod counting;
 mod counts;
 mod laws;
 mod limit;
+mod numbers;
 mod parsed;
 mod reading;
 mod stop;

@@ -38,7 +38,7 @@ pub fn take<'a>(
 }
 
 /// Whether a terminal of this class comes next.
-fn is_next(class: Class, terminals: &[Terminal]) -> bool
+pub fn is_next(class: Class, terminals: &[Terminal]) -> bool
     ensures { result ≡ starts (class ∷ []) terminals.now }
 {
     match terminals {
