@@ -1,0 +1,79 @@
+-- What a list of terminals is by the grammar: a file within the limits, or one that stops at its first
+-- hopeless terminal or at the first that passes a limit.
+use Rattle.std.specs.Prelude.{◌≡◌, ℕ, List, [], ◌∷◌, ◌++◌}
+use Rattle.tm_parse.specs.Events.{Event, terminals}
+use Rattle.tm_parse.specs.Files.{file}
+use Rattle.tm_parse.specs.Limits.{Within, Beyond, count, none_yet}
+use Rattle.tm_parse.specs.Parts.{Outcome, Done, Stuck, Passed}
+use Rattle.tm_parse.specs.declared.counts.Counts.{Counts}
+use Rattle.tm_base.specs.declared.limit.LimitKind.{LimitKind}
+use Rattle.tm_parse.specs.declared.parsed.Parsed.{Parsed}
+use Rattle.tm_parse.specs.declared.terminal.Terminal.{Terminal}
+
+-- these events spell the file
+pub record SpelledBy (v : Parsed) (e : List Event) : Type 0 where
+  pub levels : ℕ
+  pub spelled : (file levels).spells v e
+
+-- some file begins with these terminals, and none of them passes a limit
+pub record BeginsWithin (p : List Terminal) : Type 0 where
+  pub value : Parsed
+  pub front : List Event
+  pub back : List Event
+  pub after : Counts
+  pub spelled : SpelledBy value (front ++ back)
+  pub text : terminals front ≡ p
+  pub within : count none_yet front ≡ Within after
+
+-- some file goes on with this terminal behind these; it passes a limit, and none of these does
+pub record PassesAt (kind : LimitKind) (p : List Terminal) (t : Terminal) : Type 0 where
+  pub value : Parsed
+  pub front : List Event
+  pub back : List Event
+  pub others : List Terminal
+  pub after : Counts
+  pub spelled : SpelledBy value (front ++ back)
+  pub text : terminals front ≡ p
+  pub next : terminals back ≡ t ∷ others
+  pub within : count none_yet front ≡ Within after
+  pub passes : count after back ≡ Beyond kind back
+
+-- some file begins with these terminals
+pub record Begins (p : List Terminal) : Type 0 where
+  pub value : Parsed
+  pub events : List Event
+  pub others : List Terminal
+  pub spelled : SpelledBy value events
+  pub text : terminals events ≡ p ++ others
+
+-- no file begins with these terminals and the next; where there is no next, these are no file
+abbrev pub NoFile : List Terminal → List Terminal → Type 0
+NoFile p [] = (v : Parsed) (e : List Event) → SpelledBy v e → terminals e ≡ p → ⊥
+NoFile p (t ∷ rest) = Begins (p ++ (t ∷ [])) → ⊥
+
+-- these terminals spell the file, within the limits
+pub record IsFile (v : Parsed) (ts : List Terminal) (after : Counts) : Type 0 where
+  pub events : List Event
+  pub spelled : SpelledBy v events
+  pub text : terminals events ≡ ts
+  pub within : count none_yet events ≡ Within after
+
+-- behind `p` stands the first terminal with which no file goes on
+abbrev pub IsFaultAt : List Terminal → List Terminal → Type 0
+IsFaultAt p rest = BeginsWithin p × NoFile p rest
+
+-- what a list of terminals is answered: nothing may be left
+abbrev pub whole : Outcome Parsed → Outcome Parsed
+whole (Done v after []) = Done v after []
+whole (Done v after (t ∷ ts)) = Stuck (t ∷ ts)
+whole (Stuck ts) = Stuck ts
+whole (Passed kind ts) = Passed kind ts
+
+unfoldable pub answer_of : List Terminal → Outcome Parsed
+answer_of ts = whole ((file 0).read none_yet ts)
+
+-- an answer says what the list is
+abbrev pub IsAnswer : List Terminal → Outcome Parsed → Type 0
+IsAnswer ts (Done v after rest) = IsFile v ts after × (rest ≡ [])
+IsAnswer ts (Stuck rest) = (p : List Terminal) × (ts ≡ p ++ rest) × IsFaultAt p rest
+IsAnswer ts (Passed kind rest) = (p : List Terminal) × (t : Terminal) × (others : List Terminal) × (rest ≡ t ∷ others) × (ts ≡ p ++ rest) × PassesAt kind p t

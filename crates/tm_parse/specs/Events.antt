@@ -1,0 +1,29 @@
+-- What a list of terminals is made of when limits are counted: the terminals, and a mark wherever
+-- something begins that is counted.
+use Rattle.std.specs.Prelude.{ℕ, List, [], ◌∷◌}
+use Rattle.tm_parse.specs.declared.terminal.Terminal.{Terminal}
+
+-- what begins; a type has so many types around it
+pub data Mark : Type 0 where
+  a_definition : Mark
+  a_question : Mark
+  a_lifetime : Mark
+  a_parameter : Mark
+  a_field : Mark
+  a_variant : Mark
+  a_type : ℕ → Mark
+
+-- what a terminal stands for: the length of an array, or anything else
+pub data Role : Type 0 where
+  plain : Role
+  array_length : Role
+
+pub data Event : Type 0 where
+  terminal : Role → Terminal → Event
+  mark : Mark → Event
+
+-- the terminals alone
+abbrev pub terminals : List Event → List Terminal
+terminals [] = []
+terminals (terminal role t ∷ events) = t ∷ terminals events
+terminals (mark m ∷ events) = terminals events

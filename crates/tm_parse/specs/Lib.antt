@@ -1,0 +1,11 @@
+pub mod Classes
+pub mod Events
+pub mod Limits
+pub mod Parts
+pub mod Combinators
+pub mod Shapes
+pub mod Types
+pub mod Definitions
+pub mod Files
+pub mod Accepted
+pub mod Read

@@ -1,0 +1,22 @@
+ghost use Rattle.std.specs.Prelude.{◌≡◌, ◌↔◌, ◌++◌, ◌∷◌, [], List};
+ghost use Rattle.tm_parse.specs.Accepted.{IsAnswer, IsFaultAt, IsFile, PassesAt, SpelledBy, answer_of};
+ghost use Rattle.tm_parse.specs.Events.{Event, terminals};
+ghost use Rattle.tm_parse.specs.Parts.{Done, Passed, Stuck};
+ghost use Rattle.tm_parse.specs.declared.counts.Counts.{Counts as CountsValue};
+ghost use Rattle.tm_base.specs.declared.limit.LimitKind.{LimitKind as Limit};
+ghost use Rattle.tm_parse.specs.declared.parsed.Parsed.{Parsed as File};
+ghost use Rattle.tm_parse.specs.declared.terminal.Terminal.{Terminal as Sign};
+
+/// What holds of the grammar of question files.
+///
+/// A list of terminals is answered with a file exactly where it spells that file within the limits, and
+/// it spells no other one. It is stuck exactly at the first terminal with which no file goes on, where
+/// no limit is passed before it. A limit is answered exactly at the first terminal that passes one, and
+/// only where some file goes on with that terminal. Each list is answered in one of these ways.
+pub fn grammar_is_exact()
+    ensures file { (v : File) (ts : List Sign) (after : CountsValue) → (answer_of ts ≡ Done v after []) ↔ IsFile v ts after }
+    ensures one_file { (v w : File) (ts : List Sign) (after : CountsValue) (events : List Event) → IsFile v ts after → SpelledBy w events → terminals events ≡ ts → v ≡ w }
+    ensures fault { (front rest : List Sign) → (answer_of (front ++ rest) ≡ Stuck rest) ↔ IsFaultAt front rest }
+    ensures limit { (kind : Limit) (front : List Sign) (t : Sign) (rest : List Sign) → (answer_of (front ++ (t ∷ rest)) ≡ Passed kind (t ∷ rest)) ↔ PassesAt kind front t }
+    ensures every { (ts : List Sign) → IsAnswer ts (answer_of ts) }
+{}
