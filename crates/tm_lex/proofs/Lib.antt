@@ -1,0 +1,12 @@
+pub mod RunLemmas
+pub mod CommentLemmas
+pub mod MarkLemmas
+pub mod PieceLemmas
+pub mod ClassLemmas
+pub mod UniqueLemmas
+pub mod NothingLemmas
+pub mod NumberLemmas
+pub mod LexLemmas
+pub mod ResultLemmas
+pub mod PlaceLemmas
+pub mod SliceLemmas

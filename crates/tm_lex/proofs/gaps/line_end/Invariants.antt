@@ -1,0 +1,17 @@
+-- A run at what is left goes on to a run at the whole.
+use denote.Shadow.{shadow}
+use denote.Text.{Utf8}
+use Rattle.std.proofs.Common.{ℕ, List, length}
+use Rattle.std.specs.Str.{chars}
+use Rattle.tm_lex.specs.Characters.{IsRun}
+use Rattle.tm_lex.specs.Gaps.{is_in_line}
+use Rattle.tm_lex.specs.Pieces.{Fronts}
+use Rattle.tm_lex.proofs.gaps.line_end.Given as goal
+
+abbrev pub invariant-run : goal.invariant-run
+invariant-run l =
+    shadow (Utf8 l.rest)
+    × ((after : List ℕ) → Fronts (IsRun is_in_line) (chars l.rest) after → Fronts (IsRun is_in_line) (chars l.fn.text) after)
+
+abbrev pub decreases-run : goal.decreases-run
+decreases-run l = length (chars l.rest)

@@ -1,0 +1,9 @@
+pub mod Characters
+pub mod Comments
+pub mod Marks
+pub mod Gaps
+pub mod Words
+pub mod Numbers
+pub mod Tokens
+pub mod Lexes
+pub mod Pieces
