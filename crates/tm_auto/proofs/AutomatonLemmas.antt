@@ -219,10 +219,10 @@ module _ (auto : Automaton) (h : IsAutomaton auto) where
     last = λ k s p. (
       λ e. (let x = in_layer k 0 s p e in omega arith),
       λ e. (
-        let (d, r) = path_down (suc s) s (omega arith) (layer_below k s p) in
-        let x = in_layer k d s p r in
-        let z : d ≡ 0 = omega arith in
-        subst (λ (n : ℕ). IsPath auto.edges n s 0) z r),
+          let (d, r) = path_down (suc s) s (omega arith) (layer_below k s p) in
+          let x = in_layer k d s p r in
+          let z : d ≡ 0 = omega arith in
+          subst (λ (n : ℕ). IsPath auto.edges n s 0) z r),
     );
   }
 
@@ -239,16 +239,16 @@ module _ (auto : Automaton) (h : IsAutomaton auto) where
   viable_list : (A : ℕ → ℕ → Bool) (w : Word) → IsJoined w → HasNoOwn w → (reached A auto w ≢ []) ↔ IsViable (holds A) auto w
   viable_list A w j n = (
     λ ne. (
-      let (s, m) = some_among (reached A auto w) ne in
-      let (a, am, l) = reached_to A auto.edges auto.starts w s m in
-      let wide = leads_wider (holds A) (OrOwn (holds A)) (λ x t p. inl p) auto.edges w a s l in
-      let (v, k, jv) = goes_on (OrOwn (holds A)) (λ t. (own t, inr refl)) w a s am j wide in
-      (v, word_of (OrOwn (holds A)) (λ t. (own t, inr refl)) w v a s am wide k jv)),
+        let (s, m) = some_among (reached A auto w) ne in
+        let (a, am, l) = reached_to A auto.edges auto.starts w s m in
+        let wide = leads_wider (holds A) (OrOwn (holds A)) (λ x t p. inl p) auto.edges w a s l in
+        let (v, k, jv) = goes_on (OrOwn (holds A)) (λ t. (own t, inr refl)) w a s am j wide in
+        (v, word_of (OrOwn (holds A)) (λ t. (own t, inr refl)) w v a s am wide k jv)),
     λ (v, word) q. (
-      let r = word.reaches in
-      let (s, l, k) = leads_parts (OrOwn (holds A)) auto.edges w v r.state 0 r.spells in
-      let m = to_reached A auto.edges auto.starts w r.state s r.among (no_own A w r.state s n l) in
-      none_among (subst (λ (z : List ℕ). Among s z) q m)),
+        let r = word.reaches in
+        let (s, l, k) = leads_parts (OrOwn (holds A)) auto.edges w v r.state 0 r.spells in
+        let m = to_reached A auto.edges auto.starts w r.state s r.among (no_own A w r.state s n l) in
+        none_among (subst (λ (z : List ℕ). Among s z) q m)),
   )
 
   -- ---- under the test of equal references
@@ -269,16 +269,16 @@ module _ (auto : Automaton) (h : IsAutomaton auto) where
   source_list : (w : Word) → (reached equal auto w ≢ []) ↔ ((v : Word) × AutoWord (holds equal) auto (w ++ v))
   source_list w = (
     λ ne. (
-      let (s, m) = some_among (reached equal auto w) ne in
-      let (a, am, l) = reached_to equal auto.edges auto.starts w s m in
-      let full : (t : ℕ) → (x : ℕ) × holds equal x t = λ t. (t, eq-eqb t t refl) in
-      let (v, k, jv) = goes_on (holds equal) full w a s am (source_joined w a s am l) l in
-      (v, word_of (holds equal) full w v a s am l k jv)),
+        let (s, m) = some_among (reached equal auto w) ne in
+        let (a, am, l) = reached_to equal auto.edges auto.starts w s m in
+        let full : (t : ℕ) → (x : ℕ) × holds equal x t = λ t. (t, eq-eqb t t refl) in
+        let (v, k, jv) = goes_on (holds equal) full w a s am (source_joined w a s am l) l in
+        (v, word_of (holds equal) full w v a s am l k jv)),
     λ (v, word) q. (
-      let r = word.reaches in
-      let (s, l, k) = leads_parts (holds equal) auto.edges w v r.state 0 r.spells in
-      let m = to_reached equal auto.edges auto.starts w r.state s r.among l in
-      none_among (subst (λ (z : List ℕ). Among s z) q m)),
+        let r = word.reaches in
+        let (s, l, k) = leads_parts (holds equal) auto.edges w v r.state 0 r.spells in
+        let m = to_reached equal auto.edges auto.starts w r.state s r.among l in
+        none_among (subst (λ (z : List ℕ). Among s z) q m)),
   )
 
   -- ---- references stay whole

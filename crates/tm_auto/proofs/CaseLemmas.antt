@@ -189,8 +189,8 @@ pub members_skip : (ts first : List Tree) (t : Tree) (es fs : List Edge) (n m : 
 members_skip ts first t es fs n m targets starts e h =
     let x = leaves_where-skip is_no_cell first t (is_one t e) in
     makes_as (omega arith) (λ l. l) (λ A w.
-        let (a, b) = LooseOneWhere-skip (holds A) is_no_cell first t (is_one t e) w in
-        (λ k. elim k [ inl y ↦ inl y | inr y ↦ inr (b y) ], λ k. elim k [ inl y ↦ inl y | inr y ↦ inr (a y) ])) h
+    let (a, b) = LooseOneWhere-skip (holds A) is_no_cell first t (is_one t e) w in
+    (λ k. elim k [ inl y ↦ inl y | inr y ↦ inr (b y) ], λ k. elim k [ inl y ↦ inl y | inr y ↦ inr (a y) ])) h
 
 pub members_more : (ts first : List Tree) (t : Tree) (es fs gs : List Edge) (n m k : ℕ) (targets starts more all : List ℕ) → is_cell t ≡ false → IsReady es n targets → all ≡ with_states more starts
     → MakesMembers ts first es fs n m targets starts → MakesTree t fs gs m k targets more → MakesMembers ts (first ++ t ∷ []) es gs n k targets all
@@ -198,8 +198,8 @@ members_more ts first t es fs gs n m k targets starts more all e r ea h p =
     let x = leaves_where-add is_no_cell first t (no_cell t e) in
     let both = makes_either _ _ _ _ _ _ es fs gs n m k targets starts more (with_states more starts) r (λ s a. with_states_to more starts s a) (λ s a. with_states_keeps more starts s a) (λ s a. with_states_has more starts s a) h p in
     let made : MakesMembers ts (first ++ t ∷ []) es gs n k targets (with_states more starts) = makes_as (omega arith) (λ l. l) (λ A w.
-        let (a, b) = LooseOneWhere-more (holds A) is_no_cell first t (no_cell t e) w in
-        (λ k. elim k [ inl y ↦ elim y [ inl z ↦ inl z | inr z ↦ inr (b (inl z)) ] | inr y ↦ inr (b (inr y)) ], λ k. elim k [ inl y ↦ inl (inl y) | inr y ↦ elim (a y) [ inl z ↦ inl (inr z) | inr z ↦ inr z ] ])) both in
+    let (a, b) = LooseOneWhere-more (holds A) is_no_cell first t (no_cell t e) w in
+    (λ k. elim k [ inl y ↦ elim y [ inl z ↦ inl z | inr z ↦ inr (b (inl z)) ] | inr y ↦ inr (b (inr y)) ], λ k. elim k [ inl y ↦ inl (inl y) | inr y ↦ elim (a y) [ inl z ↦ inl (inr z) | inr z ↦ inr z ] ])) both in
     rw ea made
 
 pub members_all : (ts : List Tree) (es fs : List Edge) (n m : ℕ) (targets starts : List ℕ) → ts ≢ [] → MakesMembers ts ts es fs n m targets starts → Makes (ts ≡ []) (all_leaves ts) (λ A. LooseOneOf (holds A) ts) es fs n m targets starts

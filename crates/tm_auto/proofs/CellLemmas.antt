@@ -104,7 +104,7 @@ cells_more ts t label es fs gs n m k targets starts more r some e can puts share
     let start : Makes ⊥ (leaves_where is_cell ts) (λ A. LooseOneWhere (holds A) is_cell ts) es es n n targets [] = rw (none, same, still) at h in
     let leaf = makes_leaf Begins Begins es n label targets some can cell.begins (begins_joins label) r.sound r.below r.plain in
     let both : Makes ⊥ (leaves_where is_cell ts + 1) (Either (λ A. LooseOneWhere (holds A) is_cell ts) (CellWords label)) es (es ++ edges_to n label targets) n (n + 1) targets (n ∷ []) =
-        makes_either _ _ _ _ _ _ es es (es ++ edges_to n label targets) n n (n + 1) targets [] (n ∷ []) (n ∷ []) r (λ s a. inr a) (λ s a. absurd (none_among a)) (λ s a. a) start leaf in
+    makes_either _ _ _ _ _ _ es es (es ++ edges_to n label targets) n n (n + 1) targets [] (n ∷ []) (n ∷ []) r (λ s a. inr a) (λ s a. absurd (none_among a)) (λ s a. a) start leaf in
     let made = makes_as {line2 = ⊥} {room2 = leaves_where is_cell (ts ++ t ∷ [])} {Q = λ A. LooseOneWhere (holds A) is_cell (ts ++ t ∷ [])} (omega arith) (λ l. l) (words ts t label cell is) both in
     let eg : gs ≡ es ++ edges_to n label targets = put.edges ∙ ap (λ (z : List Edge). z ++ edges_to m label targets) same ∙ ap (λ (z : ℕ). es ++ edges_to z label targets) still in
     let ek : k ≡ n + 1 = put.states ∙ ap (λ (z : ℕ). z + 1) still in

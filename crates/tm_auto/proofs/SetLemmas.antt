@@ -134,8 +134,8 @@ rises_same (x ∷ xs) [] p q to from = let n : Among x [] = to x here in elim n 
 rises_same (x ∷ xs) (y ∷ ys) p q to from =
     let e : x ≡ y = head x y xs ys p q (to x here) (from y here) in
     let rest : xs ≡ ys = rises_same xs ys (tail_rises x xs p) (tail_rises y ys q)
-        (λ t a. later y ys t (let l = above_all x xs p t a in omega arith) (to t (there a)))
-        (λ t a. later x xs t (let l = above_all y ys q t a in omega arith) (from t (there a))) in
+    (λ t a. later y ys t (let l = above_all x xs p t a in omega arith) (to t (there a)))
+    (λ t a. later x xs t (let l = above_all y ys q t a in omega arith) (from t (there a))) in
     rw (e, rest) refl
   where
     later : (y : ℕ) (ys : List ℕ) (t : ℕ) → y < t → Among t (y ∷ ys) → Among t ys

@@ -23,12 +23,7 @@ pub(crate) struct Building {
 }
 
 // An edge from the state to each target.
-fn connect(
-    edges: &mut Vec<Edge>,
-    from: u32,
-    label: Label,
-    targets: &[u32],
-) -> Result<(), Memory>
+fn connect(edges: &mut Vec<Edge>, from: u32, label: Label, targets: &[u32]) -> Result<(), Memory>
     ensures { OnOk result (edges.new.items ≡ edges.old.items ++ edges_to from label targets.now) }
 {
     for target in targets {
