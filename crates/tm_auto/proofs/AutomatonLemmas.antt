@@ -1,22 +1,21 @@
 -- What follows from the facts of an automaton: where its paths lead, and which lists are viable.
-use Rattle.std.proofs.Common.{◌≡◌, ◌≢◌, ℕ, zero, suc, ◌+◌, ◌^◌, ◌<◌, ◌≤◌, ◌⊎◌, inl, inr, ◌↔◌, Bool, true, false, ◌&&◌, nat_le, nat_lt, IsTrue, List, [], ◌∷◌, ◌++◌, length, refl, sym, ap, ◌∙◌, subst, arith, append_assoc, append-nil, length-append, eq-eqb}
+use Rattle.std.proofs.Common.{◌≡◌, ◌≢◌, ℕ, zero, suc, ◌+◌, ◌^◌, ◌<◌, ◌≤◌, inl, inr, ◌↔◌, Bool, true, List, [], ◌∷◌, ◌++◌, length, refl, sym, ap, ◌∙◌, subst, arith, append_assoc, length-append, eq-eqb}
 use Rattle.std.specs.Prelude.{◌==◌, ◌||◌}
-use Rattle.std.proofs.lemmas.Bool.{cases_lt, and_from, or_left, or_right}
+use Rattle.std.proofs.lemmas.Bool.{cases_lt, or_left, or_right}
 use Rattle.tm_base.specs.declared.cell.Cell.{Cell}
 use Rattle.tm_base.specs.declared.cell.Cell.TheVariants.{Byte, Uninit, Ptr}
 use Rattle.tm_base.specs.declared.cell.RefId.{RefId}
-use Rattle.tm_base.specs.Cells.{Word, IsFree, OrOwn, own}
+use Rattle.tm_base.specs.Cells.{Word, OrOwn, own}
 use Rattle.tm_base.specs.Transmutes.{holds}
 use Rattle.tm_auto.specs.declared.edge.Edge.{Edge}
 use Rattle.tm_auto.specs.declared.edge.Label.{Label}
 use Rattle.tm_auto.specs.declared.edge.Label.TheVariants.{Bytes, Free, Leaf}
-use Rattle.tm_auto.specs.Automata.{Automaton, AutoWord, IsViable, IsInLayer, IsAutomaton, LiesOnWord, IsLayered, AreInLayer, ReadsWords, reached, equal}
-use Rattle.tm_auto.specs.Joined.{Follows, JoinedAfter, IsJoined, IsNotOwn, HasNoOwn, GoesOn, IsWhole}
+use Rattle.tm_auto.specs.Automata.{Automaton, AutoWord, IsViable, IsInLayer, IsAutomaton, LiesOnWord, IsLayered, ReadsWords, reached, equal}
+use Rattle.tm_auto.specs.Joined.{Follows, JoinedAfter, IsJoined, IsNotOwn, HasNoOwn, IsWhole}
 use Rattle.tm_auto.specs.Labels.{Takes, CanTake, Begins, Joins}
-use Rattle.tm_auto.specs.Paths.{Among, Leads, Reaches, IsPath}
-use Rattle.tm_auto.specs.Sets.{passes, next, reached_from, symbol_of, has_state, with_state}
+use Rattle.tm_auto.specs.Paths.{Among, Leads, IsPath}
 use Rattle.tm_auto.proofs.AmongLemmas.{some_among, none_among}
-use Rattle.tm_auto.proofs.SetLemmas.{bool_cases, same_at, has_to, to_has, with_state_to, with_state_has, with_state_keeps}
+use Rattle.tm_auto.proofs.SetLemmas.{same_at}
 use Rattle.tm_auto.proofs.JoinedLemmas.{joined_left}
 use Rattle.tm_auto.proofs.StepLemmas.{reached_to, to_reached}
 
@@ -219,10 +218,10 @@ module _ (auto : Automaton) (h : IsAutomaton auto) where
     last = λ k s p. (
       λ e. (let x = in_layer k 0 s p e in omega arith),
       λ e. (
-        let (d, r) = path_down (suc s) s (omega arith) (layer_below k s p) in
-        let x = in_layer k d s p r in
-        let z : d ≡ 0 = omega arith in
-        subst (λ (n : ℕ). IsPath auto.edges n s 0) z r),
+          let (d, r) = path_down (suc s) s (omega arith) (layer_below k s p) in
+          let x = in_layer k d s p r in
+          let z : d ≡ 0 = omega arith in
+          subst (λ (n : ℕ). IsPath auto.edges n s 0) z r),
     );
   }
 
@@ -239,16 +238,16 @@ module _ (auto : Automaton) (h : IsAutomaton auto) where
   viable_list : (A : ℕ → ℕ → Bool) (w : Word) → IsJoined w → HasNoOwn w → (reached A auto w ≢ []) ↔ IsViable (holds A) auto w
   viable_list A w j n = (
     λ ne. (
-      let (s, m) = some_among (reached A auto w) ne in
-      let (a, am, l) = reached_to A auto.edges auto.starts w s m in
-      let wide = leads_wider (holds A) (OrOwn (holds A)) (λ x t p. inl p) auto.edges w a s l in
-      let (v, k, jv) = goes_on (OrOwn (holds A)) (λ t. (own t, inr refl)) w a s am j wide in
-      (v, word_of (OrOwn (holds A)) (λ t. (own t, inr refl)) w v a s am wide k jv)),
+        let (s, m) = some_among (reached A auto w) ne in
+        let (a, am, l) = reached_to A auto.edges auto.starts w s m in
+        let wide = leads_wider (holds A) (OrOwn (holds A)) (λ x t p. inl p) auto.edges w a s l in
+        let (v, k, jv) = goes_on (OrOwn (holds A)) (λ t. (own t, inr refl)) w a s am j wide in
+        (v, word_of (OrOwn (holds A)) (λ t. (own t, inr refl)) w v a s am wide k jv)),
     λ (v, word) q. (
-      let r = word.reaches in
-      let (s, l, k) = leads_parts (OrOwn (holds A)) auto.edges w v r.state 0 r.spells in
-      let m = to_reached A auto.edges auto.starts w r.state s r.among (no_own A w r.state s n l) in
-      none_among (subst (λ (z : List ℕ). Among s z) q m)),
+        let r = word.reaches in
+        let (s, l, k) = leads_parts (OrOwn (holds A)) auto.edges w v r.state 0 r.spells in
+        let m = to_reached A auto.edges auto.starts w r.state s r.among (no_own A w r.state s n l) in
+        none_among (subst (λ (z : List ℕ). Among s z) q m)),
   )
 
   -- ---- under the test of equal references
@@ -269,16 +268,16 @@ module _ (auto : Automaton) (h : IsAutomaton auto) where
   source_list : (w : Word) → (reached equal auto w ≢ []) ↔ ((v : Word) × AutoWord (holds equal) auto (w ++ v))
   source_list w = (
     λ ne. (
-      let (s, m) = some_among (reached equal auto w) ne in
-      let (a, am, l) = reached_to equal auto.edges auto.starts w s m in
-      let full : (t : ℕ) → (x : ℕ) × holds equal x t = λ t. (t, eq-eqb t t refl) in
-      let (v, k, jv) = goes_on (holds equal) full w a s am (source_joined w a s am l) l in
-      (v, word_of (holds equal) full w v a s am l k jv)),
+        let (s, m) = some_among (reached equal auto w) ne in
+        let (a, am, l) = reached_to equal auto.edges auto.starts w s m in
+        let full : (t : ℕ) → (x : ℕ) × holds equal x t = λ t. (t, eq-eqb t t refl) in
+        let (v, k, jv) = goes_on (holds equal) full w a s am (source_joined w a s am l) l in
+        (v, word_of (holds equal) full w v a s am l k jv)),
     λ (v, word) q. (
-      let r = word.reaches in
-      let (s, l, k) = leads_parts (holds equal) auto.edges w v r.state 0 r.spells in
-      let m = to_reached equal auto.edges auto.starts w r.state s r.among l in
-      none_among (subst (λ (z : List ℕ). Among s z) q m)),
+        let r = word.reaches in
+        let (s, l, k) = leads_parts (holds equal) auto.edges w v r.state 0 r.spells in
+        let m = to_reached equal auto.edges auto.starts w r.state s r.among l in
+        none_among (subst (λ (z : List ℕ). Among s z) q m)),
   )
 
   -- ---- references stay whole

@@ -1,5 +1,5 @@
 -- What the builder made is an automaton of the tree.
-use Rattle.std.proofs.Common.{◌≡◌, ◌≢◌, ℕ, zero, suc, ◌<◌, ◌≤◌, inl, inr, ◌↔◌, Bool, true, false, List, [], ◌∷◌, ◌++◌, length, refl, sym, ap, ◌∙◌, subst, arith, append-nil}
+use Rattle.std.proofs.Common.{◌≡◌, ◌≢◌, ℕ, zero, suc, inl, inr, ◌↔◌, Bool, true, false, List, [], ◌∷◌, ◌++◌, length, refl, sym, ap, ◌∙◌, subst, arith, append-nil}
 use Rattle.std.specs.Prelude.{◌==◌}
 use Rattle.std.specs.List.Sorted.{IsStrictlyIncreasing}
 use Rattle.std.proofs.lemmas.Bool.{cases_lt}
@@ -9,10 +9,10 @@ use Rattle.tm_base.specs.Shapes.{HasNoPrivate, HasNoAlternatives, HasSize}
 use Rattle.tm_base.specs.Transmutes.{holds}
 use Rattle.tm_base.specs.Trees.{TreeWord}
 use Rattle.tm_auto.specs.declared.edge.Edge.{Edge}
-use Rattle.tm_auto.specs.Automata.{Automaton, AutoWord, IsInLayer, HasOneStateALayer, IsAutomaton}
-use Rattle.tm_auto.specs.Builds.{IsForward, HasAtMostOne, IsSound, IsReady}
+use Rattle.tm_auto.specs.Automata.{Automaton, AutoWord, HasOneStateALayer, IsAutomaton}
+use Rattle.tm_auto.specs.Builds.{IsForward, IsReady}
 use Rattle.tm_auto.specs.Loose.{LooseWord}
-use Rattle.tm_auto.specs.Paths.{Among, here, Leads, Reaches, IsPath}
+use Rattle.tm_auto.specs.Paths.{here, Leads, Reaches, IsPath}
 use Rattle.tm_auto.proofs.AmongLemmas.{some_among, none_among, only}
 use Rattle.tm_auto.proofs.CaseLemmas.{MakesTree}
 use Rattle.tm_auto.proofs.JoinedLemmas.{words_are}
@@ -69,9 +69,9 @@ none t size fs m g h = record {
   };
   words = λ A keep w. (
     λ x. (
-      let (j, loose) = (words_are (holds A) keep t g w).0 x in
-      let r = (h.grows A).back w [] loose (record { state = 0; among = here; spells = refl }) in
-      absurd (none_among r.among)),
+        let (j, loose) = (words_are (holds A) keep t g w).0 x in
+        let r = (h.grows A).back w [] loose (record { state = 0; among = here; spells = refl }) in
+        absurd (none_among r.among)),
     λ word. absurd (none_among word.reaches.among),
   );
   single = λ l k s t2 p q. absurd (none_among p.among);
@@ -107,12 +107,12 @@ some t size fs m starts g sized ne rising h = record {
     words : (A : ℕ → ℕ → Bool) (keep : Bool) (w : Word) → TreeWord (holds A) keep t w ↔ AutoWord (holds A) (record { states = m; edges = fs; starts = starts; size = size }) w
     words A keep w = (
       λ x. (
-        let (j, loose) = (words_are (holds A) keep t g w).0 x in
-        record { joined = j; reaches = subst (λ (z : Word). Reaches (holds A) fs starts z) (append-nil w) ((h.grows A).back w [] loose (record { state = 0; among = here; spells = refl })) }),
+          let (j, loose) = (words_are (holds A) keep t g w).0 x in
+          record { joined = j; reaches = subst (λ (z : Word). Reaches (holds A) fs starts z) (append-nil w) ((h.grows A).back w [] loose (record { state = 0; among = here; spells = refl })) }),
       λ word. (
-        let (u, v, e, x, r) = (h.grows A).forth w word.reaches in
-        let q : w ≡ u = e ∙ ap (λ z. u ++ z) (end_only (holds A) v r.state r.spells) ∙ append-nil u in
-        (words_are (holds A) keep t g w).1 (word.joined, subst (λ (z : Word). LooseWord (holds A) t z) (sym q) x)),
+          let (u, v, e, x, r) = (h.grows A).forth w word.reaches in
+          let q : w ≡ u = e ∙ ap (λ z. u ++ z) (end_only (holds A) v r.state r.spells) ∙ append-nil u in
+          (words_are (holds A) keep t g w).1 (word.joined, subst (λ (z : Word). LooseWord (holds A) t z) (sym q) x)),
     )
 
 pub built_some : (t : Tree) (size : ℕ) (es fs : List Edge) (m : ℕ) (targets starts : List ℕ) → es ≡ [] → targets ≡ 0 ∷ [] → starts ≢ [] → IsStrictlyIncreasing starts → HasNoPrivate t → HasSize size t → MakesTree t es fs 1 m targets starts → IsAutomatonOf t (record { states = m; edges = fs; starts = starts; size = size })

@@ -1,10 +1,8 @@
 -- What is built for each kind of tree.
-use Rattle.std.proofs.Common.{◌≡◌, ◌≢◌, ℕ, zero, suc, ◌+◌, ◌-◌, ◌*◌, ◌^◌, ◌<◌, ◌≤◌, Bool, true, false, IsTrue, List, [], ◌∷◌, ◌++◌, length, take, drop, get_or, refl, sym, ap, ◌∙◌, subst, arith, ◌↔◌, Result, Ok, Err, IfOk, OnOk, add-one, drop-cons, rules, inl, inr, ◌⊎◌}
+use Rattle.std.proofs.Common.{◌≡◌, ◌≢◌, ℕ, zero, suc, ◌+◌, ◌-◌, ◌*◌, ◌^◌, ◌<◌, ◌≤◌, Bool, true, false, IsTrue, List, [], ◌∷◌, ◌++◌, length, take, drop, get_or, refl, sym, ap, ◌∙◌, subst, arith, ◌↔◌, Result, Ok, Err, IfOk, OnOk, drop-cons, inl, inr, ◌⊎◌}
 use Rattle.std.specs.Prelude.{◌==◌}
-use Rattle.std.proofs.lemmas.List.{take_all}
-use Rattle.std.proofs.Math.Nat.{mul-le-mul_left}
 use Rattle.tm_base.specs.declared.memory.Memory.{Memory}
-use Rattle.tm_base.specs.declared.tree.Tree.{Tree, Never, Range, Pad, Ref, Seq, Alt, Repeat}
+use Rattle.tm_base.specs.declared.tree.Tree.{Tree, Never, Range, Ref, Seq, Alt, Repeat}
 use Rattle.tm_base.specs.declared.cell.RefId.{RefId}
 use Rattle.tm_base.specs.Cells.{Word, Times}
 use Rattle.tm_base.specs.Shapes.{leaves_of, all_leaves, HasNoPrivate, NonePrivate, HasNoAlternatives, NoneAlternative}
@@ -15,13 +13,12 @@ use Rattle.tm_auto.specs.declared.edge.Label.TheVariants.{Bytes}
 use Rattle.tm_auto.specs.Builds.{edges_to, IsSound, IsReady, MayFollow, MakesBy, Makes, IsPut, IsSettled}
 use Rattle.tm_auto.specs.Labels.{CanTake, Begins}
 use Rattle.tm_auto.specs.Loose.{LooseWord, LooseBytes, LooseInTurn, LooseOneOf, LooseOneWhere}
-use Rattle.tm_auto.specs.Paths.{Among}
 use Rattle.tm_auto.specs.Sets.{with_states}
 use Rattle.tm_auto.specs.Shapes.{nodes_of, all_nodes, leaves_where, is_cell, is_no_cell}
 use Rattle.tm_auto.proofs.AmongLemmas.{with_states_to, with_states_keeps, with_states_has}
 use Rattle.tm_auto.proofs.CellLemmas.{IsCell, range_cell, take_one, leaves_where-add, leaves_where-skip, leaves_where-take}
 use Rattle.tm_auto.proofs.LooseLemmas.{LooseWord-Seq, LooseWord-Alt, LooseWord-Repeat, LooseWord-Ref, LooseWord-Never, LooseWord-Range, LooseOneWhere-more, LooseOneWhere-skip, LooseOneOf-both}
-use Rattle.tm_auto.proofs.MakeLemmas.{Both, Either, makes_as, makes_none, makes_nowhere, makes_empty, makes_leaf, makes_both, makes_either, begins_joins, ready_after, ready_still}
+use Rattle.tm_auto.proofs.MakeLemmas.{Either, makes_as, makes_none, makes_nowhere, makes_empty, makes_leaf, makes_both, makes_either, begins_joins}
 use Rattle.tm_auto.proofs.SetLemmas.{same_at}
 use Rattle.tm_base.proofs.ShapeLemmas.{leaves_of-Seq, leaves_of-Alt, leaves_of-Repeat, HasNoAlternatives-Seq, HasNoAlternatives-Alt, HasNoAlternatives-Repeat}
 use Rattle.tm_auto.proofs.ShapeLemmas.{leaves_where-both}
@@ -189,8 +186,8 @@ pub members_skip : (ts first : List Tree) (t : Tree) (es fs : List Edge) (n m : 
 members_skip ts first t es fs n m targets starts e h =
     let x = leaves_where-skip is_no_cell first t (is_one t e) in
     makes_as (omega arith) (λ l. l) (λ A w.
-        let (a, b) = LooseOneWhere-skip (holds A) is_no_cell first t (is_one t e) w in
-        (λ k. elim k [ inl y ↦ inl y | inr y ↦ inr (b y) ], λ k. elim k [ inl y ↦ inl y | inr y ↦ inr (a y) ])) h
+    let (a, b) = LooseOneWhere-skip (holds A) is_no_cell first t (is_one t e) w in
+    (λ k. elim k [ inl y ↦ inl y | inr y ↦ inr (b y) ], λ k. elim k [ inl y ↦ inl y | inr y ↦ inr (a y) ])) h
 
 pub members_more : (ts first : List Tree) (t : Tree) (es fs gs : List Edge) (n m k : ℕ) (targets starts more all : List ℕ) → is_cell t ≡ false → IsReady es n targets → all ≡ with_states more starts
     → MakesMembers ts first es fs n m targets starts → MakesTree t fs gs m k targets more → MakesMembers ts (first ++ t ∷ []) es gs n k targets all
@@ -198,8 +195,8 @@ members_more ts first t es fs gs n m k targets starts more all e r ea h p =
     let x = leaves_where-add is_no_cell first t (no_cell t e) in
     let both = makes_either _ _ _ _ _ _ es fs gs n m k targets starts more (with_states more starts) r (λ s a. with_states_to more starts s a) (λ s a. with_states_keeps more starts s a) (λ s a. with_states_has more starts s a) h p in
     let made : MakesMembers ts (first ++ t ∷ []) es gs n k targets (with_states more starts) = makes_as (omega arith) (λ l. l) (λ A w.
-        let (a, b) = LooseOneWhere-more (holds A) is_no_cell first t (no_cell t e) w in
-        (λ k. elim k [ inl y ↦ elim y [ inl z ↦ inl z | inr z ↦ inr (b (inl z)) ] | inr y ↦ inr (b (inr y)) ], λ k. elim k [ inl y ↦ inl (inl y) | inr y ↦ elim (a y) [ inl z ↦ inl (inr z) | inr z ↦ inr z ] ])) both in
+    let (a, b) = LooseOneWhere-more (holds A) is_no_cell first t (no_cell t e) w in
+    (λ k. elim k [ inl y ↦ elim y [ inl z ↦ inl z | inr z ↦ inr (b (inl z)) ] | inr y ↦ inr (b (inr y)) ], λ k. elim k [ inl y ↦ inl (inl y) | inr y ↦ elim (a y) [ inl z ↦ inl (inr z) | inr z ↦ inr z ] ])) both in
     rw ea made
 
 pub members_all : (ts : List Tree) (es fs : List Edge) (n m : ℕ) (targets starts : List ℕ) → ts ≢ [] → MakesMembers ts ts es fs n m targets starts → Makes (ts ≡ []) (all_leaves ts) (λ A. LooseOneOf (holds A) ts) es fs n m targets starts

@@ -1,6 +1,6 @@
 -- What a set of states has once a state is put in, and that a set is told by its states.
-use Rattle.std.proofs.Common.{◌≡◌, ◌≢◌, ℕ, zero, suc, ◌+◌, ◌<◌, ◌≤◌, ◌⊎◌, inl, inr, ◌↔◌, Bool, true, false, cond, nat_lt, List, [], ◌∷◌, ◌++◌, length, take, drop, refl, sym, ap, subst, arith, eq-eqb, add-one, get_or}
-use Rattle.std.specs.Prelude.{◌==◌, IsTrue}
+use Rattle.std.proofs.Common.{◌≡◌, ◌≢◌, ℕ, zero, suc, ◌<◌, ◌≤◌, ◌⊎◌, inl, inr, Bool, true, false, nat_lt, List, [], ◌∷◌, length, refl, sym, ap, subst, arith, eq-eqb, add-one, get_or}
+use Rattle.std.specs.Prelude.{◌==◌}
 use Rattle.std.specs.List.{insert, slice_index_or, AllWithin}
 use Rattle.std.specs.List.Sorted.{IsStrictlyIncreasing, IsPartitionedBy}
 use Rattle.std.proofs.lemmas.Bool.{cases_lt, ne_eqb}
@@ -134,8 +134,8 @@ rises_same (x ∷ xs) [] p q to from = let n : Among x [] = to x here in elim n 
 rises_same (x ∷ xs) (y ∷ ys) p q to from =
     let e : x ≡ y = head x y xs ys p q (to x here) (from y here) in
     let rest : xs ≡ ys = rises_same xs ys (tail_rises x xs p) (tail_rises y ys q)
-        (λ t a. later y ys t (let l = above_all x xs p t a in omega arith) (to t (there a)))
-        (λ t a. later x xs t (let l = above_all y ys q t a in omega arith) (from t (there a))) in
+    (λ t a. later y ys t (let l = above_all x xs p t a in omega arith) (to t (there a)))
+    (λ t a. later x xs t (let l = above_all y ys q t a in omega arith) (from t (there a))) in
     rw (e, rest) refl
   where
     later : (y : ℕ) (ys : List ℕ) (t : ℕ) → y < t → Among t (y ∷ ys) → Among t ys

@@ -23,12 +23,7 @@ pub(crate) struct Building {
 }
 
 // An edge from the state to each target.
-fn connect(
-    edges: &mut Vec<Edge>,
-    from: u32,
-    label: Label,
-    targets: &[u32],
-) -> Result<(), Memory>
+fn connect(edges: &mut Vec<Edge>, from: u32, label: Label, targets: &[u32]) -> Result<(), Memory>
     ensures { OnOk result (edges.new.items ≡ edges.old.items ++ edges_to from label targets.now) }
 {
     for target in targets {
@@ -114,6 +109,7 @@ fn grow_ref(
     Ok(starts)
 }
 
+/// Puts a tree in front of the targets, and answers the states at which its words begin.
 #[cycle(grow)]
 pub(crate) fn grow(
     alloc: Global,
@@ -144,6 +140,7 @@ pub(crate) fn grow(
     }
 }
 
+// One tree after another, the last one first.
 #[cycle(grow)]
 fn grow_seq(
     alloc: Global,
@@ -168,6 +165,7 @@ fn grow_seq(
     Ok(starts)
 }
 
+// A tree so many times, the last turn first.
 #[cycle(grow)]
 fn grow_times(
     alloc: Global,
@@ -222,6 +220,7 @@ fn grow_alt(
     Ok(starts)
 }
 
+// Its trees of one cell.
 fn grow_cells(
     alloc: Global,
     b: &mut Building,

@@ -92,13 +92,47 @@ fn reads_bytes(rt: HostRuntime) -> Result<(), Fail> {
     assert_eq!(rt; count_after(rt.alloc(), &auto, &Equal, &[])?, 1);
     assert_eq!(rt; count_after(rt.alloc(), &auto, &Equal, &[byte(2)])?, 2);
     assert_eq!(rt; count_after(rt.alloc(), &auto, &Equal, &[byte(1)])?, 0);
-    assert_eq!(rt; count_after(rt.alloc(), &auto, &Equal, &[Symbol::Bytes(0, 2)])?, 0);
-    assert_eq!(rt; count_after(rt.alloc(), &auto, &Equal, &[Symbol::Uninit])?, 0);
-    assert_eq!(rt; count_after(rt.alloc(), &auto, &Equal, &[byte(0), byte(3), byte(1)])?, 3);
+    assert_eq!(rt;
+        count_after(rt.alloc(), &auto, &Equal, &[Symbol::Bytes(0, 2)])?,
+        0
+    );
+    assert_eq!(rt;
+        count_after(rt.alloc(), &auto, &Equal, &[Symbol::Uninit])?,
+        0
+    );
+    assert_eq!(rt;
+        count_after(rt.alloc(), &auto, &Equal, &[byte(0), byte(3), byte(1)])?,
+        3
+    );
     let any = Symbol::Bytes(0, 255);
-    let word = [byte(0), byte(1), byte(3), any, any, any, any, any, any, any, any];
+    let word = [
+        byte(0),
+        byte(1),
+        byte(3),
+        any,
+        any,
+        any,
+        any,
+        any,
+        any,
+        any,
+        any,
+    ];
     assert_eq!(rt; count_after(rt.alloc(), &auto, &Equal, &word)?, 1);
-    let longer = [byte(0), byte(1), byte(3), any, any, any, any, any, any, any, any, any];
+    let longer = [
+        byte(0),
+        byte(1),
+        byte(3),
+        any,
+        any,
+        any,
+        any,
+        any,
+        any,
+        any,
+        any,
+        any,
+    ];
     assert_eq!(rt; count_after(rt.alloc(), &auto, &Equal, &longer)?, 0);
     Ok(())
 }
@@ -121,7 +155,12 @@ fn reads_references(rt: HostRuntime) -> Result<(), Fail> {
 
 // 256 times one of three bytes: the three share a state.
 fn shared(alloc: Global) -> Result<Auto, Memory> {
-    let bytes = three(alloc, Tree::Range(0, 0), Tree::Range(2, 2), Tree::Range(4, 4))?;
+    let bytes = three(
+        alloc,
+        Tree::Range(0, 0),
+        Tree::Range(2, 2),
+        Tree::Range(4, 4),
+    )?;
     let turn = Boxed::new(alloc, Tree::Alt(bytes))?;
     Auto::build(alloc, &Tree::Repeat(256, turn), 256)
 }

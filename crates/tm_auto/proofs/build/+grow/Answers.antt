@@ -1,14 +1,13 @@
-use Rattle.std.proofs.Common.{◌≡◌, ◌≢◌, ℕ, ◌+◌, ◌-◌, ◌<◌, ◌≤◌, ◌++◌, ◌∷◌, [], List, arith, rules, true, false, sym, subst, ap, ◌∙◌, refl, length, take, drop, get_or, Some, None, is_some}
+use Rattle.std.proofs.Common.{◌≡◌, ℕ, ◌+◌, ◌-◌, ◌<◌, ◌≤◌, ◌++◌, ◌∷◌, [], List, arith, rules, sym, subst, ap, ◌∙◌, refl, length, take, drop, Some, None, is_some}
 use Rattle.std.proofs.lemmas.List.{take_all}
 use Rattle.std.proofs.Math.Seq.{drop-length}
 use Rattle.tm_base.specs.declared.tree.Tree.{Tree, Alt}
 use Rattle.tm_base.specs.Shapes.{leaves_of, all_leaves, HasNoPrivate, NonePrivate}
 use Rattle.tm_auto.specs.declared.edge.Label.TheVariants as label
-use Rattle.tm_auto.specs.Builds.{IsReady}
-use Rattle.tm_auto.specs.Shapes.{nodes_of, all_nodes, cell_of, is_cell}
+use Rattle.tm_auto.specs.Shapes.{nodes_of, all_nodes, cell_of}
 use Rattle.tm_auto.proofs.CaseLemmas as cases
-use Rattle.tm_auto.proofs.CellLemmas.{range_cell, pad_cell, take_one, no_label}
-use Rattle.tm_auto.proofs.MakeLemmas.{makes_empty, makes_as, ready_after, ready_still}
+use Rattle.tm_auto.proofs.CellLemmas.{pad_cell, take_one, no_label}
+use Rattle.tm_auto.proofs.MakeLemmas.{ready_after, ready_still}
 use Rattle.tm_base.proofs.ShapeLemmas as tree
 use Rattle.tm_auto.proofs.ShapeLemmas as shape
 use Rattle.tm_auto.proofs.build.+grow.Goals as goal
@@ -76,7 +75,7 @@ pub grow-returns-in-Pad : goal.grow-returns-in-Pad
 grow-returns-in-Pad t c =
     let some = cases.not_empty _ _ c.is_empty.ensures c.if-is_empty.false in
     cases.put_into c.put.result label.Free _ _ _ _ _ _ c.put.ensures.edges c.put.ensures.states c.put.ensures.start (λ s put.
-        rw c.in-Pad.is (cases.tree_cell _ _ _ _ _ _ _ s pad_cell tt some c.requires.ready put))
+    rw c.in-Pad.is (cases.tree_cell _ _ _ _ _ _ _ s pad_cell tt some c.requires.ready put))
 
 pub grow-returns-in-Ref : goal.grow-returns-in-Ref
 unfolding leaves_of
@@ -122,14 +121,14 @@ grow_alt-loop-tree-preserved t c =
     let more = take_one c.args.trees.now c.loop-tree.tree-index c.tree-item.result c.loop-tree-test.true c.tree-item.is in
     let before = take c.loop-tree.tree-index c.args.trees.now in
     let made : cases.MakesMembers c.args.trees.now (before ++ c.tree-item.result ∷ []) c.args.b.now.edges.items c.match-label_of.b.edges.items c.args.b.now.states c.match-label_of.b.states c.args.targets.now c.match-label_of.starts =
-        elim c.match-label_of.branch [
-          | grow_alt-in-Some w ↦ (
-              let same : cell_of c.tree-item.result ≡ Some w.in-Some.field-0 = sym c.label_of.ensures.label ∙ w.in-Some.is in
-              rw (w.b-is, w.starts-is) (cases.members_skip c.args.trees.now before c.tree-item.result _ _ _ _ _ _ (ap is_some same) c.loop-tree.invariant))
-          | grow_alt-in-None+in_ok-more-in-None+in_ok-insert_all-in-None w ↦ (
-              let none : cell_of c.tree-item.result ≡ None = sym c.label_of.ensures.label ∙ w.in-None.is in
-              rw (w.b-is, w.starts-is) (cases.members_more c.args.trees.now before c.tree-item.result _ _ _ _ _ _ _ _ _ _ (no_label c.tree-item.result none) c.requires.ready w.in_ok-insert_all-in-None.ensures c.loop-tree.invariant w.in_ok-more-in-None.ensures))
-        ] in
+    elim c.match-label_of.branch [
+      | grow_alt-in-Some w ↦ (
+          let same : cell_of c.tree-item.result ≡ Some w.in-Some.field-0 = sym c.label_of.ensures.label ∙ w.in-Some.is in
+          rw (w.b-is, w.starts-is) (cases.members_skip c.args.trees.now before c.tree-item.result _ _ _ _ _ _ (ap is_some same) c.loop-tree.invariant))
+      | grow_alt-in-None+in_ok-more-in-None+in_ok-insert_all-in-None w ↦ (
+          let none : cell_of c.tree-item.result ≡ None = sym c.label_of.ensures.label ∙ w.in-None.is in
+          rw (w.b-is, w.starts-is) (cases.members_more c.args.trees.now before c.tree-item.result _ _ _ _ _ _ _ _ _ _ (no_label c.tree-item.result none) c.requires.ready w.in_ok-insert_all-in-None.ensures c.loop-tree.invariant w.in_ok-more-in-None.ensures))
+    ] in
     subst (λ (ts : List Tree). cases.MakesMembers c.args.trees.now ts c.args.b.now.edges.items c.match-label_of.b.edges.items c.args.b.now.states c.match-label_of.b.states c.args.targets.now c.match-label_of.starts) (sym more) made
 
 pub grow_alt-returns : goal.grow_alt-returns

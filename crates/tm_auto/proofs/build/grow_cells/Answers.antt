@@ -1,4 +1,4 @@
-use Rattle.std.proofs.Common.{◌≡◌, ℕ, arith, sym, subst, ◌∙◌, ◌++◌, ◌∷◌, [], take, length, Some, None, List}
+use Rattle.std.proofs.Common.{◌≡◌, sym, subst, ◌∙◌, ◌++◌, ◌∷◌, [], take, Some, None, List}
 use Rattle.std.proofs.lemmas.List.{take_all}
 use Rattle.tm_base.specs.declared.tree.Tree.{Tree}
 use Rattle.tm_auto.specs.Shapes.{cell_of}
@@ -22,15 +22,15 @@ loop-tree-preserved c =
     let more = take_one c.args.trees.now c.loop-tree.tree-index c.tree-item.result c.loop-tree-test.true c.tree-item.is in
     let before = take c.loop-tree.tree-index c.args.trees.now in
     let made : IsCellsMade (before ++ c.tree-item.result ∷ []) c.args.b.now.edges.items c.match-label_of.b.edges.items c.args.b.now.states c.match-label_of.b.states c.args.targets.now c.match-label_of.starts =
-        elim c.match-label_of.branch [
-          | in-Some+in_ok-starts-in-Some w ↦ (
-              let same : cell_of c.tree-item.result ≡ Some w.in-Some.label = sym c.label_of.ensures.label ∙ w.in-Some.is in
-              let made = cells_more before c.tree-item.result w.in-Some.label _ _ _ _ _ _ _ _ _ c.requires.ready c.requires.some same w.in-Some.ensures.can w.in_ok-starts-in-Some.ensures.put w.in_ok-starts-in-Some.ensures.shared c.loop-tree.invariant in
-              rw (w.b-is, w.starts-is) made)
-          | in-None w ↦ (
-              let none : cell_of c.tree-item.result ≡ None = sym c.label_of.ensures.label ∙ w.in-None.is in
-              rw (w.b-is, w.starts-is) (cells_skip before c.tree-item.result _ _ _ _ _ _ (no_label c.tree-item.result none) c.loop-tree.invariant))
-        ] in
+    elim c.match-label_of.branch [
+      | in-Some+in_ok-starts-in-Some w ↦ (
+          let same : cell_of c.tree-item.result ≡ Some w.in-Some.label = sym c.label_of.ensures.label ∙ w.in-Some.is in
+          let made = cells_more before c.tree-item.result w.in-Some.label _ _ _ _ _ _ _ _ _ c.requires.ready c.requires.some same w.in-Some.ensures.can w.in_ok-starts-in-Some.ensures.put w.in_ok-starts-in-Some.ensures.shared c.loop-tree.invariant in
+          rw (w.b-is, w.starts-is) made)
+      | in-None w ↦ (
+          let none : cell_of c.tree-item.result ≡ None = sym c.label_of.ensures.label ∙ w.in-None.is in
+          rw (w.b-is, w.starts-is) (cells_skip before c.tree-item.result _ _ _ _ _ _ (no_label c.tree-item.result none) c.loop-tree.invariant))
+    ] in
     subst (λ (ts : List Tree). IsCellsMade ts c.args.b.now.edges.items c.match-label_of.b.edges.items c.args.b.now.states c.match-label_of.b.states c.args.targets.now c.match-label_of.starts) (sym more) made
 
 pub returns : goal.returns
