@@ -1,22 +1,21 @@
 -- What follows from the facts of an automaton: where its paths lead, and which lists are viable.
-use Rattle.std.proofs.Common.{◌≡◌, ◌≢◌, ℕ, zero, suc, ◌+◌, ◌^◌, ◌<◌, ◌≤◌, ◌⊎◌, inl, inr, ◌↔◌, Bool, true, false, ◌&&◌, nat_le, nat_lt, IsTrue, List, [], ◌∷◌, ◌++◌, length, refl, sym, ap, ◌∙◌, subst, arith, append_assoc, append-nil, length-append, eq-eqb}
+use Rattle.std.proofs.Common.{◌≡◌, ◌≢◌, ℕ, zero, suc, ◌+◌, ◌^◌, ◌<◌, ◌≤◌, inl, inr, ◌↔◌, Bool, true, List, [], ◌∷◌, ◌++◌, length, refl, sym, ap, ◌∙◌, subst, arith, append_assoc, length-append, eq-eqb}
 use Rattle.std.specs.Prelude.{◌==◌, ◌||◌}
-use Rattle.std.proofs.lemmas.Bool.{cases_lt, and_from, or_left, or_right}
+use Rattle.std.proofs.lemmas.Bool.{cases_lt, or_left, or_right}
 use Rattle.tm_base.specs.declared.cell.Cell.{Cell}
 use Rattle.tm_base.specs.declared.cell.Cell.TheVariants.{Byte, Uninit, Ptr}
 use Rattle.tm_base.specs.declared.cell.RefId.{RefId}
-use Rattle.tm_base.specs.Cells.{Word, IsFree, OrOwn, own}
+use Rattle.tm_base.specs.Cells.{Word, OrOwn, own}
 use Rattle.tm_base.specs.Transmutes.{holds}
 use Rattle.tm_auto.specs.declared.edge.Edge.{Edge}
 use Rattle.tm_auto.specs.declared.edge.Label.{Label}
 use Rattle.tm_auto.specs.declared.edge.Label.TheVariants.{Bytes, Free, Leaf}
-use Rattle.tm_auto.specs.Automata.{Automaton, AutoWord, IsViable, IsInLayer, IsAutomaton, LiesOnWord, IsLayered, AreInLayer, ReadsWords, reached, equal}
-use Rattle.tm_auto.specs.Joined.{Follows, JoinedAfter, IsJoined, IsNotOwn, HasNoOwn, GoesOn, IsWhole}
+use Rattle.tm_auto.specs.Automata.{Automaton, AutoWord, IsViable, IsInLayer, IsAutomaton, LiesOnWord, IsLayered, ReadsWords, reached, equal}
+use Rattle.tm_auto.specs.Joined.{Follows, JoinedAfter, IsJoined, IsNotOwn, HasNoOwn, IsWhole}
 use Rattle.tm_auto.specs.Labels.{Takes, CanTake, Begins, Joins}
-use Rattle.tm_auto.specs.Paths.{Among, Leads, Reaches, IsPath}
-use Rattle.tm_auto.specs.Sets.{passes, next, reached_from, symbol_of, has_state, with_state}
+use Rattle.tm_auto.specs.Paths.{Among, Leads, IsPath}
 use Rattle.tm_auto.proofs.AmongLemmas.{some_among, none_among}
-use Rattle.tm_auto.proofs.SetLemmas.{bool_cases, same_at, has_to, to_has, with_state_to, with_state_has, with_state_keeps}
+use Rattle.tm_auto.proofs.SetLemmas.{same_at}
 use Rattle.tm_auto.proofs.JoinedLemmas.{joined_left}
 use Rattle.tm_auto.proofs.StepLemmas.{reached_to, to_reached}
 

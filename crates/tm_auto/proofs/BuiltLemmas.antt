@@ -1,5 +1,5 @@
 -- What the builder made is an automaton of the tree.
-use Rattle.std.proofs.Common.{◌≡◌, ◌≢◌, ℕ, zero, suc, ◌<◌, ◌≤◌, inl, inr, ◌↔◌, Bool, true, false, List, [], ◌∷◌, ◌++◌, length, refl, sym, ap, ◌∙◌, subst, arith, append-nil}
+use Rattle.std.proofs.Common.{◌≡◌, ◌≢◌, ℕ, zero, suc, inl, inr, ◌↔◌, Bool, true, false, List, [], ◌∷◌, ◌++◌, length, refl, sym, ap, ◌∙◌, subst, arith, append-nil}
 use Rattle.std.specs.Prelude.{◌==◌}
 use Rattle.std.specs.List.Sorted.{IsStrictlyIncreasing}
 use Rattle.std.proofs.lemmas.Bool.{cases_lt}
@@ -9,10 +9,10 @@ use Rattle.tm_base.specs.Shapes.{HasNoPrivate, HasNoAlternatives, HasSize}
 use Rattle.tm_base.specs.Transmutes.{holds}
 use Rattle.tm_base.specs.Trees.{TreeWord}
 use Rattle.tm_auto.specs.declared.edge.Edge.{Edge}
-use Rattle.tm_auto.specs.Automata.{Automaton, AutoWord, IsInLayer, HasOneStateALayer, IsAutomaton}
-use Rattle.tm_auto.specs.Builds.{IsForward, HasAtMostOne, IsSound, IsReady}
+use Rattle.tm_auto.specs.Automata.{Automaton, AutoWord, HasOneStateALayer, IsAutomaton}
+use Rattle.tm_auto.specs.Builds.{IsForward, IsReady}
 use Rattle.tm_auto.specs.Loose.{LooseWord}
-use Rattle.tm_auto.specs.Paths.{Among, here, Leads, Reaches, IsPath}
+use Rattle.tm_auto.specs.Paths.{here, Leads, Reaches, IsPath}
 use Rattle.tm_auto.proofs.AmongLemmas.{some_among, none_among, only}
 use Rattle.tm_auto.proofs.CaseLemmas.{MakesTree}
 use Rattle.tm_auto.proofs.JoinedLemmas.{words_are}

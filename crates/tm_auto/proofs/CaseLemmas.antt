@@ -1,10 +1,8 @@
 -- What is built for each kind of tree.
-use Rattle.std.proofs.Common.{◌≡◌, ◌≢◌, ℕ, zero, suc, ◌+◌, ◌-◌, ◌*◌, ◌^◌, ◌<◌, ◌≤◌, Bool, true, false, IsTrue, List, [], ◌∷◌, ◌++◌, length, take, drop, get_or, refl, sym, ap, ◌∙◌, subst, arith, ◌↔◌, Result, Ok, Err, IfOk, OnOk, add-one, drop-cons, rules, inl, inr, ◌⊎◌}
+use Rattle.std.proofs.Common.{◌≡◌, ◌≢◌, ℕ, zero, suc, ◌+◌, ◌-◌, ◌*◌, ◌^◌, ◌<◌, ◌≤◌, Bool, true, false, IsTrue, List, [], ◌∷◌, ◌++◌, length, take, drop, get_or, refl, sym, ap, ◌∙◌, subst, arith, ◌↔◌, Result, Ok, Err, IfOk, OnOk, drop-cons, inl, inr, ◌⊎◌}
 use Rattle.std.specs.Prelude.{◌==◌}
-use Rattle.std.proofs.lemmas.List.{take_all}
-use Rattle.std.proofs.Math.Nat.{mul-le-mul_left}
 use Rattle.tm_base.specs.declared.memory.Memory.{Memory}
-use Rattle.tm_base.specs.declared.tree.Tree.{Tree, Never, Range, Pad, Ref, Seq, Alt, Repeat}
+use Rattle.tm_base.specs.declared.tree.Tree.{Tree, Never, Range, Ref, Seq, Alt, Repeat}
 use Rattle.tm_base.specs.declared.cell.RefId.{RefId}
 use Rattle.tm_base.specs.Cells.{Word, Times}
 use Rattle.tm_base.specs.Shapes.{leaves_of, all_leaves, HasNoPrivate, NonePrivate, HasNoAlternatives, NoneAlternative}
@@ -15,13 +13,12 @@ use Rattle.tm_auto.specs.declared.edge.Label.TheVariants.{Bytes}
 use Rattle.tm_auto.specs.Builds.{edges_to, IsSound, IsReady, MayFollow, MakesBy, Makes, IsPut, IsSettled}
 use Rattle.tm_auto.specs.Labels.{CanTake, Begins}
 use Rattle.tm_auto.specs.Loose.{LooseWord, LooseBytes, LooseInTurn, LooseOneOf, LooseOneWhere}
-use Rattle.tm_auto.specs.Paths.{Among}
 use Rattle.tm_auto.specs.Sets.{with_states}
 use Rattle.tm_auto.specs.Shapes.{nodes_of, all_nodes, leaves_where, is_cell, is_no_cell}
 use Rattle.tm_auto.proofs.AmongLemmas.{with_states_to, with_states_keeps, with_states_has}
 use Rattle.tm_auto.proofs.CellLemmas.{IsCell, range_cell, take_one, leaves_where-add, leaves_where-skip, leaves_where-take}
 use Rattle.tm_auto.proofs.LooseLemmas.{LooseWord-Seq, LooseWord-Alt, LooseWord-Repeat, LooseWord-Ref, LooseWord-Never, LooseWord-Range, LooseOneWhere-more, LooseOneWhere-skip, LooseOneOf-both}
-use Rattle.tm_auto.proofs.MakeLemmas.{Both, Either, makes_as, makes_none, makes_nowhere, makes_empty, makes_leaf, makes_both, makes_either, begins_joins, ready_after, ready_still}
+use Rattle.tm_auto.proofs.MakeLemmas.{Either, makes_as, makes_none, makes_nowhere, makes_empty, makes_leaf, makes_both, makes_either, begins_joins}
 use Rattle.tm_auto.proofs.SetLemmas.{same_at}
 use Rattle.tm_base.proofs.ShapeLemmas.{leaves_of-Seq, leaves_of-Alt, leaves_of-Repeat, HasNoAlternatives-Seq, HasNoAlternatives-Alt, HasNoAlternatives-Repeat}
 use Rattle.tm_auto.proofs.ShapeLemmas.{leaves_where-both}

@@ -1,9 +1,8 @@
 -- Trees of one cell, which share a state.
-use Rattle.std.proofs.Common.{◌≡◌, ◌≢◌, ℕ, zero, suc, ◌+◌, ◌-◌, ◌^◌, ◌<◌, ◌≤◌, ◌⊎◌, inl, inr, Bool, true, false, cond, nat_le, List, [], ◌∷◌, ◌++◌, length, take, get_or, refl, sym, ap, ◌∙◌, subst, arith, ◌↔◌, ⊎_elim, Option, Some, None, is_some, add-one}
+use Rattle.std.proofs.Common.{◌≡◌, ◌≢◌, ℕ, zero, suc, ◌+◌, ◌-◌, ◌^◌, ◌<◌, ◌≤◌, ◌⊎◌, inl, inr, Bool, true, false, cond, nat_le, List, [], ◌∷◌, ◌++◌, length, take, get_or, refl, sym, ap, ◌∙◌, subst, arith, ◌↔◌, ⊎_elim, Some, None, is_some, add-one}
 use Rattle.std.proofs.Math.Seq.{take-suc}
-use Rattle.tm_base.specs.declared.cell.Cell.{Cell}
 use Rattle.tm_base.specs.declared.cell.Cell.TheVariants.{Byte}
-use Rattle.tm_base.specs.declared.tree.Tree.{Tree, Row_of-Tree, Never, Range, Pad, Ref, Seq', Alt', Repeat', Private'}
+use Rattle.tm_base.specs.declared.tree.Tree.{Tree, Never, Range, Pad, Ref, Seq', Alt', Repeat', Private'}
 use Rattle.tm_base.specs.Cells.{Word}
 use Rattle.tm_base.specs.Shapes.{leaves_of}
 use Rattle.tm_base.specs.Transmutes.{holds}
@@ -13,12 +12,10 @@ use Rattle.tm_auto.specs.declared.edge.Label.TheVariants.{Bytes, Free}
 use Rattle.tm_auto.specs.Builds.{edges_to, IsReady, Makes, IsPut, IsShared}
 use Rattle.tm_auto.specs.Labels.{CanTake, Begins}
 use Rattle.tm_auto.specs.Loose.{LooseWord, LooseOneWhere}
-use Rattle.tm_auto.specs.Paths.{Among}
 use Rattle.tm_auto.specs.Shapes.{cell_of, is_cell, leaves_where}
 use Rattle.tm_auto.proofs.AmongLemmas.{none_among}
-use Rattle.tm_auto.proofs.SetLemmas.{bool_cases}
 use Rattle.tm_auto.proofs.LooseLemmas.{LooseWord-Range, LooseWord-Pad, LooseOneWhere-more, LooseOneWhere-skip}
-use Rattle.tm_auto.proofs.MakeLemmas.{Either, CellWords, makes_as, makes_still, makes_none, makes_leaf, makes_shared, makes_either, begins_joins}
+use Rattle.tm_auto.proofs.MakeLemmas.{Either, CellWords, makes_as, makes_none, makes_leaf, makes_shared, makes_either, begins_joins}
 
 -- what is made for the trees of one cell: nothing yet, or one state
 abbrev pub IsCellsMade : List Tree → List Edge → List Edge → ℕ → ℕ → List ℕ → List ℕ → Type 0

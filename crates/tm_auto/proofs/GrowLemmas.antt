@@ -1,12 +1,12 @@
 -- What paths spell once edges are put in front of states, case by case.
-use Rattle.std.proofs.Common.{◌≡◌, ℕ, ◌+◌, ◌<◌, ◌⊎◌, inl, inr, List, [], ◌∷◌, ◌++◌, refl, sym, ap, ◌∙◌, subst, arith, append_assoc}
+use Rattle.std.proofs.Common.{◌≡◌, ℕ, ◌<◌, ◌⊎◌, inl, inr, List, [], ◌∷◌, ◌++◌, refl, sym, ap, ◌∙◌, subst, arith, append_assoc}
 use Rattle.tm_base.specs.declared.cell.Cell.{Cell}
 use Rattle.tm_base.specs.Cells.{Word}
 use Rattle.tm_auto.specs.declared.edge.Edge.{Edge}
 use Rattle.tm_auto.specs.declared.edge.Label.{Label}
 use Rattle.tm_auto.specs.Builds.{edges_to, Below, IsSound, Grows}
 use Rattle.tm_auto.specs.Labels.{Takes}
-use Rattle.tm_auto.specs.Paths.{Among, here, there, Leads, Reaches}
+use Rattle.tm_auto.specs.Paths.{Among, here, Leads, Reaches}
 use Rattle.tm_auto.proofs.AmongLemmas.{among_left, among_right, among_either, among_edges, edges_among, none_among, only}
 
 -- the edges are kept

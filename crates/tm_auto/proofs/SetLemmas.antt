@@ -1,6 +1,6 @@
 -- What a set of states has once a state is put in, and that a set is told by its states.
-use Rattle.std.proofs.Common.{◌≡◌, ◌≢◌, ℕ, zero, suc, ◌+◌, ◌<◌, ◌≤◌, ◌⊎◌, inl, inr, ◌↔◌, Bool, true, false, cond, nat_lt, List, [], ◌∷◌, ◌++◌, length, take, drop, refl, sym, ap, subst, arith, eq-eqb, add-one, get_or}
-use Rattle.std.specs.Prelude.{◌==◌, IsTrue}
+use Rattle.std.proofs.Common.{◌≡◌, ◌≢◌, ℕ, zero, suc, ◌<◌, ◌≤◌, ◌⊎◌, inl, inr, Bool, true, false, nat_lt, List, [], ◌∷◌, length, refl, sym, ap, subst, arith, eq-eqb, add-one, get_or}
+use Rattle.std.specs.Prelude.{◌==◌}
 use Rattle.std.specs.List.{insert, slice_index_or, AllWithin}
 use Rattle.std.specs.List.Sorted.{IsStrictlyIncreasing, IsPartitionedBy}
 use Rattle.std.proofs.lemmas.Bool.{cases_lt, ne_eqb}

@@ -1,5 +1,5 @@
 -- What an automaton is, and what its words are.
-use Rattle.std.specs.Prelude.{◌≡◌, ◌≢◌, ℕ, suc, Bool, ◌<◌, ◌≤◌, ◌⊎◌, ◌↔◌, ◌==◌, nat_lt, filter, List, [], ◌∷◌, ◌++◌, length}
+use Rattle.std.specs.Prelude.{◌≡◌, ◌≢◌, ℕ, suc, Bool, ◌<◌, ◌≤◌, ◌⊎◌, ◌↔◌, ◌==◌, filter, List, [], ◌∷◌, ◌++◌, length}
 use Rattle.std.specs.List.Sorted.{IsStrictlyIncreasing}
 use Rattle.tm_base.specs.declared.cell.Cell.TheVariants.{Ptr}
 use Rattle.tm_base.specs.declared.cell.RefId.{RefId}

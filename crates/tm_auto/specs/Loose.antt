@@ -4,7 +4,7 @@ use Rattle.std.specs.Prelude.{◌≡◌, ℕ, zero, suc, ◌≤◌, ◌⊎◌, B
 use Rattle.tm_base.specs.declared.cell.Cell.{Cell}
 use Rattle.tm_base.specs.declared.cell.Cell.TheVariants.{Byte, Ptr}
 use Rattle.tm_base.specs.declared.tree.Tree.{Tree, Row_of-Tree, end_of-Tree, more_of-Tree, Never, Range, Pad, Ref, Seq', Alt', Repeat', Private'}
-use Rattle.tm_base.specs.Cells.{Word, IsFree, pointer_size, Times}
+use Rattle.tm_base.specs.Cells.{Word, IsFree, Times}
 
 module _ (A : ℕ → ℕ → Type 0) where
   -- so many bytes of a reference from a place on, each of some value that it may hold

@@ -109,6 +109,7 @@ fn grow_ref(
     Ok(starts)
 }
 
+/// Puts a tree in front of the targets, and answers the states at which its words begin.
 #[cycle(grow)]
 pub(crate) fn grow(
     alloc: Global,
@@ -139,6 +140,7 @@ pub(crate) fn grow(
     }
 }
 
+// One tree after another, the last one first.
 #[cycle(grow)]
 fn grow_seq(
     alloc: Global,
@@ -163,6 +165,7 @@ fn grow_seq(
     Ok(starts)
 }
 
+// A tree so many times, the last turn first.
 #[cycle(grow)]
 fn grow_times(
     alloc: Global,
@@ -217,6 +220,7 @@ fn grow_alt(
     Ok(starts)
 }
 
+// Its trees of one cell.
 fn grow_cells(
     alloc: Global,
     b: &mut Building,

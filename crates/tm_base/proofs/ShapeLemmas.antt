@@ -1,12 +1,12 @@
 -- Private parts, alternatives, leaves and the size of words, at each kind of tree.
-use Rattle.std.proofs.Common.{◌≡◌, ℕ, zero, suc, ◌+◌, ◌*◌, ◌≤◌, ◌<◌, Bool, true, List, [], ◌∷◌, ◌++◌, length, ◌∙◌, sym, ap, subst, refl, arith, length-append, inl, inr, ◌↔◌}
+use Rattle.std.proofs.Common.{◌≡◌, ℕ, zero, suc, ◌+◌, ◌*◌, ◌≤◌, true, List, [], ◌∷◌, length, ◌∙◌, sym, ap, subst, refl, arith, length-append, inl, inr, ◌↔◌}
 use Rattle.tm_base.specs.declared.tree.Tree.{Tree, Row_of-Tree, end_of-Tree, more_of-Tree, items-the_row-Tree, items_hidden-the_row-Tree-0, Never, Range, Pad, Ref, Seq, Alt, Repeat, Private}
 use Rattle.tm_base.specs.declared.tree.Tree.TheBlock.{hidden-the_row-Tree-0, shape-the_row-Tree-1, hidden-the_row-Tree-1}
 use Rattle.tm_base.specs.declared.cell.RefId.{RefId}
 use Rattle.tm_base.specs.Cells.{Word, Times}
 use Rattle.tm_base.specs.Shapes.{leaves_of, row_leaves, all_leaves, row_length, HasNoPrivate, RowHasNoPrivate, NonePrivate, HasNoAlternatives, RowHasNoAlternatives, NoneAlternative, HasSize}
 use Rattle.tm_base.specs.Transmutes.{holds}
-use Rattle.tm_base.specs.Trees.{TreeWord, InTurn, OneOf}
+use Rattle.tm_base.specs.Trees.{TreeWord}
 use Rattle.tm_base.proofs.TreeLemmas.{TreeWord-Seq, TreeWord-Alt, TreeWord-Repeat}
 
 -- ---- private parts

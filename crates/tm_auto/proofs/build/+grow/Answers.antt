@@ -1,14 +1,13 @@
-use Rattle.std.proofs.Common.{◌≡◌, ◌≢◌, ℕ, ◌+◌, ◌-◌, ◌<◌, ◌≤◌, ◌++◌, ◌∷◌, [], List, arith, rules, true, false, sym, subst, ap, ◌∙◌, refl, length, take, drop, get_or, Some, None, is_some}
+use Rattle.std.proofs.Common.{◌≡◌, ℕ, ◌+◌, ◌-◌, ◌<◌, ◌≤◌, ◌++◌, ◌∷◌, [], List, arith, rules, sym, subst, ap, ◌∙◌, refl, length, take, drop, Some, None, is_some}
 use Rattle.std.proofs.lemmas.List.{take_all}
 use Rattle.std.proofs.Math.Seq.{drop-length}
 use Rattle.tm_base.specs.declared.tree.Tree.{Tree, Alt}
 use Rattle.tm_base.specs.Shapes.{leaves_of, all_leaves, HasNoPrivate, NonePrivate}
 use Rattle.tm_auto.specs.declared.edge.Label.TheVariants as label
-use Rattle.tm_auto.specs.Builds.{IsReady}
-use Rattle.tm_auto.specs.Shapes.{nodes_of, all_nodes, cell_of, is_cell}
+use Rattle.tm_auto.specs.Shapes.{nodes_of, all_nodes, cell_of}
 use Rattle.tm_auto.proofs.CaseLemmas as cases
-use Rattle.tm_auto.proofs.CellLemmas.{range_cell, pad_cell, take_one, no_label}
-use Rattle.tm_auto.proofs.MakeLemmas.{makes_empty, makes_as, ready_after, ready_still}
+use Rattle.tm_auto.proofs.CellLemmas.{pad_cell, take_one, no_label}
+use Rattle.tm_auto.proofs.MakeLemmas.{ready_after, ready_still}
 use Rattle.tm_base.proofs.ShapeLemmas as tree
 use Rattle.tm_auto.proofs.ShapeLemmas as shape
 use Rattle.tm_auto.proofs.build.+grow.Goals as goal

@@ -1,4 +1,4 @@
-use Rattle.std.proofs.Common.{◌≡◌, ◌+◌, ◌*◌, ◌≤◌, drop, take, length}
+use Rattle.std.proofs.Common.{◌+◌, ◌*◌, ◌≤◌, drop, take, length}
 use Rattle.tm_base.specs.Cells.{Times}
 use Rattle.tm_base.specs.Shapes.{leaves_of, all_leaves, HasNoAlternatives, NoneAlternative}
 use Rattle.tm_base.specs.Transmutes.{holds}

@@ -1,4 +1,4 @@
-use Rattle.std.proofs.Common.{◌≡◌, ℕ, arith, sym, subst, ◌∙◌, ◌++◌, ◌∷◌, [], take, length, Some, None, List}
+use Rattle.std.proofs.Common.{◌≡◌, sym, subst, ◌∙◌, ◌++◌, ◌∷◌, [], take, Some, None, List}
 use Rattle.std.proofs.lemmas.List.{take_all}
 use Rattle.tm_base.specs.declared.tree.Tree.{Tree}
 use Rattle.tm_auto.specs.Shapes.{cell_of}

@@ -1,8 +1,5 @@
-use Rattle.std.proofs.Common.{rules, arith, ◌≡◌, ◌≢◌, ℕ, ◌<◌, length, true, false, nat_lt, nat_eq, slice_index_or, get_or, insert, eq-eqb}
-use Rattle.std.specs.List.{AllWithin}
-use Rattle.std.specs.List.Sorted.{IsPartitionedBy, IsPartitionPoint}
+use Rattle.std.proofs.Common.{rules, arith, ◌≢◌, ◌<◌, length, nat_lt, get_or}
 use Rattle.std.proofs.lemmas.List.Sorted.{IsPartitionPoint-from_clause}
-use Rattle.tm_auto.specs.Sets.{with_state}
 use Rattle.tm_auto.proofs.SetLemmas.{increasing_rises, with_state-there, with_state-insert, rises_partitioned}
 use Rattle.tm_auto.proofs.set.place_of.Goals as goal
 use Rattle.tm_auto.proofs.set.place_of.Goals.{else-place-states-via-then-place-states+else-states-place, else-place-states-via-else-place-states}

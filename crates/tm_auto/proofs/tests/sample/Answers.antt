@@ -1,4 +1,4 @@
-use Rattle.std.proofs.Common.{◌≡◌, ℕ, ◌<◌, ◌*◌, ◌^◌, List, [], ◌∷◌, refl, sym, subst, arith}
+use Rattle.std.proofs.Common.{◌≡◌, ◌<◌, ◌^◌, List, [], ◌∷◌, refl, sym, subst, arith}
 use Rattle.tm_base.specs.declared.tree.Tree.{Tree, Never, Range, Pad, Ref, Seq, Alt, Repeat}
 use Rattle.tm_base.specs.Shapes.{HasSize, HasNoPrivate, leaves_of}
 use Rattle.tm_base.proofs.ShapeLemmas.{HasNoPrivate-Seq, HasNoPrivate-Alt, HasNoPrivate-Repeat, leaves_of-Seq, leaves_of-Alt, leaves_of-Repeat, HasSize-Never, HasSize-Range, HasSize-Pad, HasSize-Ref, HasSize-Seq-none, HasSize-Seq-more, HasSize-Alt-none, HasSize-Alt-more, HasSize-Repeat}

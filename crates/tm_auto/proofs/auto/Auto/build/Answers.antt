@@ -1,6 +1,5 @@
-use Rattle.std.proofs.Common.{◌≡◌, ◌≢◌, ℕ, sym, ap, ◌∙◌, List, [], false, true, subst}
-use Rattle.tm_auto.specs.Automata.{Automaton}
-use Rattle.tm_auto.proofs.BuiltLemmas.{IsAutomatonOf, ready_at_end, built_none, built_some, no_states, some_states}
+use Rattle.std.proofs.Common.{sym, ◌∙◌}
+use Rattle.tm_auto.proofs.BuiltLemmas.{ready_at_end, built_none, built_some, no_states, some_states}
 use Rattle.tm_auto.proofs.auto.Auto.build.Goals as goal
 
 pub grow-requires-clause-ready : goal.grow-requires-clause-ready

@@ -1,5 +1,5 @@
-use Rattle.std.proofs.Common.{◌≡◌, refl, sym, subst, ap, ◌∙◌}
-use Rattle.tm_auto.specs.Automata.{IsAutomaton, IsOrdered, AreStates, AreInLayer}
+use Rattle.std.proofs.Common.{refl, sym, subst, ◌∙◌}
+use Rattle.tm_auto.specs.Automata.{IsOrdered}
 use Rattle.tm_auto.proofs.NextLemmas.{step_turn, step_done, next_states, next_layer}
 use Rattle.tm_auto.proofs.auto.Auto.step.Goals as goal
 

@@ -1,4 +1,4 @@
-use Rattle.std.proofs.Common.{◌≡◌, sym, subst, List, ℕ, ◌∙◌, Result, Ok, Err, OnOk, OnErr, insert}
+use Rattle.std.proofs.Common.{◌≡◌, sym, subst, List, ℕ, Result, Ok, Err, OnOk, OnErr, insert}
 use Rattle.std.specs.List.Sorted.{IsStrictlyIncreasing}
 use Rattle.smallvec.specs.SmallVec.{SmallVec}
 use Rattle.tm_auto.specs.Sets.{with_state}
