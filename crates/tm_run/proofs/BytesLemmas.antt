@@ -1,9 +1,7 @@
 -- A type of the grammar has the words that its bytes say, and one covers another exactly where each
 -- of its words, fitted, is one of the other's.
-use Rattle.std.proofs.Common.{◌≡◌, ◌==◌, ℕ, zero, suc, ◌+◌, ◌-◌, ◌*◌, ◌<◌, ◌≤◌, ◌⊎◌, inl, inr, refl, sym, ap, ◌∙◌, subst, Bool, true, false, ◌&&◌, ◌||◌, nat_le, Option, Some, None, [], ◌∷◌, ◌++◌, length, take, replicate, arith, zero-add, zero-mul, ◌↔◌, if◌then◌else◌, eq-eqb, eqb-true}
+use Rattle.std.proofs.Common.{◌≡◌, ℕ, zero, suc, ◌+◌, ◌-◌, ◌*◌, ◌<◌, ◌≤◌, inl, inr, refl, sym, ap, ◌∙◌, subst, Bool, true, false, nat_le, Option, Some, None, [], ◌∷◌, ◌++◌, length, take, replicate, arith, zero-add, zero-mul, ◌↔◌, if◌then◌else◌}
 use Rattle.std.proofs.lemmas.List.Elements.{All-head, All-tail, All-cons, All-nil}
-use Rattle.std.proofs.lemmas.Bool.{and_parts}
-use Rattle.std.proofs.lemmas.Bool.Decides.{nat_tests}
 use Rattle.tm_base.specs.declared.cell.Cell.{Cell}
 use Rattle.tm_base.specs.declared.cell.Cell.TheVariants.{Byte, Uninit, Ptr}
 use Rattle.tm_base.specs.declared.ground.Ground.{Ground, out-Ground}
@@ -16,10 +14,17 @@ use Rattle.tm_base.specs.Layout.{prim_size, layout_of, size_of}
 use Rattle.tm_base.specs.Valid.{AreBytes, PrimValid, Valid}
 use Rattle.tm_run.proofs.Front.{Some-injective}
 use Rattle.tm_run.specs.declared.bytes.Bytes.{Bytes}
-use Rattle.tm_base.specs.Transmutes.{Same, Transmutes}
+use Rattle.tm_base.proofs.ShapeLemmas.{HasNoPrivate-Repeat, HasNoAlternatives-Repeat, leaves_of-Repeat, HasSize-Range, HasSize-Repeat}
+use Rattle.tm_base.proofs.TreeLemmas.{TreeWord-Repeat}
+use Rattle.tm_base.specs.Shapes.{HasNoPrivate, HasNoAlternatives, HasSize, leaves_of}
+use Rattle.tm_base.specs.Transmutes.{Same, Transmutes, holds}
+use Rattle.tm_base.specs.Trees.{TreeWord}
+use Rattle.tm_base.specs.declared.tree.Tree.{Range, Repeat}
 use Rattle.tm_run.specs.Files.{nothing_assumed}
+use Rattle.tm_auto.specs.Automata.{Automaton, equal}
+use Rattle.tm_run.specs.Comparing.{AllFree, HasFreeWords, EveryFits}
 use Rattle.tm_run.specs.Verdicts.{closed_type}
-use Rattle.tm_run.specs.Bytes.{UpTo, prim_bytes, element_bytes, repeated, bytes_in, bytes_of, covers}
+use Rattle.tm_run.specs.Bytes.{HasWordsOf, UpTo, prim_bytes, element_bytes, repeated, bytes_in, bytes_of}
 
 Byte-injective : (a b : ℕ) → Byte a ≡ Byte b → a ≡ b
 Byte-injective a b h = cc
@@ -123,60 +128,15 @@ Times-bytes most k (suc n) P h w =
       λ t. let (u, v, e, first, others) = UpTo-split most k (n * k) w (rw more at t) in (u, v, e, (h u).1 first, (Times-bytes most k n P h v).1 others),
     )
 
-fit-zero : (w : Word) → fit w 0 ≡ []
+pub fit-zero : (w : Word) → fit w 0 ≡ []
 fit-zero w = let none : 0 - length w ≡ 0 = omega arith in ap (λ n. replicate n Uninit) none
 
-fit-cons : (c : Cell) (w : Word) (m : ℕ) → fit (c ∷ w) (suc m) ≡ c ∷ fit w m
+pub fit-cons : (c : Cell) (w : Word) (m : ℕ) → fit (c ∷ w) (suc m) ≡ c ∷ fit w m
 fit-cons c w m = let less : suc m - suc (length w) ≡ m - length w = omega arith in ap (λ n. c ∷ (take m w ++ replicate n Uninit)) less
 
-fit-nil : (m : ℕ) → fit [] (suc m) ≡ Uninit ∷ fit [] m
+pub fit-nil : (m : ℕ) → fit [] (suc m) ≡ Uninit ∷ fit [] m
 fit-nil zero = refl
 fit-nil (suc m) = let all : suc (suc m) - 0 ≡ suc (suc m) = omega arith in let less : suc m - 0 ≡ suc m = omega arith in ap (λ n. replicate n Uninit) all ∙ sym (ap (λ n. Uninit ∷ replicate n Uninit) less)
-
-abbrev pub Covers : ℕ → ℕ → ℕ → ℕ → Type 0
-Covers m n m' n' = (n' ≡ 0) ⊎ ((n' ≤ n) × (m ≤ m'))
-
-every_fits : (m n m' n' : ℕ) → n' ≤ n → m ≤ m' → (w : Word) → UpTo m n w → UpTo m' n' (fit w n')
-every_fits m n m' zero few low w h = fit-zero w
-every_fits m zero m' (suc n') few low w h = absurd (omega arith)
-every_fits m (suc n) m' (suc n') few low w (b, v, e, small, others) =
-    rw e (b, fit v n', fit-cons (Byte b) v n', omega arith, every_fits m n m' n' (omega arith) low v others)
-
--- a word of the greatest bytes
-greatest : (m n : ℕ) → (w : Word) × UpTo m n w
-greatest m zero = ([], refl)
-greatest m (suc n) = let (w, h) = greatest m n in (Byte m ∷ w, (m, w, refl, omega arith, h))
-
-UpTo-length : (m n : ℕ) (w : Word) → UpTo m n w → length w ≡ n
-UpTo-length m zero w e = ap length e
-UpTo-length m (suc n) w (b, v, e, small, others) = let l = UpTo-length m n v others in ap length e ∙ omega (arith, l)
-
--- where the fit has initialised bytes alone, nothing was missing
-fit-whole : (m n : ℕ) (w : Word) → UpTo m n (fit w n) → n ≤ length w
-fit-whole m zero w h = omega arith
-fit-whole m (suc n) [] h =
-    let (b, v, e, small, others) = rw fit-nil at h in
-    let same = (head-same Uninit (Byte b) (fit [] n) v e).0 in cc
-fit-whole m (suc n) (c ∷ w) h =
-    let (b, v, e, small, others) = rw fit-cons at h in
-    let same = (head-same c (Byte b) (fit w n) v e).1 in
-    let again = fit-whole m n w (rw same others) in
-    omega (arith, again)
-
-fits_every : (m n m' n' : ℕ) → ((w : Word) → UpTo m n w → UpTo m' n' (fit w n')) → Covers m n m' n'
-fits_every m n m' zero f = inl refl
-fits_every m zero m' (suc n') f =
-    let (b, v, e, small, others) = rw fit-nil at (f [] refl) in
-    let same = (head-same Uninit (Byte b) (fit [] n') v e).0 in cc
-fits_every m (suc n) m' (suc n') f =
-    let (w, h) = greatest m n in
-    let word : UpTo m (suc n) (Byte m ∷ w) = (m, w, refl, omega arith, h) in
-    let fitted = f (Byte m ∷ w) word in
-    let whole = fit-whole m' (suc n') (Byte m ∷ w) fitted in
-    let l = UpTo-length m n w h in
-    let (b, v, e, small, others) = rw fit-cons at fitted in
-    let same = Byte-injective m b (head-same (Byte m) (Byte b) (fit w n') v e).0 in
-    inr (omega (arith, whole, l), omega (arith, same, small))
 
 -- the words of a type are bytes
 pub record HasBytes (t : Expanded) (bytes : Bytes) : Type 1 where
@@ -238,38 +198,122 @@ within-HasBytes n g bytes h = by (out-Ground g) h
 pub closed-HasBytes : (g : Ground) (bytes : Bytes) → bytes_of g ≡ Some bytes → HasBytes (closed_type g) bytes
 closed-HasBytes g bytes h = within-HasBytes 62 g bytes h
 
-le_of : (a b : ℕ) → nat_le a b ≡ true → a ≤ b
-le_of a b h = grind (arith, nat_tests)
+-- where nothing is assumed, a value of some bytes may be taken as one of others exactly where each word, fitted, is one
+pub fits-Transmutes : (A : ℕ → ℕ → Type 0) (s t : Expanded) (src dst : Bytes) → HasBytes s src → HasBytes t dst
+    → ((w : Word) → UpTo src.most src.count w → UpTo dst.most dst.count (fit w dst.count)) → Transmutes A nothing_assumed s t
+fits-Transmutes A s t src dst hs ht each =
+    inr (inl (refl, λ w word. (ht.words A false (fit w (size_of t))).1 (rw ht.size (each w ((hs.words Same true w).0 word)))))
 
-covers-Covers : (src dst : Bytes) → covers src dst ≡ true → Covers src.most src.count dst.most dst.count
-covers-Covers src dst h = by (dst.count == 0) refl h
-  where
-    by : (s : Bool) → (dst.count == 0) ≡ s → (s || (nat_le dst.count src.count && nat_le src.most dst.most)) ≡ true → Covers src.most src.count dst.most dst.count
-    by true e h = inl (eqb-true dst.count 0 e)
-    by false e h = let both = and_parts (nat_le dst.count src.count) (nat_le src.most dst.most) h in inr (le_of dst.count src.count both.0, le_of src.most dst.most both.1)
+-- a word of the greatest bytes
+greatest : (m n : ℕ) → (w : Word) × UpTo m n w
+greatest m zero = ([], refl)
+greatest m (suc n) = let (w, h) = greatest m n in (Byte m ∷ w, (m, w, refl, omega arith, h))
 
-Covers-covers : (src dst : Bytes) → Covers src.most src.count dst.most dst.count → covers src dst ≡ true
-Covers-covers src dst (inl e) = rw (eq-eqb dst.count 0 e) refl
-Covers-covers src dst (inr (few, low)) = by (dst.count == 0) few low
-  where
-    by : (s : Bool) → dst.count ≤ src.count → src.most ≤ dst.most → (s || (nat_le dst.count src.count && nat_le src.most dst.most)) ≡ true
-    by true few low = refl
-    by false few low = grind (arith, nat_tests)
+pub Transmutes-fits : (A : ℕ → ℕ → Type 0) (s t : Expanded) (src dst : Bytes) → HasBytes s src → HasBytes t dst
+    → Transmutes A nothing_assumed s t → (w : Word) → UpTo src.most src.count w → UpTo dst.most dst.count (fit w dst.count)
+Transmutes-fits A s t src dst hs ht (inl none) w h = absurd (none w ((hs.words Same true w).1 h))
+Transmutes-fits A s t src dst hs ht (inr (inl (e, every))) w h =
+    subst (λ (n : ℕ). UpTo dst.most dst.count (fit w n)) ht.size ((ht.words A false (fit w (size_of t))).0 (every w ((hs.words Same true w).1 h)))
+Transmutes-fits A s t src dst hs ht (inr (inr (e, some))) w h = cc
 
--- where nothing is assumed, a value of some bytes may be taken as one of others exactly where these cover it
-pub covers-Transmutes : (A : ℕ → ℕ → Type 0) (s t : Expanded) (src dst : Bytes) → HasBytes s src → HasBytes t dst → covers src dst ≡ true → Transmutes A nothing_assumed s t
-covers-Transmutes A s t src dst hs ht h = inr (inl (refl, λ w word. (ht.words A false (fit w (size_of t))).1 (fits w ((hs.words Same true w).0 word))))
-  where
-    fits : (w : Word) → UpTo src.most src.count w → UpTo dst.most dst.count (fit w (size_of t))
-    fits w word = rw ht.size (by (covers-Covers src dst h))
-      where
-        by : Covers src.most src.count dst.most dst.count → UpTo dst.most dst.count (fit w dst.count)
-        by (inl e) = rw e (fit-zero w)
-        by (inr (few, low)) = every_fits src.most src.count dst.most dst.count few low w word
+one_byte : (A : ℕ → ℕ → Bool) (most : ℕ) (w : Word) → TreeWord (holds A) true (Range 0 most) w ↔ UpTo most 1 w
+unfolding TreeWord
+one_byte A most w = (λ (b, low, high, e). (b, [], e, high, refl), λ (b, others, e, high, none). (b, omega arith, high, e ∙ ap (λ u. Byte b ∷ u) none))
 
-pub Transmutes-covers : (A : ℕ → ℕ → Type 0) (s t : Expanded) (src dst : Bytes) → HasBytes s src → HasBytes t dst → Transmutes A nothing_assumed s t → covers src dst ≡ true
-Transmutes-covers A s t src dst hs ht (inl none) = let (w, h) = greatest src.most src.count in absurd (none w ((hs.words Same true w).1 h))
-Transmutes-covers A s t src dst hs ht (inr (inl (e, every))) =
-    Covers-covers src dst (fits_every src.most src.count dst.most dst.count
-    (λ w h. subst (λ (n : ℕ). UpTo dst.most dst.count (fit w n)) ht.size ((ht.words A false (fit w (size_of t))).0 (every w ((hs.words Same true w).1 h)))))
-Transmutes-covers A s t src dst hs ht (inr (inr (e, some))) = cc
+-- the words of a tree of bytes
+pub TreeWord-bytes : (A : ℕ → ℕ → Bool) (most count : ℕ) (w : Word) → TreeWord (holds A) true (Repeat count (Range 0 most)) w ↔ UpTo most count w
+TreeWord-bytes A most count w =
+    let times = TreeWord-Repeat (holds A) true count (Range 0 most) w in
+    let bytes = Times-bytes most 1 count (TreeWord (holds A) true (Range 0 most)) (one_byte A most) w in
+    let all : count * 1 ≡ count = omega arith in
+    (λ h. subst (λ (n : ℕ). UpTo most n w) all (bytes.0 (times.0 h)), λ h. times.1 (bytes.1 (subst (λ (n : ℕ). UpTo most n w) (sym all) h)))
+
+pub HasSize-bytes : (most count : ℕ) → HasSize count (Repeat count (Range 0 most))
+HasSize-bytes most count = let all : count * 1 ≡ count = omega arith in subst (λ (n : ℕ). HasSize n (Repeat count (Range 0 most))) all (HasSize-Repeat 1 count (Range 0 most) (HasSize-Range 0 most))
+
+leaf : (most : ℕ) → leaves_of (Range 0 most) ≡ 1
+unfolding leaves_of
+leaf most = refl
+
+pub leaves_of-bytes : (most count : ℕ) → leaves_of (Repeat count (Range 0 most)) ≡ count
+leaves_of-bytes most count = let one = leaf most in leaves_of-Repeat count (Range 0 most) ∙ rw one (omega arith)
+
+public_byte : (most : ℕ) → HasNoPrivate (Range 0 most)
+unfolding HasNoPrivate
+public_byte most = tt
+
+single_byte : (most : ℕ) → HasNoAlternatives (Range 0 most)
+unfolding HasNoAlternatives
+single_byte most = tt
+
+pub HasNoPrivate-bytes : (most count : ℕ) → HasNoPrivate (Repeat count (Range 0 most))
+HasNoPrivate-bytes most count = (HasNoPrivate-Repeat count (Range 0 most)).1 (public_byte most)
+
+pub HasNoAlternatives-bytes : (most count : ℕ) → HasNoAlternatives (Repeat count (Range 0 most))
+HasNoAlternatives-bytes most count = (HasNoAlternatives-Repeat count (Range 0 most)).1 (single_byte most)
+
+-- bytes are no cells of references
+pub AllFree-bytes : (most count : ℕ) (w : Word) → most ≤ 255 → UpTo most count w → AllFree w
+AllFree-bytes most zero w small e = rw e tt
+AllFree-bytes most (suc count) w small (b, v, e, low, others) = rw e (omega arith, AllFree-bytes most count v small others)
+
+most_prim : (q : Primitive) (bytes : Bytes) → prim_bytes q ≡ Some bytes → bytes.most ≤ 255
+most_prim p.Bool bytes h = let e = ap (λ b. b.most) (Some-injective (record { most = 1; count = 1 }) bytes h) in omega (arith, e)
+most_prim p.U8 bytes h = let e = ap (λ b. b.most) (Some-injective (record { most = 255; count = 1 }) bytes h) in omega (arith, e)
+most_prim p.U16 bytes h = let e = ap (λ b. b.most) (Some-injective (record { most = 255; count = 2 }) bytes h) in omega (arith, e)
+most_prim p.U32 bytes h = let e = ap (λ b. b.most) (Some-injective (record { most = 255; count = 4 }) bytes h) in omega (arith, e)
+most_prim p.U64 bytes h = let e = ap (λ b. b.most) (Some-injective (record { most = 255; count = 8 }) bytes h) in omega (arith, e)
+most_prim p.Char bytes h = cc
+most_prim p.U128 bytes h = cc
+most_prim p.Usize bytes h = cc
+most_prim p.I8 bytes h = cc
+most_prim p.I16 bytes h = cc
+most_prim p.I32 bytes h = cc
+most_prim p.I64 bytes h = cc
+most_prim p.I128 bytes h = cc
+most_prim p.Isize bytes h = cc
+most_prim p.F32 bytes h = cc
+most_prim p.F64 bytes h = cc
+
+most_element : (x : Ground-F Ground) (bytes : Bytes) → element_bytes x ≡ Some bytes → bytes.most ≤ 255
+most_element (Ground-F.Prim q) bytes h = most_prim q bytes h
+most_element (Ground-F.Never) bytes h = cc
+most_element (Ground-F.Unit) bytes h = cc
+most_element (Ground-F.Tuple gs) bytes h = cc
+most_element (Ground-F.Array e k) bytes h = cc
+most_element (Ground-F.Named id) bytes h = cc
+most_element (Ground-F.NonZero q) bytes h = cc
+most_element (Ground-F.Wrap w e) bytes h = cc
+most_element (Ground-F.Ref r) bytes h = cc
+
+most_in : (x : Ground-F Ground) (bytes : Bytes) → bytes_in x ≡ Some bytes → bytes.most ≤ 255
+most_in (Ground-F.Prim q) bytes h = most_prim q bytes h
+most_in (Ground-F.Never) bytes h = cc
+most_in (Ground-F.Unit) bytes h = cc
+most_in (Ground-F.Tuple gs) bytes h = cc
+most_in (Ground-F.Array e k) bytes h =
+    let (one, found, same) = repeated-some k (element_bytes (out-Ground e)) bytes h in
+    let low = most_element (out-Ground e) one found in
+    let most = ap (λ b. b.most) same in
+    omega (arith, low, most)
+most_in (Ground-F.Named id) bytes h = cc
+most_in (Ground-F.NonZero q) bytes h = cc
+most_in (Ground-F.Wrap w e) bytes h = cc
+most_in (Ground-F.Ref r) bytes h = cc
+
+pub HasFreeWords-bytes : (auto : Automaton) (g : Ground) (bytes : Bytes) → bytes_of g ≡ Some bytes → HasWordsOf auto bytes → HasFreeWords auto
+HasFreeWords-bytes auto g bytes h words = record {
+  free = λ w word. AllFree-bytes bytes.most bytes.count w (most_in (out-Ground g) bytes h) ((words.words equal w).0 word);
+}
+
+-- each word of the one automaton, fitted, is one of the other's exactly where it is so of the bytes
+pub EveryFits-bytes : (src dst : Automaton) (from to : Bytes) → HasWordsOf src from → HasWordsOf dst to → dst.size ≡ to.count
+    → EveryFits src dst → (w : Word) → UpTo from.most from.count w → UpTo to.most to.count (fit w to.count)
+EveryFits-bytes src dst from to hs hd size every w h =
+    subst (λ (n : ℕ). UpTo to.most to.count (fit w n)) size ((hd.words equal (fit w dst.size)).0 (every.each w ((hs.words equal w).1 h)))
+
+pub bytes-EveryFits : (src dst : Automaton) (from to : Bytes) → HasWordsOf src from → HasWordsOf dst to → dst.size ≡ to.count
+    → ((w : Word) → UpTo from.most from.count w → UpTo to.most to.count (fit w to.count)) → EveryFits src dst
+bytes-EveryFits src dst from to hs hd size each = record {
+  each = λ w word. (hd.words equal (fit w dst.size)).1 (rw size (each w ((hs.words equal w).0 word)));
+}

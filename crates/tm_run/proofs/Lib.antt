@@ -1,6 +1,9 @@
 pub mod BytesLemmas
+pub mod CompareLemmas
+pub mod FitLemmas
 pub mod Front
 pub mod GrammarLemmas
+pub mod LeavingLemmas
 pub mod RunLemmas
 pub mod Spelling
 pub mod VerdictLemmas

@@ -1,5 +1,6 @@
 -- The types of the question file's grammar: some bytes, each of which has a number up to a greatest.
-use Rattle.std.specs.Prelude.{◌≡◌, ℕ, zero, suc, ◌≤◌, ◌*◌, ◌==◌, Bool, ◌&&◌, ◌||◌, nat_le, if◌then◌else◌, Option, Some, None, IsSome, [], ◌∷◌}
+use Rattle.std.specs.Prelude.{◌≡◌, ℕ, zero, suc, ◌≤◌, ◌*◌, ◌↔◌, Bool, nat_le, if◌then◌else◌, Option, Some, None, IsSome, [], ◌∷◌}
+use Rattle.tm_auto.specs.Automata.{Automaton, AutoWord}
 use Rattle.tm_base.specs.declared.ask.Ask.{Ask}
 use Rattle.tm_base.specs.declared.cell.Cell.TheVariants.{Byte}
 use Rattle.tm_base.specs.declared.ground.Ground.{Ground, out-Ground}
@@ -7,6 +8,7 @@ use Rattle.tm_base.specs.declared.ground.Ground.TheOpen.{Ground-F}
 use Rattle.tm_base.specs.declared.ground.Primitive.{Primitive}
 use Rattle.tm_base.specs.declared.ground.Primitive.TheVariants.{Bool as bool', U8, U16, U32, U64}
 use Rattle.tm_base.specs.Cells.{Word}
+use Rattle.tm_base.specs.Transmutes.{holds}
 use Rattle.tm_run.specs.Files.{nothing_assumed}
 use Rattle.tm_run.specs.declared.bytes.Bytes.{Bytes}
 
@@ -40,9 +42,9 @@ bytes_in _ = None
 abbrev pub bytes_of : Ground → Option Bytes
 bytes_of g = bytes_in (out-Ground g)
 
--- each word of the first, fitted, is one of the second
-abbrev pub covers : Bytes → Bytes → Bool
-covers src dst = (dst.count == 0) || (nat_le dst.count src.count && nat_le src.most dst.most)
+-- the automaton's words are these bytes
+pub record HasWordsOf (auto : Automaton) (bytes : Bytes) : Type 0 where
+  pub words : (A : ℕ → ℕ → Bool) (w : Word) → AutoWord (holds A) auto w ↔ UpTo bytes.most bytes.count w
 
 -- a question between types of the grammar, where nothing is assumed
 pub record IsOfGrammar (ask : Ask) : Type 0 where

@@ -1,4 +1,5 @@
 pub mod Bytes
+pub mod Comparing
 pub mod Files
 pub mod Outcomes
 pub mod Reading

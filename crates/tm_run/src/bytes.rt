@@ -1,8 +1,11 @@
-ghost use Rattle.std.specs.Prelude.{◌≡◌, ◌≤◌, Some};
-ghost use Rattle.tm_run.specs.Bytes.{prim_bytes, bytes_of, repeated, covers};
+ghost use Rattle.std.specs.Prelude.{◌≡◌, ◌≤◌, Some, IfOk, IfSome};
+ghost use Rattle.tm_auto.specs.Automata.{HasOneStateALayer};
+ghost use Rattle.tm_run.specs.Bytes.{HasWordsOf, prim_bytes, bytes_of, repeated};
 
 use crate::file::MOST_ELEMENTS;
-use tm_base::{Ground, Primitive};
+use std::alloc::Global;
+use tm_auto::Auto;
+use tm_base::{Boxed, Ground, Memory, Primitive, Tree};
 
 /// Some bytes, each of which has a number from 0 to `most`.
 #[derive(Clone, Copy, PartialEq, Eq, Debug)]
@@ -12,7 +15,8 @@ pub struct Bytes {
 }
 
 fn primitive_bytes(primitive: Primitive) -> Option<Bytes>
-    ensures { result ≡ prim_bytes primitive }
+    ensures bytes { result ≡ prim_bytes primitive }
+    ensures few { IfSome result (λ bytes. bytes.count ≤ 8) }
 {
     let (most, count) = match primitive {
         Primitive::Bool => (1, 1),
@@ -27,7 +31,8 @@ fn primitive_bytes(primitive: Primitive) -> Option<Bytes>
 
 /// The bytes of a type of the question file's grammar.
 pub fn bytes_of(ground: &Ground) -> Option<Bytes>
-    ensures { result ≡ bytes_of ground.now }
+    ensures bytes { result ≡ bytes_of ground.now }
+    ensures few { IfSome result (λ bytes. bytes.count ≤ 32768) }
 {
     match ground {
         Ground::Prim(primitive) => primitive_bytes(*primitive),
@@ -42,7 +47,8 @@ pub fn bytes_of(ground: &Ground) -> Option<Bytes>
 /// An array of some bytes.
 fn repeated(bytes: Bytes, length: u32) -> Option<Bytes>
     requires { bytes.count ≤ 8 }
-    ensures { result ≡ repeated length (Some bytes) }
+    ensures bytes { result ≡ repeated length (Some bytes) }
+    ensures few { IfSome result (λ bytes. bytes.count ≤ 32768) }
 {
     if length > MOST_ELEMENTS {
         return None;
@@ -51,9 +57,14 @@ fn repeated(bytes: Bytes, length: u32) -> Option<Bytes>
     Some(Bytes { count, ..bytes })
 }
 
-/// Whether each word of the source, fitted, is a word of the target.
-pub fn covers(src: Bytes, dst: Bytes) -> bool
-    ensures { result ≡ covers src dst }
+/// The automaton of these bytes.
+pub fn automaton(alloc: Global, bytes: Bytes) -> Result<Auto, Memory>
+    requires { bytes.count ≤ 32768 }
+    ensures words { IfOk result (λ auto. HasWordsOf auto bytes) }
+    ensures size { IfOk result (λ auto. auto.size ≡ bytes.count) }
+    ensures single { IfOk result (λ auto. HasOneStateALayer auto) }
 {
-    dst.count == 0 || (dst.count <= src.count && src.most <= dst.most)
+    let byte = Boxed::new(alloc, Tree::Range(0, bytes.most))?;
+    let tree = Tree::Repeat(bytes.count, byte);
+    Auto::build(alloc, &tree, bytes.count)
 }

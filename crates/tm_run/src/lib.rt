@@ -2,6 +2,7 @@
 #![tactic(auto)]
 
 mod bytes;
+mod comparing;
 mod file;
 mod report;
 mod running;

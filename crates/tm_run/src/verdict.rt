@@ -2,9 +2,10 @@ ghost use Rattle.std.specs.Prelude.{◌≡◌, All, IfOk};
 ghost use Rattle.tm_run.specs.Verdicts.{AreTrueVerdicts, IsTrueVerdict};
 ghost use Rattle.tm_run.specs.Bytes.{IsOfGrammar};
 
-use crate::bytes::{bytes_of, covers};
-use std::alloc::{AllocError, Global};
-use tm_base::Ask;
+use crate::bytes::{automaton, bytes_of};
+use crate::comparing::every_word_fits;
+use std::alloc::Global;
+use tm_base::{Ask, Memory};
 
 /// The answer to a question.
 #[derive(Clone, Copy, PartialEq, Eq, Debug)]
@@ -14,9 +15,9 @@ pub enum Verdict {
 }
 
 /// Answers a question.
-fn answer(ask: &Ask) -> Verdict
+fn answer(alloc: Global, ask: &Ask) -> Result<Verdict, Memory>
     requires { IsOfGrammar ask.now }
-    ensures { IsTrueVerdict ask.now result }
+    ensures { IfOk result (λ verdict. IsTrueVerdict ask.now verdict) }
 {
     let Some(src) = bytes_of(&ask.src) else {
         unreachable!();
@@ -24,21 +25,27 @@ fn answer(ask: &Ask) -> Verdict
     let Some(dst) = bytes_of(&ask.dst) else {
         unreachable!();
     };
-    if covers(src, dst) {
-        Verdict::Yes
-    } else {
-        Verdict::No
+    let src = automaton(alloc, src)?;
+    let dst = automaton(alloc, dst)?;
+    let fits = every_word_fits(alloc, &src, &dst)?;
+    if !fits {
+        return Ok(Verdict::No);
     }
+    Ok(Verdict::Yes)
 }
 
 /// Answers each question, in order.
-pub fn verdicts(alloc: Global, asks: &[Ask]) -> Result<Vec<Verdict>, AllocError>
+pub fn verdicts(alloc: Global, asks: &[Ask]) -> Result<Vec<Verdict>, Memory>
     requires { All IsOfGrammar asks.now }
     ensures { IfOk result (λ answers. AreTrueVerdicts asks.now answers.items) }
 {
     let mut answers = Vec::new(alloc);
     for ask in asks {
-        answers.push(answer(ask))?;
+        let verdict = answer(alloc, ask)?;
+        match answers.push(verdict) {
+            Ok(()) => {}
+            Err(_) => return Err(Memory),
+        }
     }
     Ok(answers)
 }

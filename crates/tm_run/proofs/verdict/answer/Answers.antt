@@ -1,25 +1,39 @@
-use Rattle.std.proofs.Common.{◌≡◌, ◌∙◌, ℕ, Bool, true, false, sym}
+use Rattle.std.proofs.Common.{◌≡◌, ℕ, Bool, true, false, sym}
 use Rattle.tm_base.specs.Transmutes.{Transmutes, holds}
 use Rattle.tm_run.specs.Files.{nothing_assumed}
 use Rattle.tm_run.specs.Verdicts.{closed_type}
-use Rattle.tm_run.specs.Bytes.{covers}
-use Rattle.tm_run.proofs.BytesLemmas.{closed-HasBytes, covers-Transmutes, Transmutes-covers}
+use Rattle.tm_run.proofs.BytesLemmas.{closed-HasBytes, HasFreeWords-bytes, EveryFits-bytes, bytes-EveryFits, fits-Transmutes, Transmutes-fits}
 use Rattle.tm_run.proofs.verdict.answer.Goals as goal
 
-pub returns-then-covers : goal.returns-then-covers
-returns-then-covers c = λ A.
-    let ask = c.args.ask.now in
-    let src = closed-HasBytes ask.src c.in-Some.src (sym c.in-Some.ensures) in
-    let dst = closed-HasBytes ask.dst c.in-Some-bytes_of.dst (sym c.in-Some-bytes_of.ensures) in
-    rw c.requires.assume (covers-Transmutes (holds A) _ _ c.in-Some.src c.in-Some-bytes_of.dst src dst (sym c.covers.ensures ∙ c.if-covers.true))
+pub every_word_fits-requires : goal.every_word_fits-requires
+every_word_fits-requires c = record {
+  one_src = c.in_ok-src.ensures.single;
+  one_dst = c.in_ok-dst.ensures.single;
+  free = HasFreeWords-bytes c.in_ok-src.src c.args.ask.now.src c.in-Some.src (sym c.in-Some.ensures.bytes) c.in_ok-src.ensures.words;
+}
 
-pub returns-else-covers : goal.returns-else-covers
-returns-else-covers c = λ h.
+pub returns-then-not-fits : goal.returns-then-not-fits
+returns-then-not-fits c = λ h.
     let ask = c.args.ask.now in
-    let src = closed-HasBytes ask.src c.in-Some.src (sym c.in-Some.ensures) in
-    let dst = closed-HasBytes ask.dst c.in-Some-bytes_of.dst (sym c.in-Some-bytes_of.ensures) in
+    let from = c.in-Some.src in
+    let to = c.in-Some-bytes_of.dst in
+    let src = closed-HasBytes ask.src from (sym c.in-Some.ensures.bytes) in
+    let dst = closed-HasBytes ask.dst to (sym c.in-Some-bytes_of.ensures.bytes) in
     let all : ℕ → ℕ → Bool = λ x t. true in
     let may : Transmutes (holds all) nothing_assumed (closed_type ask.src) (closed_type ask.dst) = rw c.requires.assume at (h all) in
-    let yes = Transmutes-covers (holds all) _ _ c.in-Some.src c.in-Some-bytes_of.dst src dst may in
-    let no : covers c.in-Some.src c.in-Some-bytes_of.dst ≡ false = sym c.covers.ensures ∙ c.if-covers.false in
+    let every = bytes-EveryFits c.in_ok-src.src c.in_ok-dst.dst from to c.in_ok-src.ensures.words c.in_ok-dst.ensures.words c.in_ok-dst.ensures.size
+    (Transmutes-fits (holds all) (closed_type ask.src) (closed_type ask.dst) from to src dst may) in
+    let fits : c.in_ok-fits.fits ≡ true = c.in_ok-fits.ensures.1 every in
+    let stops : c.in_ok-fits.fits ≡ false = c.if-not-fits.true in
     cc
+
+pub returns : goal.returns
+returns c = λ A.
+    let ask = c.args.ask.now in
+    let from = c.in-Some.src in
+    let to = c.in-Some-bytes_of.dst in
+    let src = closed-HasBytes ask.src from (sym c.in-Some.ensures.bytes) in
+    let dst = closed-HasBytes ask.dst to (sym c.in-Some-bytes_of.ensures.bytes) in
+    let every = c.in_ok-fits.ensures.0 c.if-not-fits.false in
+    rw c.requires.assume (fits-Transmutes (holds A) (closed_type ask.src) (closed_type ask.dst) from to src dst
+    (EveryFits-bytes c.in_ok-src.src c.in_ok-dst.dst from to c.in_ok-src.ensures.words c.in_ok-dst.ensures.words c.in_ok-dst.ensures.size every))

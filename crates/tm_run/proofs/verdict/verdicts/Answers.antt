@@ -12,6 +12,6 @@ loop-ask-preserved c =
     let at = c.loop-ask.ask-index in
     let item = c.ask-item.result in
     let more = take_more asks at item c.loop-ask-test.true ∙ ap (λ a. take at asks ++ a ∷ []) (sym c.ask-item.is) in
-    let all = AreTrueVerdicts-push (take at asks) c.loop-ask.answers.items item c.answer.result c.loop-ask.invariant c.answer.ensures in
+    let all = AreTrueVerdicts-push (take at asks) c.loop-ask.answers.items item c.in_ok-verdict.verdict c.loop-ask.invariant c.in_ok-verdict.ensures in
     subst (λ (xs : List Ask). AreTrueVerdicts xs c.push.new.self.items) (sym more)
-    (subst (λ (vs : List Verdict). AreTrueVerdicts (take at asks ++ item ∷ []) vs) (sym c.in_ok-push.ensures.items) all)
+    (subst (λ (vs : List Verdict). AreTrueVerdicts (take at asks ++ item ∷ []) vs) (sym c.in-Ok.ensures.items) all)
