@@ -21,3 +21,4 @@ pub mod ExpandedLemmas
 pub mod WorldLemmas
 pub mod TextLemmas
 pub mod ShapeLemmas
+pub mod SpellingLemmas

@@ -1,9 +1,9 @@
 -- The texts of types, kind by kind, where at most n references may stand behind one another.
-use Rattle.std.proofs.Common.{◌≡◌, ℕ, zero, suc, refl, ◌∙◌, ap, List, [], ◌∷◌, ◌++◌, map, Some, slice_get, if◌then◌else◌}
+use Rattle.std.proofs.Common.{◌≡◌, ℕ, zero, suc, refl, ◌∙◌, ap, List, [], ◌∷◌, ◌++◌, map, None, Some, slice_get, if◌then◌else◌}
 use Rattle.std.specs.Prelude.{codes, decimal}
 use Rattle.tm_base.specs.declared.cell.RefId.{RefId}
 use Rattle.tm_base.specs.declared.definition.RefRow.{RefRow}
-use Rattle.tm_base.specs.declared.ground.Ground.{Ground, Prim, Tuple, Array, Named, NonZero, Wrap, Ref}
+use Rattle.tm_base.specs.declared.ground.Ground.{Ground, Prim, Never, Unit, Tuple, Array, Named, NonZero, Wrap, Ref}
 use Rattle.tm_base.specs.declared.ground.NamedId.{NamedId}
 use Rattle.tm_base.specs.declared.ground.Primitive.{Primitive}
 use Rattle.tm_base.specs.declared.ground.Wrapper.{Wrapper}
@@ -21,6 +21,16 @@ module _ (tables : Tables) where
   unfolding spelled_within spell spelled_text
   text-Prim zero p = refl
   text-Prim (suc n) p = refl
+
+  pub text-Never : (n : ℕ) → text_within n Never ≡ codes "!"
+  unfolding spelled_within spell spelled_text
+  text-Never zero = refl
+  text-Never (suc n) = refl
+
+  pub text-Unit : (n : ℕ) → text_within n Unit ≡ codes "()"
+  unfolding spelled_within spell spelled_text
+  text-Unit zero = refl
+  text-Unit (suc n) = refl
 
   pub text-NonZero : (n : ℕ) (p : Primitive) → text_within n (NonZero p) ≡ applied (codes "NonZero") (prim_text p)
   unfolding spelled_within spell spelled_text
@@ -57,3 +67,17 @@ module _ (tables : Tables) where
       → text_within (suc n) (Ref r) ≡ codes "&" ++ region_text tables row.region ++ (if row.mutable then codes " mut " else codes " ") ++ text_within n row.pointee
   unfolding spelled_within spell spelled_text
   text-Ref n r row e = ap (λ found. spelled_text tables (follow_row (spelled_within n tables.refs) found)) e
+
+  -- nothing, where no reference may stand or the number names none
+  pub text-nowhere : (r : RefId) → text_within zero (Ref r) ≡ []
+  unfolding spelled_within spell spelled_text
+  text-nowhere r = refl
+
+  pub text-nothing : (n : ℕ) (r : RefId) → slice_get tables.refs r.0 ≡ None → text_within n (Ref r) ≡ []
+  unfolding spelled_within spell spelled_text
+  text-nothing zero r e = refl
+  text-nothing (suc n) r e = ap (λ found. spelled_text tables (follow_row (spelled_within n tables.refs) found)) e
+
+  pub text-Ref-behind : (n m : ℕ) (r : RefId) (row : RefRow) → n ≡ suc m → slice_get tables.refs r.0 ≡ Some row
+      → text_within n (Ref r) ≡ codes "&" ++ region_text tables row.region ++ (if row.mutable then codes " mut " else codes " ") ++ text_within m row.pointee
+  text-Ref-behind n m r row e found = ap (λ k. text_within k (Ref r)) e ∙ text-Ref m r row found

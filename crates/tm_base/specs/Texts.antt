@@ -1,6 +1,6 @@
 -- Canonical texts of types, as bytes. Regions are written with their declared names or `'static`. This
 -- project's form, after Rust's own.
-use Rattle.std.specs.Prelude.{ℕ, if◌then◌else◌, List, [], ◌∷◌, ◌++◌, map, Option, Some, None, slice_get, unwrap_or, codes, decimal}
+use Rattle.std.specs.Prelude.{ℕ, zero, suc, if◌then◌else◌, List, [], ◌∷◌, ◌++◌, map, Option, Some, None, slice_get, unwrap_or, codes, decimal}
 use Rattle.tm_base.specs.declared.definition.Def.{Def}
 use Rattle.tm_base.specs.declared.definition.NamedRow.{NamedRow}
 use Rattle.tm_base.specs.declared.definition.RegionId.{RegionId}
@@ -46,6 +46,11 @@ abbrev pub separated : List (List ℕ) → List ℕ
 separated [] = []
 separated (text ∷ []) = text
 separated (text ∷ other ∷ others) = text ++ codes ", " ++ separated (other ∷ others)
+
+-- what stands before the text with a number
+abbrev pub comma_before : ℕ → List ℕ
+comma_before zero = []
+comma_before (suc n) = codes ", "
 
 -- a generic type with an argument
 abbrev pub applied : List ℕ → List ℕ → List ℕ

@@ -33,20 +33,25 @@ pub struct World {
 }
 
 #[cfg(test)]
-mod tests {
+pub(crate) mod tests {
     use super::*;
+    use std::alloc::Global;
 
-    #[test]
-    fn an_empty_world_is_one(rt: HostRuntime) {
-        let alloc = rt.alloc();
-        let world = World {
+    /// A world without types and questions.
+    pub(crate) fn empty_world(alloc: Global) -> World {
+        World {
             defs: List::new(alloc),
             regions: List::new(alloc),
             bounds: List::new(alloc),
             named: List::new(alloc),
             refs: List::new(alloc),
             questions: List::new(alloc),
-        };
+        }
+    }
+
+    #[test]
+    fn an_empty_world_is_one(rt: HostRuntime) {
+        let world = empty_world(rt.alloc());
         assert_eq!(rt; world.questions.len(), 0);
     }
 }

@@ -1,0 +1,306 @@
+//! The canonical texts of types.
+ghost use Rattle.std.specs.Prelude.{◌≡◌, ◌++◌, if◌then◌else◌, codes, decimal, map, slice_get, IfOk, OnOk};
+ghost use Rattle.tm_base.specs.declared.ground.Ground.{Ref};
+ghost use Rattle.tm_base.specs.Spelled.{spelled_within};
+ghost use Rattle.tm_base.specs.Texts.{applied, prim_text, wrapper_text, comma_before, separated, tuple_text, region_text, def_text, row_text, spelled_text, text_of};
+ghost use Rattle.tm_base.specs.Worlds.{tables_of};
+
+use crate::cell::RefId;
+use crate::definition::{NamedRow, RefRow, RegionId};
+use crate::ground::{Ground, NamedId, Primitive, Wrapper};
+use crate::memory::Memory;
+use crate::text::Text;
+use crate::world::World;
+use std::alloc::Global;
+
+/// How many references may stand behind one another.
+const REFERENCE_LIMIT: u32 = 64;
+
+/// The canonical text of a type of the world, as Rust writes it: regions by their declared names or as
+/// `'static`, and one space behind each comma and semicolon.
+pub fn text_of(alloc: Global, world: &World, g: &Ground) -> Result<Text, Memory>
+    ensures { IfOk result (λ text. text ≡ text_of (tables_of world.now) g.now) }
+{
+    let mut text = Text::new(alloc);
+    write_type(alloc, world, REFERENCE_LIMIT, g, &mut text)?;
+    Ok(text)
+}
+
+/// The word that a primitive is written as.
+fn primitive_word(primitive: Primitive) -> &'static str
+    ensures { result.now ≡ prim_text primitive }
+{
+    match primitive {
+        Primitive::Bool => "bool",
+        Primitive::Char => "char",
+        Primitive::U8 => "u8",
+        Primitive::U16 => "u16",
+        Primitive::U32 => "u32",
+        Primitive::U64 => "u64",
+        Primitive::U128 => "u128",
+        Primitive::Usize => "usize",
+        Primitive::I8 => "i8",
+        Primitive::I16 => "i16",
+        Primitive::I32 => "i32",
+        Primitive::I64 => "i64",
+        Primitive::I128 => "i128",
+        Primitive::Isize => "isize",
+        Primitive::F32 => "f32",
+        Primitive::F64 => "f64",
+    }
+}
+
+/// The word that a wrapper is written as.
+fn wrapper_word(wrapper: Wrapper) -> &'static str
+    ensures { result.now ≡ wrapper_text wrapper }
+{
+    match wrapper {
+        Wrapper::Option => "Option",
+        Wrapper::MaybeUninit => "MaybeUninit",
+        Wrapper::ManuallyDrop => "ManuallyDrop",
+        Wrapper::Wrapping => "Wrapping",
+        Wrapper::Cell => "Cell",
+        Wrapper::UnsafeCell => "UnsafeCell",
+        Wrapper::PhantomData => "PhantomData",
+    }
+}
+
+/// Writes a region's name.
+fn write_region(world: &World, region: RegionId, text: &mut Text) -> Result<(), Memory>
+    ensures { OnOk result (text.new ≡ text.old ++ region_text (tables_of world.now) region) }
+{
+    match world.regions.get(region.0 as usize) {
+        None => Ok(()),
+        Some(name) => text.push_str(name.as_str()),
+    }
+}
+
+/// Writes what separates the item at a place from the one before it.
+fn write_comma(place: usize, text: &mut Text) -> Result<(), Memory>
+    ensures { OnOk result (text.new ≡ text.old ++ comma_before place) }
+{
+    if place == 0 {
+        return Ok(());
+    }
+    text.push_str(", ")
+}
+
+/// Writes the names of some regions, with commas between them.
+fn write_regions(world: &World, regions: &[RegionId], text: &mut Text) -> Result<(), Memory>
+    ensures { OnOk result (text.new ≡ text.old ++ separated (map (region_text (tables_of world.now)) regions.now)) }
+{
+    for (place, region) in regions.iter().enumerate() {
+        write_comma(place, text)?;
+        write_region(world, *region, text)?;
+    }
+    Ok(())
+}
+
+/// Writes a named type: its definition's name, and its regions where it has some.
+fn write_row(world: &World, row: &NamedRow, text: &mut Text) -> Result<(), Memory>
+    ensures { OnOk result (text.new ≡ text.old ++ def_text (tables_of world.now) row.now.regions (slice_get world.now.defs row.now.def.0)) }
+{
+    let Some(def) = world.defs.get(row.def.0 as usize) else {
+        return Ok(());
+    };
+    text.push_str(def.name.as_str())?;
+    let regions = row.regions.as_slice();
+    if regions.is_empty() {
+        return Ok(());
+    }
+    text.push_str("<")?;
+    write_regions(world, regions, text)?;
+    text.push_str(">")
+}
+
+/// Writes the named type with a number.
+fn write_named(world: &World, id: NamedId, text: &mut Text) -> Result<(), Memory>
+    ensures { OnOk result (text.new ≡ text.old ++ row_text (tables_of world.now) (slice_get world.now.named id.0)) }
+{
+    match world.named.get(id.0 as usize) {
+        None => Ok(()),
+        Some(row) => write_row(world, row, text),
+    }
+}
+
+/// Writes a number in decimal.
+fn write_number(alloc: Global, number: u32, text: &mut Text) -> Result<(), Memory>
+    ensures { OnOk result (text.new ≡ text.old ++ decimal number) }
+{
+    match format!(in alloc; "{number}") {
+        Ok(digits) => text.push_str(digits.as_str()),
+        Err(_) => Err(Memory),
+    }
+}
+
+/// Writes `NonZero` of a primitive.
+fn write_nonzero(primitive: Primitive, text: &mut Text) -> Result<(), Memory>
+    ensures { OnOk result (text.new ≡ text.old ++ applied (codes "NonZero") (prim_text primitive)) }
+{
+    text.push_str("NonZero<")?;
+    text.push_str(primitive_word(primitive))?;
+    text.push_str(">")
+}
+
+/// Writes a type in which at most `left` references stand behind one another.
+#[cycle(spelling)]
+fn write_type(
+    alloc: Global,
+    world: &World,
+    left: u32,
+    g: &Ground,
+    text: &mut Text,
+) -> Result<(), Memory>
+    ensures { OnOk result (text.new ≡ text.old ++ spelled_text (tables_of world.now) (spelled_within left world.now.refs g.now)) }
+{
+    match g {
+        Ground::Prim(primitive) => text.push_str(primitive_word(*primitive)),
+        Ground::Never => text.push_str("!"),
+        Ground::Unit => text.push_str("()"),
+        Ground::Tuple(elements) => write_tuple(alloc, world, left, elements.as_slice(), text),
+        Ground::Array(element, length) => {
+            write_array(alloc, world, left, element.get(), *length, text)
+        }
+        Ground::Named(id) => write_named(world, *id, text),
+        Ground::NonZero(primitive) => write_nonzero(*primitive, text),
+        Ground::Wrap(wrapper, argument) => {
+            write_wrap(alloc, world, left, *wrapper, argument.get(), text)
+        }
+        Ground::Ref(id) => write_ref(alloc, world, left, *id, text),
+    }
+}
+
+/// Writes a tuple. One element alone has a comma behind it.
+#[cycle(spelling)]
+fn write_tuple(
+    alloc: Global,
+    world: &World,
+    left: u32,
+    elements: &[Ground],
+    text: &mut Text,
+) -> Result<(), Memory>
+    ensures { OnOk result (text.new ≡ text.old ++ tuple_text (map (λ g. spelled_text (tables_of world.now) (spelled_within left world.now.refs g)) elements.now)) }
+{
+    text.push_str("(")?;
+    write_elements(alloc, world, left, elements, text)?;
+    text.push_str(if elements.len() == 1 { ",)" } else { ")" })
+}
+
+/// Writes some types, with commas between them.
+#[cycle(spelling)]
+fn write_elements(
+    alloc: Global,
+    world: &World,
+    left: u32,
+    elements: &[Ground],
+    text: &mut Text,
+) -> Result<(), Memory>
+    ensures { OnOk result (text.new ≡ text.old ++ separated (map (λ g. spelled_text (tables_of world.now) (spelled_within left world.now.refs g)) elements.now)) }
+{
+    for (place, element) in elements.iter().enumerate() {
+        write_comma(place, text)?;
+        write_type(alloc, world, left, element, text)?;
+    }
+    Ok(())
+}
+
+/// Writes an array.
+#[cycle(spelling)]
+fn write_array(
+    alloc: Global,
+    world: &World,
+    left: u32,
+    element: &Ground,
+    length: u32,
+    text: &mut Text,
+) -> Result<(), Memory>
+    ensures { OnOk result (text.new ≡ text.old ++ (codes "[" ++ spelled_text (tables_of world.now) (spelled_within left world.now.refs element.now) ++ codes "; " ++ decimal length ++ codes "]")) }
+{
+    text.push_str("[")?;
+    write_type(alloc, world, left, element, text)?;
+    text.push_str("; ")?;
+    write_number(alloc, length, text)?;
+    text.push_str("]")
+}
+
+/// Writes a generic type with its argument.
+#[cycle(spelling)]
+fn write_wrap(
+    alloc: Global,
+    world: &World,
+    left: u32,
+    wrapper: Wrapper,
+    argument: &Ground,
+    text: &mut Text,
+) -> Result<(), Memory>
+    ensures { OnOk result (text.new ≡ text.old ++ applied (wrapper_text wrapper) (spelled_text (tables_of world.now) (spelled_within left world.now.refs argument.now))) }
+{
+    text.push_str(wrapper_word(wrapper))?;
+    text.push_str("<")?;
+    write_type(alloc, world, left, argument, text)?;
+    text.push_str(">")
+}
+
+/// Writes the reference type with a number; nothing where no reference may stand here.
+#[cycle(spelling)]
+fn write_ref(
+    alloc: Global,
+    world: &World,
+    left: u32,
+    id: RefId,
+    text: &mut Text,
+) -> Result<(), Memory>
+    ensures { OnOk result (text.new ≡ text.old ++ spelled_text (tables_of world.now) (spelled_within left world.now.refs (Ref id))) }
+{
+    if left == 0 {
+        return Ok(());
+    }
+    match world.refs.get(id.0 as usize) {
+        None => Ok(()),
+        Some(row) => write_row_of_ref(alloc, world, left - 1, row, text),
+    }
+}
+
+/// Writes a reference, its pointee with at most `left` references behind one another.
+#[cycle(spelling)]
+fn write_row_of_ref(
+    alloc: Global,
+    world: &World,
+    left: u32,
+    row: &RefRow,
+    text: &mut Text,
+) -> Result<(), Memory>
+    ensures { OnOk result (text.new ≡ text.old ++ (codes "&" ++ region_text (tables_of world.now) row.now.region ++ (if row.now.mutable then codes " mut " else codes " ") ++ spelled_text (tables_of world.now) (spelled_within left world.now.refs row.now.pointee))) }
+{
+    text.push_str("&")?;
+    write_region(world, row.region, text)?;
+    text.push_str(if row.mutable { " mut " } else { " " })?;
+    write_type(alloc, world, left, &row.pointee, text)
+}
+
+#[cfg(test)]
+mod tests {
+    use super::*;
+    use crate::boxed::Boxed;
+    use crate::list::List;
+    use crate::world::tests::empty_world;
+
+    /// The text of `(Option<[u8; 4]>,)`.
+    fn sample(alloc: Global) -> Result<Text, Memory> {
+        let array = Ground::Array(Boxed::new(alloc, Ground::Prim(Primitive::U8))?, 4);
+        let option = Ground::Wrap(Wrapper::Option, Boxed::new(alloc, array)?);
+        let mut elements = List::new(alloc);
+        match elements.push(option) {
+            Ok(()) => text_of(alloc, &empty_world(alloc), &Ground::Tuple(elements)),
+            Err(_) => Err(Memory),
+        }
+    }
+
+    #[test]
+    fn one_element_has_a_comma(rt: HostRuntime) {
+        let Ok(text) = sample(rt.alloc()) else {
+            panic!(rt; "the text wants memory");
+        };
+        assert_eq!(rt; text.as_str(), "(Option<[u8; 4]>,)");
+    }
+}
