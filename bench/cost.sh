@@ -29,9 +29,9 @@ questions 1 512
 measure "1 question, arrays of 512 elements"
 questions 1 4096
 measure "1 question, arrays of 4096 elements"
+questions 16 4096
+measure "16 questions, arrays of 4096 elements"
 questions 64 4096
 measure "64 questions, arrays of 4096 elements"
-questions 256 4096
-measure "256 questions, arrays of 4096 elements"
 head -c 1048576 /dev/zero | tr '\0' ' ' >"$work/file"
 measure "1048576 bytes of white space"
