@@ -105,3 +105,142 @@ pub fn terminals(alloc: Global, text: &str, tokens: &[Token]) -> Result<Vec<Term
     }
     Ok(terminals)
 }
+
+#[cfg(test)]
+mod tests {
+    use super::*;
+    use tm_base::{Primitive, Wrapper};
+    use tm_lex::lex;
+
+    /// The terminals of a text, where it has tokens.
+    fn read(alloc: Global, text: &str) -> Option<Vec<Terminal>>
+        requires { length text.now ≤ 1048576 }
+    {
+        let tokens = lex(alloc, text).ok()?;
+        terminals(alloc, text, tokens.as_slice()).ok()
+    }
+
+    /// The class of the first token of a text.
+    fn class(alloc: Global, text: &str) -> Option<Class>
+        requires { length text.now ≤ 1048576 }
+    {
+        let found = read(alloc, text)?;
+        found.first().map(|terminal| terminal.class)
+    }
+
+    /// Whether the terminals of a text are of these classes and sizes, and have their places from 0 on.
+    fn reads(alloc: Global, text: &str, wanted: &[(Class, u32)]) -> bool
+        requires { length text.now ≤ 1048576 }
+    {
+        let Some(found) = read(alloc, text) else {
+            return false;
+        };
+        found.len() == wanted.len()
+            && found.iter().zip(wanted).enumerate().all(|(place, (terminal, (class, size)))| {
+                terminal.class.is_alike(*class)
+                    && terminal.place as usize == place
+                    && terminal.size == *size
+            })
+    }
+
+    #[test]
+    fn gives_class_place_and_size(rt: HostRuntime) {
+        let wanted = [
+            (Class::Ask, 3),
+            (Class::Ampersand, 1),
+            (Class::Lifetime, 2),
+            (Class::Mut, 3),
+            (Class::Name, 7),
+            (Class::Arrow, 2),
+            (Class::OpenBracket, 1),
+            (Class::Integer(Primitive::U8), 2),
+            (Class::Semicolon, 1),
+            (Class::Number(16), 4),
+            (Class::CloseBracket, 1),
+            (Class::Semicolon, 1),
+        ];
+        assert!(rt; reads(rt.alloc(), "ask &'a mut größe => [u8; 0x10];", &wanted));
+    }
+
+    #[test]
+    fn tells_the_sorts_of_words_apart(rt: HostRuntime) {
+        assert!(rt; matches!(class(rt.alloc(), "0x10"), Some(Class::Number(16))));
+        assert!(rt; matches!(class(rt.alloc(), "enum"), Some(Class::Enum)));
+        assert!(rt; matches!(class(rt.alloc(), "fn"), Some(Class::Keyword)));
+        assert!(rt; matches!(class(rt.alloc(), "_"), Some(Class::Keyword)));
+        assert!(rt; matches!(class(rt.alloc(), "self"), Some(Class::Myself)));
+        assert!(rt; matches!(class(rt.alloc(), "Self"), Some(Class::Keyword)));
+        assert!(rt; matches!(class(rt.alloc(), "union"), Some(Class::Union)));
+        assert!(rt; matches!(class(rt.alloc(), "lifetime"), Some(Class::Declare)));
+        assert!(rt; matches!(class(rt.alloc(), "lifetimes"), Some(Class::Lifetimes)));
+        assert!(rt;
+            matches!(
+                class(rt.alloc(), "isize"),
+                Some(Class::Integer(Primitive::Isize))
+            )
+        );
+        assert!(rt;
+            matches!(
+                class(rt.alloc(), "char"),
+                Some(Class::Scalar(Primitive::Char))
+            )
+        );
+        assert!(rt;
+            matches!(
+                class(rt.alloc(), "NonZeroI16"),
+                Some(Class::Alias(Primitive::I16))
+            )
+        );
+        assert!(rt;
+            matches!(
+                class(rt.alloc(), "Cell"),
+                Some(Class::Generic(Wrapper::Cell))
+            )
+        );
+        assert!(rt; matches!(class(rt.alloc(), "NonZero"), Some(Class::NonZero)));
+        assert!(rt; matches!(class(rt.alloc(), "Box"), Some(Class::Foreign)));
+    }
+
+    #[test]
+    fn takes_any_other_word_for_a_name(rt: HostRuntime) {
+        for word in [
+            "Union",
+            "SELF",
+            "__",
+            "u9",
+            "NonZeroU9",
+            "virtual",
+            "static_",
+            "Vec",
+        ] {
+            assert!(rt; word.len() < 10);
+            assert!(rt;
+                matches!(class(rt.alloc(), word), Some(Class::Name)),
+                "at {word}"
+            );
+        }
+    }
+
+    #[test]
+    fn tells_marks_apart(rt: HostRuntime) {
+        let wanted = [
+            (Class::OpenBrace, 1),
+            (Class::CloseBrace, 1),
+            (Class::OpenParen, 1),
+            (Class::CloseParen, 1),
+            (Class::OpenBracket, 1),
+            (Class::CloseBracket, 1),
+            (Class::Less, 1),
+            (Class::Greater, 1),
+            (Class::Comma, 1),
+            (Class::Semicolon, 1),
+            (Class::Colon, 1),
+            (Class::Equals, 1),
+            (Class::Ampersand, 1),
+            (Class::Bang, 1),
+            (Class::Hash, 1),
+            (Class::Minus, 1),
+        ];
+        assert!(rt; reads(rt.alloc(), "{}()[]<>,;:=&!#-", &wanted));
+    }
+}
