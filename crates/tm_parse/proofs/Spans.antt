@@ -1,5 +1,5 @@
 -- Where the tokens of a text stand in it, and that they are no more than its bytes.
-use Rattle.std.proofs.Common.{◌≡◌, ℕ, ◌+◌, ◌<◌, ◌≤◌, zero, suc, Ok, List, [], ◌∷◌, length, slice_index_or, arith}
+use Rattle.std.proofs.Common.{ℕ, ◌+◌, ◌<◌, ◌≤◌, zero, suc, Ok, List, [], ◌∷◌, length, slice_index_or, arith}
 use Rattle.std.specs.Str.{IsUtf8}
 use Rattle.tm_lex.specs.declared.token.Token.{Token}
 use Rattle.tm_lex.specs.Lexes.{Tokenizes, InOrder}

@@ -1,6 +1,6 @@
 -- The words and the marks that the grammar knows, each with its class; any other word is a name.
 -- The keywords are the strict ones of the Rust Reference, "Keywords", and `_`, which is no name either.
--- Those that it calls reserved are names here, and so are its weak ones outside the places of their own.
+-- Those that it calls reserved or weak are names, but for `union`, which is a keyword in its place.
 use Prim.Native.String.{String}
 use Rattle.std.specs.Prelude.{ℕ, List, [], ◌∷◌, ◌++◌, codes, map}
 use Rattle.tm_base.specs.declared.ground.Primitive.TheVariants as primitive
@@ -59,17 +59,21 @@ nonzero_aliases =
     ∷ "NonZeroI32" means c.Alias primitive.I32 ∷ "NonZeroI64" means c.Alias primitive.I64
     ∷ "NonZeroI128" means c.Alias primitive.I128 ∷ "NonZeroIsize" means c.Alias primitive.Isize ∷ []
 
--- other types of the standard library
-abbrev pub library_types : List Spelling
-library_types =
+-- generic types of the standard library with one argument
+abbrev pub generic_types : List Spelling
+generic_types =
     "Option" means c.Generic wrapper.Option ∷ "MaybeUninit" means c.Generic wrapper.MaybeUninit
     ∷ "ManuallyDrop" means c.Generic wrapper.ManuallyDrop ∷ "Wrapping" means c.Generic wrapper.Wrapping
     ∷ "Cell" means c.Generic wrapper.Cell ∷ "UnsafeCell" means c.Generic wrapper.UnsafeCell
-    ∷ "PhantomData" means c.Generic wrapper.PhantomData ∷ "NonZero" means c.NonZero
-    ∷ "str" means c.Foreign ∷ "Box" means c.Foreign ∷ "NonNull" means c.Foreign ∷ []
+    ∷ "PhantomData" means c.Generic wrapper.PhantomData ∷ "NonZero" means c.NonZero ∷ []
+
+-- Rust's types that are none of the grammar's, though no definition may have their names
+abbrev pub foreign_types : List Spelling
+foreign_types = "str" means c.Foreign ∷ "Box" means c.Foreign ∷ "NonNull" means c.Foreign ∷ []
 
 abbrev pub words : List Spelling
-words = grammar_keywords ++ other_keywords ++ words_of_places ++ primitive_types ++ nonzero_aliases ++ library_types
+words = grammar_keywords ++ other_keywords ++ words_of_places
+    ++ primitive_types ++ nonzero_aliases ++ generic_types ++ foreign_types
 
 -- the marks of one character
 abbrev pub marks : List Spelling

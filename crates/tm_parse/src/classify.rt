@@ -73,7 +73,8 @@ fn class_of(text: &str, token: Token) -> Class
     }
 }
 
-/// The terminal of the token at a place.
+/// The terminal of the token at a place in the list, which is no greater than its first byte's, since
+/// each token before it has a byte.
 fn terminal(text: &str, place: usize, token: Token) -> Terminal
     requires before { place ≤ token.start }
     requires ordered { token.start ≤ token.end }

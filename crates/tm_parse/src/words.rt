@@ -1,7 +1,7 @@
 use crate::class::Class;
 use tm_base::{Primitive, Wrapper};
 
-/// The words that are no names, or names only in places, each with its class.
+/// The words that the grammar knows, each with its class. Any other word is a name.
 pub const WORDS: [(&str, Class); 93] = [
     ("crate", Class::Crate),
     ("enum", Class::Enum),
