@@ -20,3 +20,5 @@ pub mod Prefixes
 pub mod Exactness
 pub mod Worked
 pub mod WorkedLimits
+mod Spans
+mod Tables

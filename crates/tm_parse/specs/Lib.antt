@@ -1,4 +1,6 @@
 pub mod Classes
+pub mod Words
+pub mod Spelling
 pub mod Events
 pub mod Limits
 pub mod Parts

@@ -3,6 +3,7 @@
 #![tactic(auto)]
 
 mod class;
+mod classify;
 mod counting;
 mod counts;
 mod laws;
@@ -11,8 +12,10 @@ mod parsed;
 mod reading;
 mod stop;
 mod terminal;
+mod words;
 
 pub use class::Class;
+pub use classify::terminals;
 pub use counts::Counts;
 pub use laws::grammar_is_exact;
 pub use parsed::{
