@@ -1,10 +1,12 @@
 -- A run that writes its outcome, and one that stops before it writes.
-use Rattle.std.proofs.Common.{◌≡◌, ◌≢◌, ◌∙◌, ℕ, ◌<◌, ◌≤◌, ◌⊎◌, inl, inr, ◌↔◌, refl, sym, ap, subst, Option, Some, List, [], length, drop, arith, length-drop}
+use Rattle.std.proofs.Common.{◌≡◌, ◌≢◌, ◌∙◌, ℕ, ◌<◌, ◌≤◌, ◌⊎◌, inl, inr, ◌↔◌, refl, sym, ap, subst, Option, Some, None, List, [], length, drop, arith, length-drop}
 use Rattle.std.proofs.lemmas.List.{nil_from_length}
+use Rattle.tm_base.specs.declared.limit.LimitKind.TheVariants.{FileBytes}
 use Rattle.tm_io.specs.Faults.{Rose}
 use Rattle.tm_io.specs.Told.{TakesAll, TakesPast, AddsAll, AddsPrefix}
+use Rattle.tm_report.specs.declared.fault.FileFault.TheVariants.{Passed}
 use Rattle.tm_run.specs.Outcomes.{file_bytes, usage_line, limit_line, IsAccepted, IsReport, IsFileOutcome, IsOutcome, IsSettled, IsTold}
-use Rattle.tm_run.specs.Runs.{Finishes, Answers, Runs}
+use Rattle.tm_run.specs.Runs.{Finishes, Answers, Declines, Runs}
 use Rattle.tm_run.specs.declared.status.Status.{Status}
 use Rattle.tm_run.specs.declared.status.Status.TheVariants.{AllYes, Mixed, Usage, BadText, Limit, ReadFault, WriteFault, Memory, IllFormed}
 
@@ -200,8 +202,8 @@ module _ {W : Type 0} (words : List W) (left left' : Option (List ℕ)) (reads r
         taken = λ file e told. absurd (omega arith);
       }) f
 
-  -- more bytes than a file may have
-  pub too_long : (result : Status) → length words ≡ 0 → reads' ≡ reads → TakesPast left left' 1048576 → Finishes Limit limit_line written written' writes writes' result
+  -- more bytes than a file may have, and the line that says so
+  too_long : (result : Status) → length words ≡ 0 → reads' ≡ reads → TakesPast left left' 1048576 → Finishes Limit limit_line written written' writes writes' result
       → Runs words left left' reads reads' written written' writes writes' result
   too_long result in_form count past f = finished words left left' reads reads' written written' writes writes' Limit limit_line result
       (record {
@@ -220,6 +222,14 @@ module _ {W : Type 0} (words : List W) (left left' : Option (List ℕ)) (reads r
       by : (file : List ℕ) → IsTold words left file → IsOutcome words file Limit limit_line
       by file (inl some) = absurd (omega arith)
       by file (inr told) = (in_form, (subst (λ (l : Option (List ℕ)). TakesPast l left' 1048576) told past).0, refl)
+
+  -- more bytes than a file may have, or no memory for the line
+  pub declined : (result : Status) → length words ≡ 0 → reads' ≡ reads → TakesPast left left' 1048576
+      → Declines (Passed FileBytes None) Limit written written' writes writes' result → Runs words left left' reads reads' written written' writes writes' result
+  declined result in_form count past (inl f) = too_long result in_form count past f
+  declined result in_form count past (inr (e, same, unwritten)) =
+      subst (λ (s : Status). Runs words left left' reads reads' written written' writes writes' s) (sym e)
+      (no_memory words left left' reads reads' written written' writes writes' in_form count same unwritten)
 
   -- a file that was read whole
   pub answered : (result : Status) (bytes : List ℕ) → length words ≡ 0 → reads' ≡ reads → TakesAll left left' bytes → length bytes ≤ 1048576

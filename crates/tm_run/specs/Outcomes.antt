@@ -1,7 +1,10 @@
 -- What a run comes to: a status, and the bytes that are written.
-use Rattle.std.specs.Prelude.{◌≡◌, ℕ, ◌<◌, ◌≤◌, ◌⊎◌, Option, Some, List, ◌++◌, length, codes}
+use Rattle.std.specs.Prelude.{◌≡◌, ℕ, ◌<◌, ◌≤◌, ◌⊎◌, Option, Some, None, List, ◌++◌, length, codes}
 use Rattle.tm_base.specs.declared.ask.Ask.{Ask}
+use Rattle.tm_base.specs.declared.limit.LimitKind.TheVariants.{FileBytes}
 use Rattle.tm_io.specs.Told.{AddsAll, AddsPrefix}
+use Rattle.tm_report.specs.FaultLines.{line_of}
+use Rattle.tm_report.specs.declared.fault.FileFault.TheVariants.{Passed}
 use Rattle.tm_run.specs.Files.{Spells}
 use Rattle.tm_run.specs.Report.{line_end, report_of, status_of}
 use Rattle.tm_run.specs.Verdicts.{AreTrueVerdicts}
@@ -19,8 +22,9 @@ usage_line = codes "usage: transmute_report" ++ line_end
 abbrev pub bad_text_line : List ℕ
 bad_text_line = codes "bad text" ++ line_end
 
+-- `limit file-bytes 1048576 passed`
 abbrev pub limit_line : List ℕ
-limit_line = codes "limit file-bytes 1048576 passed" ++ line_end
+limit_line = line_of (Passed FileBytes None)
 
 -- the file is not too long and spells questions
 abbrev pub IsAccepted : List ℕ → Type 0

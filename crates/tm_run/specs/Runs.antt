@@ -2,6 +2,8 @@
 use Rattle.std.specs.Prelude.{◌≡◌, ◌≢◌, ℕ, ◌<◌, ◌≤◌, ◌⊎◌, ◌↔◌, Option, Some, List, length, drop}
 use Rattle.tm_io.specs.Faults.{Rose}
 use Rattle.tm_io.specs.Told.{AddsAll, AddsPrefix}
+use Rattle.tm_report.specs.FaultLines.{line_of}
+use Rattle.tm_report.specs.declared.fault.FileFault.{FileFault}
 use Rattle.tm_run.specs.Outcomes.{file_bytes, IsAccepted, IsFileOutcome, IsSettled, IsTold, IsRead, WritesOutcome, WritesPrefix, WritesReport}
 use Rattle.tm_run.specs.declared.status.Status.{Status}
 use Rattle.tm_run.specs.declared.status.Status.TheVariants.{Usage, BadText, Limit, ReadFault, WriteFault, Memory, IllFormed}
@@ -12,11 +14,20 @@ pub record Finishes (status : Status) (text : List ℕ) (written written' : Opti
   pub part : AddsPrefix written written' text
   pub risen : faults < faults' → result ≡ WriteFault
 
+-- memory is wanting, and nothing is written
+abbrev pub WantsMemory : Option (List ℕ) → Option (List ℕ) → ℕ → ℕ → Status → Type 0
+WantsMemory written written' faults faults' result = (result ≡ Memory) × (written' ≡ written) × (faults' ≡ faults)
+
+-- The line of a fault is written, or memory is wanting.
+abbrev pub Declines : FileFault → Status → Option (List ℕ) → Option (List ℕ) → ℕ → ℕ → Status → Type 0
+Declines fault status written written' faults faults' result =
+    Finishes status (line_of fault) written written' faults faults' result ⊎ WantsMemory written written' faults faults' result
+
 -- The outcome of a file that isn't too long is written, or memory is wanting.
 abbrev pub Answers : List ℕ → Option (List ℕ) → Option (List ℕ) → ℕ → ℕ → Status → Type 0
 Answers file written written' faults faults' result =
     ((status : Status) × (text : List ℕ) × IsSettled status × IsFileOutcome file status text × Finishes status text written written' faults faults' result)
-    ⊎ ((result ≡ Memory) × (written' ≡ written) × (faults' ≡ faults))
+    ⊎ WantsMemory written written' faults faults' result
 
 module _ {W : Type 0} (words : List W) (left left' : Option (List ℕ)) (reads reads' : ℕ) (written written' : Option (List ℕ)) (writes writes' : ℕ) where
   pub record Runs (status : Status) : Type 0 where

@@ -2,14 +2,16 @@ ghost use Rattle.std.specs.Prelude.{◌≡◌, ◌≢◌, ℕ, ◌<◌, ◌≤�
 ghost use Rattle.tm_io.specs.Faults.{Rose};
 ghost use Rattle.tm_io.specs.Told.{AddsAll};
 ghost use Rattle.tm_run.specs.Outcomes.{IsAccepted, IsReport, IsSettled, IsTold, IsRead, WritesOutcome, WritesPrefix, WritesReport, file_bytes};
-ghost use Rattle.tm_run.specs.Runs.{Finishes, Runs, Answers};
+ghost use Rattle.tm_run.specs.Runs.{Finishes, Runs, Answers, Declines};
 
 use crate::file::{FileErr, questions};
 use crate::report::{report, status};
 use crate::status::Status;
 use crate::verdict::verdicts;
 use std::alloc::Global;
+use tm_base::LimitKind;
 use tm_io::{ReadErr, Sink, SinkErr, Source, read_all, write_all};
+use tm_report::{FileFault, fault_line};
 
 /// The most bytes that an input may have.
 const FILE_BYTES: u32 = 1_048_576;
@@ -18,7 +20,8 @@ const USAGE_LINE: &str = "usage: transmute_report\n";
 
 const BAD_TEXT_LINE: &str = "bad text\n";
 
-const LIMIT_LINE: &str = "limit file-bytes 1048576 passed\n";
+/// What is wrong with an input of more than `FILE_BYTES`.
+const TOO_LONG: FileFault = FileFault::Passed(LimitKind::FileBytes, None);
 
 /// Reads questions, answers them and writes the report.
 ///
@@ -63,7 +66,7 @@ fn ran<S: Source, K: Sink>(alloc: Global, words: &[String], src: &mut S, out: &m
     match read_all(alloc, src, FILE_BYTES) {
         Ok(file) => answer(alloc, &file, out),
         Err(ReadErr::Fault) => Status::ReadFault,
-        Err(ReadErr::TooLong) => finish(out, LIMIT_LINE, Status::Limit),
+        Err(ReadErr::TooLong) => decline(alloc, TOO_LONG, Status::Limit, out),
         Err(ReadErr::Memory) => Status::Memory,
     }
 }
@@ -90,6 +93,17 @@ fn judged(alloc: Global, file: &[u8]) -> Result<(Status, String), FileErr>
     let verdicts = verdicts(alloc, asks.as_slice())?;
     let text = report(alloc, &verdicts)?;
     Ok((status(&verdicts), text))
+}
+
+/// Writes the line of a file that gets no report.
+fn decline<K: Sink>(alloc: Global, fault: FileFault, status: Status, out: &mut K) -> Status
+    requires { IsSettled status }
+    ensures { Declines fault status (K.written out.old) (K.written out.new) (K.faults out.old) (K.faults out.new) result }
+{
+    match fault_line(alloc, &fault) {
+        Ok(line) => finish(out, line.as_str(), status),
+        Err(_) => Status::Memory,
+    }
 }
 
 /// Writes a text, and says how the run ended.

@@ -1,6 +1,6 @@
 use Rattle.std.proofs.Common.{◌≡◌, ◌==◌, ◌∙◌, ◌≤◌, ◌<◌, ℕ, zero, suc, false, List, Err, length, refl, sym, ap, subst, arith, eqb-true}
 use Rattle.tm_run.specs.Runs.{Answers}
-use Rattle.tm_run.proofs.RunLemmas.{misused, too_long, answered}
+use Rattle.tm_run.proofs.RunLemmas.{misused, declined, answered}
 use Rattle.tm_run.proofs.running.ran.Goals as goal
 
 some : (n : ℕ) → (n == 0) ≡ false → 0 < n
@@ -24,4 +24,4 @@ pub returns-in-Err-TooLong : goal.returns-in-Err-TooLong
 returns-in-Err-TooLong g c =
     let none = eqb-true (length c.args.words.now) 0 (sym c.is_empty.ensures ∙ c.if-not-is_empty.false) in
     let kept : g.S.Source.faults c.read_all.new.src ≡ g.S.Source.faults c.args.src.now = c.in-Err-TooLong.ensures.kept (λ e. cc) in
-    too_long _ _ _ _ _ _ _ _ _ _ none kept (c.in-Err-TooLong.ensures.long (ap Err c.in-Err-TooLong.field-0-is)) c.finish-in-Err-TooLong.ensures
+    declined _ _ _ _ _ _ _ _ _ _ none kept (c.in-Err-TooLong.ensures.long (ap Err c.in-Err-TooLong.field-0-is)) c.decline.ensures

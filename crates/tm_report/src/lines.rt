@@ -1,0 +1,66 @@
+ghost use Rattle.std.specs.Prelude.{◌≡◌, ◌++◌, IfOk, string_bytes};
+ghost use Rattle.tm_report.specs.FaultLines.{line_end, line_of, limit_text, name_text, place_text};
+
+use crate::fault::{At, FileFault};
+use crate::words::{limit_number, limit_word, name_word};
+use std::alloc::{AllocError, Global};
+use tm_base::{LimitKind, Memory, NameWhy, Text};
+
+/// The line that says why a file gets no report, with the byte 0A at its end.
+///
+/// The error comes where memory is wanting.
+pub fn fault_line(alloc: Global, fault: &FileFault) -> Result<Text, Memory>
+    ensures { IfOk result (λ line. line ≡ line_of fault.now) }
+{
+    match line(alloc, *fault) {
+        Ok(line) => text(alloc, line.as_str()),
+        Err(_) => Err(Memory),
+    }
+}
+
+/// A text of its own with the same bytes.
+fn text(alloc: Global, piece: &str) -> Result<Text, Memory>
+    ensures { IfOk result (λ text. text ≡ piece.now) }
+{
+    let mut text = Text::new(alloc);
+    text.push_str(piece)?;
+    Ok(text)
+}
+
+fn line(alloc: Global, fault: FileFault) -> Result<String, AllocError>
+    ensures { IfOk result (λ line. string_bytes line ≡ line_of fault) }
+{
+    match fault {
+        FileFault::NotUtf8(at) => placed(alloc, "not utf-8", at),
+        FileFault::NoToken(at) => placed(alloc, "no token", at),
+        FileFault::BadNumber(at) => placed(alloc, "bad number", at),
+        FileFault::OpenComment(at) => placed(alloc, "open comment", at),
+        FileFault::Unexpected(at) => placed(alloc, "unexpected token", at),
+        FileFault::EndOfFile(at) => placed(alloc, "unexpected end", at),
+        FileFault::Passed(kind, None) => format!(in alloc; "{}\n", limit(alloc, kind)?),
+        FileFault::Passed(kind, Some(at)) => placed(alloc, limit(alloc, kind)?.as_str(), at),
+        FileFault::Names(why, at) => placed(alloc, name(alloc, why)?.as_str(), at),
+        FileFault::NotYet => String::from_str(alloc, "not built yet\n"),
+    }
+}
+
+/// The line of what stands at a place.
+fn placed(alloc: Global, what: &str, at: At) -> Result<String, AllocError>
+    ensures { IfOk result (λ line. string_bytes line ≡ what.now ++ place_text at ++ line_end) }
+{
+    format!(in alloc; "{what} at byte {}, line {}\n", at.byte, at.line)
+}
+
+/// What is said of a limit that is passed, up to its place.
+fn limit(alloc: Global, kind: LimitKind) -> Result<String, AllocError>
+    ensures { IfOk result (λ text. string_bytes text ≡ limit_text kind) }
+{
+    format!(in alloc; "limit {} {} passed", limit_word(kind), limit_number(kind))
+}
+
+/// What is said of a name fault, up to its place.
+fn name(alloc: Global, why: NameWhy) -> Result<String, AllocError>
+    ensures { IfOk result (λ text. string_bytes text ≡ name_text why) }
+{
+    format!(in alloc; "ill-formed {}", name_word(why))
+}
