@@ -1,7 +1,7 @@
 -- The edges that leave some states: one of them passes a symbol exactly where a step leads somewhere.
-use Rattle.std.proofs.Common.{◌≡◌, ◌≢◌, ◌∙◌, ℕ, ◌<◌, ◌⊎◌, inl, inr, ◌↔◌, refl, sym, ap, subst, Bool, true, false, ◌||◌, ◌==◌, List, [], ◌∷◌, filter, eqb-true, eq-eqb, if◌then◌else◌, arith, Some, slice_get, zero, suc, length, get_or}
+use Rattle.std.proofs.Common.{◌≡◌, ◌≢◌, ◌∙◌, ℕ, ◌<◌, ◌⊎◌, inl, inr, ◌↔◌, refl, sym, ap, subst, Bool, true, false, ◌||◌, ◌&&◌, ◌==◌, List, [], ◌∷◌, filter, eqb-true, eq-eqb, if◌then◌else◌, arith, Some, slice_get, zero, suc, length, get_or}
 use Rattle.std.proofs.lemmas.Bool.Decides.{nat_tests}
-use Rattle.std.specs.List.{list_any}
+use Rattle.std.specs.List.{list_any, list_all}
 use Rattle.tm_auto.proofs.AmongLemmas.{some_among, none_among, among_left, among_right, among_either}
 use Rattle.tm_auto.proofs.StepLemmas.{next_to, to_next}
 use Rattle.tm_auto.specs.Automata.{Automaton, IsAutomaton, edges_from, equal}
@@ -14,7 +14,8 @@ use Rattle.tm_auto.specs.declared.edge.Label.TheVariants as label
 use Rattle.tm_auto.specs.declared.edge.Symbol.{Symbol}
 use Rattle.tm_base.specs.declared.cell.Cell.{Cell}
 use Rattle.tm_base.specs.declared.cell.Cell.TheVariants as cell
-use Rattle.tm_run.specs.Comparing.{FitsEdges, leaving, some_passes, symbol_in}
+use Rattle.tm_base.specs.Cells.{IsFree}
+use Rattle.tm_run.specs.Comparing.{FitsEdges, are_covered, covers, leaving, some_covers, some_passes, symbol_in}
 
 among_any : {X : Type 0} (p : X → Bool) (x : X) (xs : List X) → Among x xs → p x ≡ true → list_any p xs ≡ true
 among_any p x _ (here {xs = xs}) h = rw h refl
@@ -115,3 +116,32 @@ among_at (x ∷ xs) (suc i) d h = there (among_at xs i d (omega arith))
 
 pub FitsEdges-along : (a a' b b' : List Edge) → a ≡ a' → b ≡ b' → FitsEdges a b → FitsEdges a' b'
 FitsEdges-along a a' b b' e f h = subst (λ (es : List Edge). FitsEdges a' es) f (subst (λ (es : List Edge). FitsEdges es b) e h)
+
+all_among : {X : Type 0} (p : X → Bool) (x : X) (xs : List X) → Among x xs → list_all p xs ≡ true → p x ≡ true
+all_among p x _ (here {xs = xs}) h = by (p x) h
+  where
+    by : (b : Bool) → (b && list_all p xs) ≡ true → b ≡ true
+    by true e = refl
+    by false e = e
+all_among p x _ (there {y = y} {xs = xs} m) h = by (p y) h (λ k. all_among p x xs m k)
+  where
+    by : (b : Bool) → (b && list_all p xs) ≡ true → (list_all p xs ≡ true → p x ≡ true) → p x ≡ true
+    by true e again = again e
+    by false e again = cc
+
+-- what a label takes, one that covers it takes
+covers_passes : (e f : Label) (c : Cell) → IsFree c → covers e f ≡ true → passes equal f (symbol_of c) ≡ true → passes equal e (symbol_of c) ≡ true
+covers_passes (label.Bytes low high) (label.Bytes first last) (cell.Byte b) h covered passed = search (nat_tests, arith)
+covers_passes label.Free (label.Bytes first last) (cell.Byte b) h covered passed = search (nat_tests, arith)
+covers_passes label.Free label.Free c h covered passed = passed
+covers_passes (label.Bytes low high) (label.Bytes first last) cell.Uninit h covered passed = cc
+covers_passes label.Free (label.Bytes first last) cell.Uninit h covered passed = cc
+covers_passes _ _ _ h covered passed = cc
+
+-- edges that are covered fit
+pub covered_fits : (from to : List Edge) → are_covered from to ≡ true → FitsEdges from to
+covered_fits from to h c free passed =
+    let (e, m, p) = any_among (λ f. passes equal f.label (symbol_of c)) from passed in
+    let covered : some_covers to e.label ≡ true = all_among (λ f. some_covers to f.label) e from m h in
+    let (f, k, q) = any_among (λ f. covers f.label e.label) to covered in
+    among_any (λ f. passes equal f.label (symbol_of c)) f to k (covers_passes f.label e.label c free q p)

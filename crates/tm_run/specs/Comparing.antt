@@ -1,6 +1,6 @@
 -- Whether each word of one automaton, fitted, is a word of another.
-use Rattle.std.specs.Prelude.{◌≡◌, ◌≢◌, ℕ, Bool, IsTrue, List, [], ◌∷◌, length}
-use Rattle.std.specs.List.{flat_map, list_any}
+use Rattle.std.specs.Prelude.{◌≡◌, ◌≢◌, ℕ, Bool, true, false, ◌&&◌, nat_le, nat_lt, IsTrue, List, [], ◌∷◌, length}
+use Rattle.std.specs.List.{flat_map, list_any, list_all}
 use Rattle.tm_auto.specs.Automata.{Automaton, AutoWord, IsAutomaton, ReadsWords, HasOneStateALayer, reached, edges_from, equal}
 use Rattle.tm_auto.specs.Sets.{next, passes, symbol_of}
 use Rattle.tm_auto.specs.declared.edge.Edge.{Edge}
@@ -35,6 +35,20 @@ some_passes edges symbol = list_any (λ e. passes equal e.label symbol) edges
 -- each cell but a reference's that some edge of the first takes, some edge of the second does
 abbrev pub FitsEdges : List Edge → List Edge → Type 0
 FitsEdges from to = (c : Cell) → IsFree c → IsTrue (some_passes from (symbol_of c)) → IsTrue (some_passes to (symbol_of c))
+
+-- the first label takes each cell that the second takes
+abbrev pub covers : Label → Label → Bool
+covers (label.Bytes low high) (label.Bytes first last) = nat_le low first && nat_le last high
+covers label.Free (label.Bytes first last) = nat_lt last 256
+covers label.Free label.Free = true
+covers _ _ = false
+
+-- one of the edges takes each cell that a label takes, and so for each edge of others
+abbrev pub some_covers : List Edge → Label → Bool
+some_covers edges other = list_any (λ e. covers e.label other) edges
+
+abbrev pub are_covered : List Edge → List Edge → Bool
+are_covered from to = list_all (λ e. some_covers to e.label) from
 
 -- a symbol that the label passes
 abbrev pub symbol_in : Label → Symbol

@@ -1,7 +1,7 @@
 ghost use Rattle.std.specs.Prelude.{◌≡◌, ◌≢◌, ◌<◌, ◌≤◌, ◌↔◌, [], min, IsTrue, IfOk, MatchOption, ⊤};
 ghost use Rattle.tm_auto.specs.Automata.{AreStates, IsAutomaton, ReadsWords, equal};
 ghost use Rattle.tm_auto.specs.Sets.{passes};
-ghost use Rattle.tm_run.specs.Comparing.{Advances, AreKnown, Comparable, EveryFits, FitsEdges, GoesAlong, GoesPast, States, leaving, some_passes, symbol_in};
+ghost use Rattle.tm_run.specs.Comparing.{Advances, AreKnown, Comparable, EveryFits, FitsEdges, GoesAlong, GoesPast, States, are_covered, covers, leaving, some_covers, some_passes, symbol_in};
 
 use std::alloc::Global;
 use tm_auto::{Auto, Edge, Label, StateSet, Symbol};
@@ -27,11 +27,39 @@ fn some_passes(edges: &[Edge], symbol: Symbol) -> bool
     edges.iter().any(|edge| passes(edge.label, symbol))
 }
 
+/// Whether the first label takes each cell that the second takes.
+fn covers(label: Label, other: Label) -> bool
+    ensures { result ≡ covers label other }
+{
+    match (label, other) {
+        (Label::Bytes(low, high), Label::Bytes(first, last)) => low <= first && last <= high,
+        (Label::Free, Label::Bytes(_, _)) => true,
+        (Label::Free, Label::Free) => true,
+        _ => false,
+    }
+}
+
+fn some_covers(edges: &[Edge], other: Label) -> bool
+    ensures { result ≡ some_covers edges.now other }
+{
+    edges.iter().any(|edge| covers(edge.label, other))
+}
+
+/// Whether for each of the first edges a single one of the second takes all that it takes.
+fn are_covered(from: &[Edge], to: &[Edge]) -> bool
+    ensures { result ≡ are_covered from.now to.now }
+{
+    from.iter().all(|edge| some_covers(to, edge.label))
+}
+
 /// Whether the second edges take each cell, but a reference's, that the first ones take: one byte at a
-/// time, and the uninitialised one.
+/// time, and the uninitialised one, where that isn't seen at once.
 fn fits(from: &[Edge], to: &[Edge]) -> bool
     ensures { IsTrue result ↔ FitsEdges from.now to.now }
 {
+    if are_covered(from, to) {
+        return true;
+    }
     for number in 0..256u16 {
         let byte = number as u8;
         if !goes_along(from, to, Symbol::Bytes(byte, byte)) {

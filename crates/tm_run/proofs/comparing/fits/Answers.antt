@@ -1,10 +1,17 @@
-use Rattle.std.proofs.Common.{◌≡◌, false, IsTrue, arith}
+use Rattle.std.proofs.Common.{◌≡◌, false, refl, IsTrue, arith}
 use Rattle.tm_auto.specs.Sets.{symbol_of}
 use Rattle.tm_base.specs.declared.cell.Cell.{Cell}
 use Rattle.tm_base.specs.declared.cell.Cell.TheVariants as cell
 use Rattle.tm_base.specs.Cells.{IsFree}
 use Rattle.tm_run.specs.Comparing.{some_passes}
+use Rattle.tm_run.proofs.LeavingLemmas.{covered_fits}
 use Rattle.tm_run.proofs.comparing.fits.Goals as goal
+
+pub returns-then-are_covered : goal.returns-then-are_covered
+returns-then-are_covered c = (
+  λ t. covered_fits c.args.from.now c.args.to.now (let covered = c.are_covered.ensures in let all = c.if-are_covered.true in cc),
+  λ all. refl,
+)
 
 pub returns-then-not-goes_along : goal.returns-then-not-goes_along
 returns-then-not-goes_along c = (
