@@ -6,7 +6,7 @@ ghost use Rattle.tm_parse.specs.declared.class.Class.TheVariants.{Name};
 
 use crate::class::Class;
 use crate::terminal::Terminal;
-use crate::words::WORDS;
+use crate::vocabulary::WORDS;
 use std::alloc::Global;
 use tm_base::Memory;
 use tm_lex::{Token, TokenKind};

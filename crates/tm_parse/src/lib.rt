@@ -12,7 +12,7 @@ mod parsed;
 mod reading;
 mod stop;
 mod terminal;
-mod words;
+mod vocabulary;
 
 pub use class::Class;
 pub use classify::terminals;
