@@ -2,15 +2,19 @@
 //! a list stops that begins no file.
 #![tactic(auto)]
 
+mod attributes;
 mod class;
 mod counting;
 mod counts;
 mod laws;
+mod names;
 mod numbers;
 mod parsed;
 mod reading;
+mod rule;
 mod stop;
 mod terminal;
+mod words;
 
 pub use class::Class;
 pub use counts::Counts;
