@@ -7,6 +7,7 @@ mod class;
 mod counting;
 mod counts;
 mod laws;
+mod lifetimes;
 mod names;
 mod numbers;
 mod parsed;
@@ -14,6 +15,7 @@ mod reading;
 mod rule;
 mod stop;
 mod terminal;
+mod types;
 mod words;
 
 pub use class::Class;

@@ -91,3 +91,10 @@ pub fn definition_name<'a>(
 {
     take_any(&definition_names(), counts, terminals)
 }
+
+/// Whether a word that a definition may be called by comes next.
+pub fn is_definition_name_next(terminals: &[Terminal]) -> bool
+    ensures { result ≡ starts definition_names terminals.now }
+{
+    is_any_next(&definition_names(), terminals)
+}
