@@ -14,6 +14,7 @@ ghost use Rattle.tm_parse.specs.Types.{
   plain_type,
   read_type,
   reference_type,
+  type_at,
   type_first,
   type_read,
   wrapped_type,
@@ -73,12 +74,11 @@ fn length<'a>(
     }
 }
 
-/// Whether a terminal that begins a type comes next.
-pub fn is_type_next(terminals: &[Terminal]) -> bool
-    ensures { result ≡ starts type_first terminals.now }
+/// Whether a terminal comes next that begins a type other than one in parentheses.
+pub fn is_plain_next(terminals: &[Terminal]) -> bool
+    ensures { result ≡ starts (plain_type (type_read 0 0)).first terminals.now }
 {
     let signs = [
-        Class::OpenParen,
         Class::Integer(Primitive::U8),
         Class::Scalar(Primitive::Bool),
         Class::Bang,
@@ -89,6 +89,24 @@ pub fn is_type_next(terminals: &[Terminal]) -> bool
         Class::Generic(Wrapper::Option),
     ];
     is_any_next(&signs, terminals) || is_definition_name_next(terminals)
+}
+
+/// Whether a terminal that begins a type comes next.
+pub fn is_type_next(terminals: &[Terminal]) -> bool
+    ensures { result ≡ starts type_first terminals.now }
+{
+    is_next(Class::OpenParen, terminals) || is_plain_next(terminals)
+}
+
+/// An outermost type.
+pub fn outermost<'a>(
+    alloc: Global,
+    counts: Counts,
+    terminals: &'a [Terminal],
+) -> Result<(Expr, Counts, &'a [Terminal]), Stop<'a>>
+    ensures { Gives (λ x. (x.0, x.1, x.2.now)) result ((type_at 0 0).read counts terminals.now) }
+{
+    ty(alloc, 0, 32, counts, terminals)
 }
 
 /// A type with so many types around it, and at most so many levels.
