@@ -88,11 +88,17 @@ field levels = counts_as a_field (to (λ v. named_as v.1.0 (is_public v.0) v.1.1
 -- What may stand behind `pub` in a field of a tuple. Behind `pub (` the next terminal tells whether the
 -- `(` belongs to `pub` or to the type. In the second case the type is counted behind the `(` that it
 -- begins with; an outermost type passes no limit.
+abbrev pub bare : ℕ → Part DeclField
+bare levels = to (λ ty. unnamed true ty) (counts_as (a_type 0) (plain_type (type_at 1 levels)))
+
+abbrev pub narrowed : ℕ → Part DeclField
+narrowed levels = to (λ v. unnamed false v.1.1) (narrower >> the c.CloseParen >> type_at 0 levels)
+
+abbrev pub opened : ℕ → Part DeclField
+opened levels = to (λ ty. unnamed true ty) (counts_as (a_type 0) (behind_paren (type_at 1 levels)))
+
 abbrev pub behind_pub : ℕ → Part DeclField
-behind_pub levels = to (λ ty. unnamed true ty) (counts_as (a_type 0) (plain_type (type_at 1 levels)))
-    or to (λ v. v.1) (the c.OpenParen >>
-    (to (λ v. unnamed false v.1.1) (narrower >> the c.CloseParen >> type_at 0 levels)
-    or to (λ ty. unnamed true ty) (counts_as (a_type 0) (behind_paren (type_at 1 levels)))))
+behind_pub levels = bare levels or to (λ v. v.1) (the c.OpenParen >> (narrowed levels or opened levels))
 
 abbrev pub place : ℕ → Part DeclField
 place levels = counts_as a_field (to (λ ty. unnamed false ty) (type_at 0 levels) or to (λ v. v.1) (the c.Pub >> behind_pub levels))

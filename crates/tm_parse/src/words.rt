@@ -1,7 +1,7 @@
 ghost use Rattle.std.specs.Prelude.{◌≡◌};
 ghost use Rattle.tm_parse.specs.Classes.{among};
-ghost use Rattle.tm_parse.specs.Combinators.{read_one, starts, to};
-ghost use Rattle.tm_parse.specs.Definitions.{is_public, visibility as visibility_rule};
+ghost use Rattle.tm_parse.specs.Combinators.{read_one, starts};
+ghost use Rattle.tm_parse.specs.Definitions.{is_public as is_public_of, visibility as visibility_rule};
 ghost use Rattle.tm_parse.specs.Events.{plain};
 ghost use Rattle.tm_parse.specs.Files.{flag as flag_rule};
 ghost use Rattle.tm_parse.specs.Read.{Gives};
@@ -91,15 +91,26 @@ fn visibility<'a>(
     Ok((false, counts, terminals))
 }
 
-/// A visibility that may be left out: whether it is plain `pub`.
-pub fn public<'a>(
+/// A visibility that may be left out: whether it is plain `pub`, where it is there.
+pub fn optional_visibility<'a>(
     counts: Counts,
     terminals: &'a [Terminal],
-) -> Result<(bool, Counts, &'a [Terminal]), Stop<'a>>
-    ensures { Gives (λ x. (x.0, x.1, x.2.now)) result ((to is_public (optional visibility_rule)).read counts terminals.now) }
+) -> Result<(Option<bool>, Counts, &'a [Terminal]), Stop<'a>>
+    ensures { Gives (λ x. (x.0, x.1, x.2.now)) result ((optional visibility_rule).read counts terminals.now) }
 {
-    if is_next(Class::Pub, terminals) {
-        return visibility(counts, terminals);
+    if !is_next(Class::Pub, terminals) {
+        return Ok((None, counts, terminals));
     }
-    Ok((false, counts, terminals))
+    let (plain, counts, terminals) = visibility(counts, terminals)?;
+    Ok((Some(plain), counts, terminals))
+}
+
+/// Whether the visibility is plain `pub`.
+pub fn is_public(visibility: Option<bool>) -> bool
+    ensures { result ≡ is_public_of visibility }
+{
+    match visibility {
+        Some(plain) => plain,
+        None => false,
+    }
 }
