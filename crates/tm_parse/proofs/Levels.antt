@@ -1,9 +1,9 @@
 -- Reading a type, one level.
-use Rattle.std.proofs.Common.{◌≡◌, ℕ, zero, suc, ◌+◌, ◌-◌, ◌<◌, refl, ap, ◌∙◌, true, false, List, arith}
+use Rattle.std.proofs.Common.{◌≡◌, ℕ, zero, suc, ◌+◌, ◌-◌, ◌<◌, ap, ◌∙◌, true, false, List, arith}
 use Rattle.tm_parse.specs.Combinators.{starts, read_marked}
 use Rattle.tm_parse.specs.Events.{mark, a_type}
 use Rattle.tm_parse.specs.Limits.{step}
-use Rattle.tm_parse.specs.Parts.{Outcome, Stuck, Passed}
+use Rattle.tm_parse.specs.Parts.{Stuck, Passed}
 use Rattle.tm_parse.specs.Types.{type_first, type_read, read_type, one_level, too_deep}
 use Rattle.tm_parse.specs.declared.counts.Counts.{Counts}
 use Rattle.tm_base.specs.declared.limit.LimitKind.TheVariants as limit

@@ -1,6 +1,6 @@
 -- Repetitions, turn by turn, against what was found before.
 use Rattle.std.proofs.Common.{◌≡◌, ℕ, zero, suc, ◌+◌, ◌-◌, ◌<◌, refl, sym, ap, ◌∙◌, Bool, true, false, List, [], ◌∷◌, ◌++◌, append_assoc, append-nil, arith}
-use Rattle.tm_parse.specs.Combinators.{starts, pick, mapped, put_first, go_on, and_again, read_most}
+use Rattle.tm_parse.specs.Combinators.{starts, pick, mapped, put_first, and_again, read_most}
 use Rattle.tm_parse.specs.Classes.{joined}
 use Rattle.tm_parse.specs.Parts.{Outcome, Done, Stuck, Passed, Reader, Part}
 use Rattle.tm_parse.specs.Read.{Stops}
@@ -10,7 +10,6 @@ use Rattle.tm_parse.specs.declared.stop.Stop.{Stop}
 use Rattle.tm_parse.specs.declared.stop.Stop.TheVariants as stop
 use Rattle.tm_parse.specs.declared.class.Class.{Class}
 use Rattle.tm_parse.specs.declared.counts.Counts.{Counts}
-use Rattle.tm_base.specs.declared.limit.LimitKind.{LimitKind}
 use Rattle.tm_parse.specs.declared.terminal.Terminal.{Terminal}
 
 -- what is read comes behind these

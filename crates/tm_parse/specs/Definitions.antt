@@ -47,6 +47,7 @@ repr = to (λ v. placed_at v.0.place v.1)
 abbrev pub derive : Part (List DeclRepr)
 derive = to (λ v. []) (the c.Derive >> between c.OpenParen (listed (any names)) c.CloseParen)
 
+-- what may stand between the brackets
 abbrev pub repr_or_derive : Part (List DeclRepr)
 repr_or_derive = repr or derive
 
@@ -155,6 +156,7 @@ defined what v reprs = record { kind = what; name = v.1.place; reprs = reprs; pa
 abbrev pub headed : Kind → Part Terminal → Part (List DeclVariant) → Part (List DeclRepr → Decl)
 headed what word body = counts_as a_definition (to (λ v. defined what (v.0, v.1.0, v.1.1.0, v.1.1.1)) (word >> any definition_names >> parameters >> body))
 
+-- each kind of definition, without its attributes and its visibility
 abbrev pub headed_struct : ℕ → Part (List DeclRepr → Decl)
 headed_struct levels = headed kind.Struct (the c.Struct) (struct_body levels)
 

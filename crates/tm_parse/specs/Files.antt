@@ -44,6 +44,7 @@ assumed (Some v) = flags v.1
 abbrev pub flag : Part Terminal
 flag = any (c.Alignment ∷ c.Lifetimes ∷ c.Safety ∷ c.Validity ∷ [])
 
+-- `assume` with its flags, which may be left out
 abbrev pub assume : Part (Option (Terminal × List Terminal))
 assume = optional (the c.Assume >> listed1 flag)
 

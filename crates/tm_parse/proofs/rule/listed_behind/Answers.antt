@@ -1,4 +1,4 @@
-use Rattle.std.proofs.Common.{◌≡◌, ◌+◌, ◌-◌, ◌<◌, refl, sym, ap, ◌∙◌, length, true, arith}
+use Rattle.std.proofs.Common.{◌≡◌, ◌+◌, ◌-◌, ◌<◌, sym, ap, ◌∙◌, length, arith}
 use Rattle.tm_parse.specs.Parts.{Done}
 use Rattle.tm_parse.specs.Shapes.{with_comma}
 use Rattle.tm_parse.proofs.Loops.{turn_ends, turn_spent, turn_stops, turn_last, turn_next, comma_first}

@@ -1,6 +1,5 @@
-use Rattle.std.proofs.Common.{◌≡◌, ◌+◌, ◌-◌, ◌<◌, refl, sym, ap, ◌∙◌, length, true, arith}
+use Rattle.std.proofs.Common.{◌≡◌, ◌+◌, ◌-◌, ◌<◌, sym, ap, ◌∙◌, length, true, arith}
 use Rattle.tm_parse.specs.Combinators.{mapped, to}
-use Rattle.tm_parse.specs.Shapes.{many}
 use Rattle.tm_parse.proofs.Loops.{turn_ends, turn_spent, turn_stops, turn_next, again_stops}
 use Rattle.tm_parse.proofs.rule.many.Goals as goal
 
