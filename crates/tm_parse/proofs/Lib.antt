@@ -9,6 +9,8 @@ pub mod Choices
 pub mod Pairs
 pub mod Marks
 pub mod Repetitions
+pub mod Loops
+pub mod Levels
 pub mod ShapeLaws
 pub mod TypeForms
 pub mod Widening

@@ -35,16 +35,24 @@ repr_item = to (λ t. item.C) (the c.C)
     or to (λ v. item.Packed (packed_to v.1)) (the c.Packed >> optional in_parens)
     or to (λ v. item.Align (number_of v.1)) (the c.Align >> in_parens)
 
+-- the items, with the place of the attribute's word
+abbrev pub placed_at : ℕ → List ReprItem → List DeclRepr
+placed_at token = map (λ what. record { token = token; item = what })
+
 abbrev pub repr : Part (List DeclRepr)
-repr = to (λ v. map (λ what. record { token = v.0.place; item = what }) v.1)
+repr = to (λ v. placed_at v.0.place v.1)
     (the c.Repr >> between c.OpenParen (listed1 repr_item) c.CloseParen)
 
 -- it says nothing
 abbrev pub derive : Part (List DeclRepr)
 derive = to (λ v. []) (the c.Derive >> between c.OpenParen (listed (any names)) c.CloseParen)
 
+-- what may stand between the brackets
+abbrev pub repr_or_derive : Part (List DeclRepr)
+repr_or_derive = repr or derive
+
 abbrev pub attribute : Part (List DeclRepr)
-attribute = to (λ v. v.1) (the c.Hash >> between c.OpenBracket (repr or derive) c.CloseBracket)
+attribute = to (λ v. v.1) (the c.Hash >> between c.OpenBracket repr_or_derive c.CloseBracket)
 
 abbrev pub together : List (List DeclRepr) → List DeclRepr
 together [] = []
@@ -81,11 +89,17 @@ field levels = counts_as a_field (to (λ v. named_as v.1.0 (is_public v.0) v.1.1
 -- What may stand behind `pub` in a field of a tuple. Behind `pub (` the next terminal tells whether the
 -- `(` belongs to `pub` or to the type. In the second case the type is counted behind the `(` that it
 -- begins with; an outermost type passes no limit.
+abbrev pub bare : ℕ → Part DeclField
+bare levels = to (λ ty. unnamed true ty) (counts_as (a_type 0) (plain_type (type_at 1 levels)))
+
+abbrev pub narrowed : ℕ → Part DeclField
+narrowed levels = to (λ v. unnamed false v.1.1) (narrower >> the c.CloseParen >> type_at 0 levels)
+
+abbrev pub opened : ℕ → Part DeclField
+opened levels = to (λ ty. unnamed true ty) (counts_as (a_type 0) (behind_paren (type_at 1 levels)))
+
 abbrev pub behind_pub : ℕ → Part DeclField
-behind_pub levels = to (λ ty. unnamed true ty) (counts_as (a_type 0) (plain_type (type_at 1 levels)))
-    or to (λ v. v.1) (the c.OpenParen >>
-    (to (λ v. unnamed false v.1.1) (narrower >> the c.CloseParen >> type_at 0 levels)
-    or to (λ ty. unnamed true ty) (counts_as (a_type 0) (behind_paren (type_at 1 levels)))))
+behind_pub levels = bare levels or to (λ v. v.1) (the c.OpenParen >> (narrowed levels or opened levels))
 
 abbrev pub place : ℕ → Part DeclField
 place levels = counts_as a_field (to (λ ty. unnamed false ty) (type_at 0 levels) or to (λ v. v.1) (the c.Pub >> behind_pub levels))
@@ -142,6 +156,18 @@ defined what v reprs = record { kind = what; name = v.1.place; reprs = reprs; pa
 abbrev pub headed : Kind → Part Terminal → Part (List DeclVariant) → Part (List DeclRepr → Decl)
 headed what word body = counts_as a_definition (to (λ v. defined what (v.0, v.1.0, v.1.1.0, v.1.1.1)) (word >> any definition_names >> parameters >> body))
 
+-- each kind of definition, without its attributes and its visibility
+abbrev pub headed_struct : ℕ → Part (List DeclRepr → Decl)
+headed_struct levels = headed kind.Struct (the c.Struct) (struct_body levels)
+
+abbrev pub headed_union : ℕ → Part (List DeclRepr → Decl)
+headed_union levels = headed kind.Union (the c.Union) (union_body levels)
+
+abbrev pub headed_enum : ℕ → Part (List DeclRepr → Decl)
+headed_enum levels = headed kind.Enum (the c.Enum) (enum_body levels)
+
+abbrev pub headed_any : ℕ → Part (List DeclRepr → Decl)
+headed_any levels = headed_struct levels or headed_union levels or headed_enum levels
+
 abbrev pub definition : ℕ → Part Decl
-definition levels = to (λ v. v.1.1 (together v.0)) (many attribute >> optional visibility >>
-    (headed kind.Struct (the c.Struct) (struct_body levels) or headed kind.Union (the c.Union) (union_body levels) or headed kind.Enum (the c.Enum) (enum_body levels)))
+definition levels = to (λ v. v.1.1 (together v.0)) (many attribute >> optional visibility >> headed_any levels)

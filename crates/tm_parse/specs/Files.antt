@@ -44,9 +44,13 @@ assumed (Some v) = flags v.1
 abbrev pub flag : Part Terminal
 flag = any (c.Alignment ∷ c.Lifetimes ∷ c.Safety ∷ c.Validity ∷ [])
 
+-- `assume` with its flags, which may be left out
+abbrev pub assume : Part (Option (Terminal × List Terminal))
+assume = optional (the c.Assume >> listed1 flag)
+
 abbrev pub question : ℕ → Part Item
 question levels = to (λ v. an_ask (record { src = v.1.0; dst = v.1.1.1.0; assume = assumed v.1.1.1.1.0 }))
-    (counts_as a_question (the c.Ask) >> type_at 0 levels >> the c.Arrow >> type_at 0 levels >> optional (the c.Assume >> listed1 flag) >> the c.Semicolon)
+    (counts_as a_question (the c.Ask) >> type_at 0 levels >> the c.Arrow >> type_at 0 levels >> assume >> the c.Semicolon)
 
 abbrev pub item : ℕ → Part Item
 item levels = lifetime or outlives or question levels or to a_decl (definition levels)

@@ -26,9 +26,13 @@ is_there (Some v) = true
 abbrev pub many : {V : Type 0} → Part V → Part (List V)
 many p = repeat (to (λ v. (v, true)) p)
 
+-- a part, and whether a comma stands behind it
+abbrev pub with_comma : {V : Type 0} → Part V → Part (V × Bool)
+with_comma p = to (λ v. (v.0, is_there v.1)) (p >> optional (the c.Comma))
+
 -- none, one or several, with commas between them, and perhaps one behind the last
 abbrev pub listed : {V : Type 0} → Part V → Part (List V)
-listed p = repeat (to (λ v. (v.0, is_there v.1)) (p >> optional (the c.Comma)))
+listed p = repeat (with_comma p)
 
 -- one or several, with commas in the same way: the first, and the others where a comma comes
 abbrev pub and_others : {V : Type 0} → V × Option (Terminal × List V) → List V

@@ -143,3 +143,7 @@ read_type depth (suc levels) n ts = (counts_as (a_type depth) (one_level (type_p
 
 abbrev pub type_at : ℕ → ℕ → Part Expr
 type_at depth levels = record { spells = SpellsType depth levels; read = read_type depth 32; first = type_first; bars = c.Less ∷ []; empty = false }
+
+-- the same with so many levels to read
+abbrev pub type_read : ℕ → ℕ → Part Expr
+type_read depth levels = type_part type_first (SpellsType depth levels) (read_type depth levels)

@@ -2,17 +2,27 @@
 //! a list stops that begins no file.
 #![tactic(auto)]
 
+mod attributes;
 mod class;
 mod classify;
 mod counting;
 mod counts;
+mod definitions;
+mod fields;
 mod laws;
+mod lifetimes;
+mod names;
 mod numbers;
 mod parsed;
+mod questions;
 mod reading;
+mod rule;
 mod stop;
 mod terminal;
+mod types;
+mod variants;
 mod vocabulary;
+mod words;
 
 pub use class::Class;
 pub use classify::terminals;

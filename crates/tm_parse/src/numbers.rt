@@ -13,7 +13,7 @@ use crate::stop::Stop;
 use crate::terminal::Terminal;
 
 /// The number that a terminal carries, else 0.
-fn number(terminal: Terminal) -> u128
+pub fn number(terminal: Terminal) -> u128
     ensures { result ≡ number_of terminal }
 {
     match terminal.class {
@@ -23,7 +23,7 @@ fn number(terminal: Terminal) -> u128
 }
 
 /// A number in parentheses, as its terminal.
-fn in_parens<'a>(
+pub fn in_parens<'a>(
     counts: Counts,
     terminals: &'a [Terminal],
 ) -> Result<(Terminal, Counts, &'a [Terminal]), Stop<'a>>

@@ -1,0 +1,85 @@
+-- Repetitions, turn by turn, against what was found before.
+use Rattle.std.proofs.Common.{◌≡◌, ℕ, zero, suc, ◌+◌, ◌-◌, ◌<◌, refl, sym, ap, ◌∙◌, Bool, true, false, List, [], ◌∷◌, ◌++◌, append_assoc, append-nil, arith}
+use Rattle.tm_parse.specs.Combinators.{starts, pick, mapped, put_first, and_again, read_most}
+use Rattle.tm_parse.specs.Classes.{joined}
+use Rattle.tm_parse.specs.Parts.{Outcome, Done, Stuck, Passed, Reader, Part}
+use Rattle.tm_parse.specs.Read.{Stops}
+use Rattle.tm_parse.specs.Shapes.{with_comma}
+use Rattle.tm_parse.specs.declared.class.Class.TheVariants as class_is
+use Rattle.tm_parse.specs.declared.stop.Stop.{Stop}
+use Rattle.tm_parse.specs.declared.stop.Stop.TheVariants as stop
+use Rattle.tm_parse.specs.declared.class.Class.{Class}
+use Rattle.tm_parse.specs.declared.counts.Counts.{Counts}
+use Rattle.tm_parse.specs.declared.terminal.Terminal.{Terminal}
+
+-- what is read comes behind these
+abbrev pub put_before : {V : Type 0} → List V → Outcome (List V) → Outcome (List V)
+put_before vs o = mapped (λ ws. vs ++ ws) o
+
+put_before-put_first : {V : Type 0} (vs : List V) (v : V) (o : Outcome (List V)) → put_before vs (put_first v o) ≡ put_before (vs ++ v ∷ []) o
+put_before-put_first vs v (Done ws after ts) = ap (λ us. Done us after ts) (sym (append_assoc vs (v ∷ []) ws))
+put_before-put_first vs v (Stuck ts) = refl
+put_before-put_first vs v (Passed kind ts) = refl
+
+-- one turn
+most_turn : {V : Type 0} (k : ℕ) (first : List Class) (part : Reader (V × Bool)) (n : Counts) (ts : List Terminal) → 0 < k → starts first ts ≡ true
+    → read_most k first part n ts ≡ and_again (read_most (k - 1) first part) (part n ts)
+unfolding read_most
+most_turn zero first part n ts l h = absurd (omega arith)
+most_turn (suc k) first part n ts l h =
+    let less : k ≡ suc k - 1 = omega arith in
+    ap (λ b. pick b (λ n ts. and_again (read_most k first part) (part n ts)) (λ n ts. Done [] n ts) n ts) h
+    ∙ ap (λ j. and_again (read_most j first part) (part n ts)) less
+
+-- what holds behind so many turns: what was found, and what the turns left come to
+abbrev pub Goes : {V : Type 0} → List Class → Reader (V × Bool) → Outcome (List V) → List V → ℕ → Counts → List Terminal → Type 0
+Goes first part all vs k n ts = put_before vs (read_most k first part n ts) ≡ all
+
+-- none begins
+pub turn_ends : {V : Type 0} (first : List Class) (part : Reader (V × Bool)) (all : Outcome (List V)) (vs : List V) (k : ℕ) (n : Counts) (ts : List Terminal)
+    → Goes first part all vs k n ts → starts first ts ≡ false → all ≡ Done vs n ts
+unfolding read_most
+turn_ends first part all vs zero n ts i h = sym i ∙ ap (λ us. Done us n ts) (append-nil vs)
+turn_ends first part all vs (suc k) n ts i h =
+    sym i ∙ ap (λ b. put_before vs (pick b (λ n ts. and_again (read_most k first part) (part n ts)) (λ n ts. Done [] n ts) n ts)) h ∙ ap (λ us. Done us n ts) (append-nil vs)
+
+-- no turn is left
+pub turn_spent : {V : Type 0} (first : List Class) (part : Reader (V × Bool)) (all : Outcome (List V)) (vs : List V) (k : ℕ) (n : Counts) (ts : List Terminal)
+    → Goes first part all vs k n ts → k ≡ 0 → all ≡ Done vs n ts
+unfolding read_most
+turn_spent first part all vs zero n ts i h = sym i ∙ ap (λ us. Done us n ts) (append-nil vs)
+turn_spent first part all vs (suc k) n ts i h = absurd (omega arith)
+
+-- one begins, and is read to this
+turn_as : {V : Type 0} (first : List Class) (part : Reader (V × Bool)) (all : Outcome (List V)) (vs : List V) (k : ℕ) (n : Counts) (ts : List Terminal) (o : Outcome (V × Bool))
+    → Goes first part all vs k n ts → 0 < k → starts first ts ≡ true → part n ts ≡ o → all ≡ put_before vs (and_again (read_most (k - 1) first part) o)
+turn_as first part all vs k n ts o i l h s = sym i ∙ ap (put_before vs) (most_turn k first part n ts l h ∙ ap (and_again (read_most (k - 1) first part)) s)
+
+pub turn_stops : {V : Type 0} (first : List Class) (part : Reader (V × Bool)) (all : Outcome (List V)) (vs : List V) (k : ℕ) (n : Counts) (ts : List Terminal) (e : Stop)
+    → Goes first part all vs k n ts → 0 < k → starts first ts ≡ true → Stops e (part n ts) → Stops e all
+turn_stops first part all vs k n ts stop.Memory i l h s = tt
+turn_stops first part all vs k n ts (stop.Stuck rest) i l h s = turn_as first part all vs k n ts (Stuck rest.now) i l h s
+turn_stops first part all vs k n ts (stop.Passed kind rest) i l h s = turn_as first part all vs k n ts (Passed kind rest.now) i l h s
+
+pub turn_last : {V : Type 0} (first : List Class) (part : Reader (V × Bool)) (all : Outcome (List V)) (vs us : List V) (v : V) (k : ℕ) (n after : Counts) (ts rest : List Terminal)
+    → Goes first part all vs k n ts → 0 < k → starts first ts ≡ true → part n ts ≡ Done (v, false) after rest → us ≡ vs ++ v ∷ [] → all ≡ Done us after rest
+turn_last first part all vs us v k n after ts rest i l h s x = turn_as first part all vs k n ts (Done (v, false) after rest) i l h s ∙ ap (λ ws. Done ws after rest) (sym x)
+
+pub turn_next : {V : Type 0} (first : List Class) (part : Reader (V × Bool)) (all : Outcome (List V)) (vs us : List V) (v : V) (k j : ℕ) (n after : Counts) (ts rest : List Terminal)
+    → Goes first part all vs k n ts → j + 1 ≡ k → starts first ts ≡ true → part n ts ≡ Done (v, true) after rest → us ≡ vs ++ v ∷ [] → Goes first part all us j after rest
+turn_next first part all vs us v k j n after ts rest i l h s x =
+    let pos : 0 < k = omega arith in let less : j ≡ k - 1 = omega arith in
+    ap (λ ws. put_before ws (read_most j first part after rest)) x
+    ∙ ap (λ m. put_before (vs ++ v ∷ []) (read_most m first part after rest)) less
+    ∙ sym (put_before-put_first vs v (read_most (k - 1) first part after rest))
+    ∙ sym (turn_as first part all vs k n ts (Done (v, true) after rest) i pos h s)
+
+-- where each turn may be followed by another
+pub again_stops : {V : Type 0} (part : Reader V) (n : Counts) (ts : List Terminal) (e : Stop) → Stops e (part n ts) → Stops e (mapped {A = V} {B = V × Bool} (λ v. (v, true)) (part n ts))
+again_stops part n ts stop.Memory s = tt
+again_stops part n ts (stop.Stuck rest) s = ap (mapped (λ v. (v, true))) s
+again_stops part n ts (stop.Passed kind rest) s = ap (mapped (λ v. (v, true))) s
+
+-- a part that isn't empty begins a list with commas as it begins itself
+pub comma_first : {V : Type 0} (p : Part V) (ts : List Terminal) → p.empty ≡ false → starts (with_comma p).first ts ≡ starts p.first ts
+comma_first p ts h = ap (λ e. starts (joined e (class_is.Comma ∷ []) p.first) ts) h
