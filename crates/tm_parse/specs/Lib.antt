@@ -11,3 +11,4 @@ pub mod Definitions
 pub mod Files
 pub mod Accepted
 pub mod Read
+pub mod Parsing

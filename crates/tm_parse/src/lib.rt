@@ -14,6 +14,7 @@ mod lifetimes;
 mod names;
 mod numbers;
 mod parsed;
+mod parsing;
 mod questions;
 mod reading;
 mod rule;
@@ -31,4 +32,5 @@ pub use laws::grammar_is_exact;
 pub use parsed::{
     Decl, DeclAsk, DeclBound, DeclField, DeclRepr, DeclVariant, Expr, Parsed, ReprItem,
 };
+pub use parsing::{ParseErr, parse};
 pub use terminal::Terminal;

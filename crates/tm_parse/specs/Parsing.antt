@@ -1,0 +1,39 @@
+-- What a text's terminals are parsed to: the file that they spell, or the place of the terminal at which
+-- they stop. Places count terminals, from 0.
+use Rattle.std.specs.Prelude.{◌≡◌, ℕ, List, ◌∷◌, ◌++◌, length, ⊤}
+use Rattle.tm_parse.specs.Accepted.{IsFile, IsFaultAt, PassesAt}
+use Rattle.tm_parse.specs.declared.counts.Counts.{Counts}
+use Rattle.tm_base.specs.declared.limit.LimitKind.{LimitKind}
+use Rattle.tm_parse.specs.declared.parsed.Parsed.{Parsed}
+use Rattle.tm_parse.specs.declared.parsing.ParseErr.{ParseErr}
+use Rattle.tm_parse.specs.declared.parsing.ParseErr.TheVariants.{At, Limit, Memory}
+use Rattle.tm_parse.specs.declared.terminal.Terminal.{Terminal}
+
+-- the terminals spell the file within the limits
+pub record SpellsFile (ts : List Terminal) (v : Parsed) : Type 0 where
+  pub after : Counts
+  pub file : IsFile v ts after
+
+-- The first terminals, as many as the place says, begin a file within the limits, and no file goes on with
+-- the next; where there is no next, they are no file.
+pub record StopsAt (ts : List Terminal) (place : ℕ) : Type 0 where
+  pub front : List Terminal
+  pub rest : List Terminal
+  pub splits : ts ≡ front ++ rest
+  pub long : length front ≡ place
+  pub fault : IsFaultAt front rest
+
+-- some file goes on with the terminal at the place, which is the first that passes a limit
+pub record PassesLimitAt (ts : List Terminal) (kind : LimitKind) (place : ℕ) : Type 0 where
+  pub front : List Terminal
+  pub next : Terminal
+  pub rest : List Terminal
+  pub splits : ts ≡ front ++ (next ∷ rest)
+  pub long : length front ≡ place
+  pub passes : PassesAt kind front next
+
+-- the error has its cause in the terminals; a want of memory may come for any
+abbrev pub HasCause : List Terminal → ParseErr → Type 0
+HasCause ts (At place) = StopsAt ts place
+HasCause ts (Limit kind place) = PassesLimitAt ts kind place
+HasCause ts Memory = ⊤

@@ -1,0 +1,45 @@
+ghost use Rattle.std.specs.Prelude.{◌≡◌, ℕ, ◌⊎◌, List, IfOk, IfErr, MatchResult};
+ghost use Rattle.tm_lex.specs.Lexes.{Tokenizes};
+ghost use Rattle.tm_parse.specs.Parsing.{HasCause, PassesLimitAt, SpellsFile, StopsAt};
+ghost use Rattle.tm_parse.specs.Spelling.{terminals_of};
+ghost use Rattle.tm_base.specs.declared.limit.LimitKind.{LimitKind as Kind};
+ghost use Rattle.tm_parse.specs.declared.parsed.Parsed.{Parsed as File};
+
+use crate::parsed::Parsed;
+use std::alloc::Global;
+use tm_base::LimitKind;
+use tm_lex::Token;
+
+/// Why a text's tokens aren't read as a file. Places count tokens, from 0.
+///
+/// `At(place)`: the tokens before the place begin a file, and no file goes on with the one at it; where the
+/// place is the number of tokens, all of them begin a file and aren't one. `Limit(kind, place)`: a file
+/// goes on with the token at the place, which is the first that passes a limit. `Memory`: there wasn't
+/// enough memory.
+#[derive(Clone, Copy, PartialEq, Eq, Debug)]
+pub enum ParseErr {
+    At(u32),
+    Limit(LimitKind, u32),
+    Memory,
+}
+
+/// The file that a text's tokens spell.
+///
+/// The tokens are those that `tm_lex::lex` answers for the text. `At(place)` comes exactly where the token
+/// at the place is the first with which no file of the grammar goes on, and no limit is passed before it;
+/// where no token is missing but the file's end comes too early, the place is the number of tokens.
+/// `Limit(kind, place)` comes exactly where the token at the place is the first that passes a limit and a
+/// file goes on with it. `Memory`: there wasn't enough memory for the file.
+pub fn parse(alloc: Global, text: &str, tokens: &[Token]) -> Result<Parsed, ParseErr>
+    requires { Tokenizes text.now tokens.now }
+    ensures file { IfOk result (SpellsFile (terminals_of text.now tokens.now)) }
+    ensures cause { IfErr result (HasCause (terminals_of text.now tokens.now)) }
+
+    // Tokens spell one file, stop at one place or pass a limit at one, which is answered where memory
+    // isn't wanting.
+    ensures files { (v : File) → SpellsFile (terminals_of text.now tokens.now) v → MatchResult result (λ found. found ≡ v) (λ err. err ≡ ParseErr.Memory) }
+    ensures faults { (place : ℕ) → StopsAt (terminals_of text.now tokens.now) place → MatchResult result (λ _. ⊥) (λ err. (err ≡ ParseErr.At place) ⊎ (err ≡ ParseErr.Memory)) }
+    ensures limits { (kind : Kind) (place : ℕ) → PassesLimitAt (terminals_of text.now tokens.now) kind place → MatchResult result (λ _. ⊥) (λ err. (err ≡ ParseErr.Limit kind place) ⊎ (err ≡ ParseErr.Memory)) }
+{
+    Err(ParseErr::Memory)
+}
