@@ -1,0 +1,1 @@
+for i in $(seq 256); do echo "struct S$i;"; done
