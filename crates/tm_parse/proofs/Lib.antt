@@ -16,6 +16,7 @@ pub mod TypeForms
 pub mod Widening
 pub mod TypeLaws
 pub mod DefinitionLaws
+pub mod BehindAttributes
 pub mod FileLaws
 pub mod Answering
 pub mod Prefixes
