@@ -10,6 +10,7 @@ pub mod Pairs
 pub mod Marks
 pub mod Repetitions
 pub mod Loops
+pub mod Kept
 pub mod Levels
 pub mod ShapeLaws
 pub mod TypeForms
