@@ -22,6 +22,7 @@ pub mod FileLaws
 pub mod Answering
 pub mod Prefixes
 pub mod Exactness
+pub mod Returning
 pub mod Worked
 pub mod WorkedLimits
 mod Spans
