@@ -74,11 +74,11 @@ turn_next first part all vs us v k j n after ts rest i l h s x =
     ∙ sym (put_before-put_first vs v (read_most (k - 1) first part after rest))
     ∙ sym (turn_as first part all vs k n ts (Done (v, true) after rest) i pos h s)
 
--- where each turn may be followed by another
-pub again_stops : {V : Type 0} (part : Reader V) (n : Counts) (ts : List Terminal) (e : Stop) → Stops e (part n ts) → Stops e (mapped {A = V} {B = V × Bool} (λ v. (v, true)) (part n ts))
-again_stops part n ts stop.Memory s = tt
-again_stops part n ts (stop.Stuck rest) s = ap (mapped (λ v. (v, true))) s
-again_stops part n ts (stop.Passed kind rest) s = ap (mapped (λ v. (v, true))) s
+-- where what is read stands for another value
+pub mapped_stops : {A B : Type 0} (f : A → B) (o : Outcome A) (e : Stop) → Stops e o → Stops e (mapped f o)
+mapped_stops f o stop.Memory s = tt
+mapped_stops f o (stop.Stuck rest) s = ap (mapped f) s
+mapped_stops f o (stop.Passed kind rest) s = ap (mapped f) s
 
 -- a part that isn't empty begins a list with commas as it begins itself
 pub comma_first : {V : Type 0} (p : Part V) (ts : List Terminal) → p.empty ≡ false → starts (with_comma p).first ts ≡ starts p.first ts

@@ -4,7 +4,7 @@ use Rattle.tm_base.specs.declared.ground.Primitive.TheVariants as primitive
 use Rattle.tm_parse.proofs.Worked.{from}
 use Rattle.tm_parse.specs.Combinators.{read_most}
 use Rattle.tm_parse.specs.Definitions.{field, variant, parameters}
-use Rattle.tm_parse.specs.Files.{a_region, lifetime, item}
+use Rattle.tm_parse.specs.Files.{lifetime, item}
 use Rattle.tm_parse.specs.Limits.{step, none_yet}
 use Rattle.tm_parse.specs.Parts.{Outcome, Done, Stuck, Passed}
 use Rattle.tm_parse.specs.Types.{read_type, type_at}
@@ -12,6 +12,7 @@ use Rattle.tm_parse.specs.declared.class.Class.{Class}
 use Rattle.tm_parse.specs.declared.class.Class.TheVariants as c
 use Rattle.tm_parse.specs.declared.counts.Counts.{Counts}
 use Rattle.tm_base.specs.declared.limit.LimitKind.TheVariants as limit
+use Rattle.tm_parse.specs.declared.items.Item.TheVariants as sort
 use Rattle.tm_parse.specs.declared.parsed.Expr.TheVariants as expr
 use Rattle.tm_parse.specs.declared.terminal.Terminal.{Terminal}
 
@@ -135,7 +136,7 @@ length_more = refl
 abbrev declared : ℕ → List Terminal
 declared bytes = record { class = c.Declare; place = 0; size = 8 } ∷ record { class = c.Lifetime; place = 1; size = bytes } ∷ record { class = c.Semicolon; place = 2; size = 1 } ∷ []
 
-name_64 : lifetime.read none_yet (declared 64) ≡ Done (a_region 1) (record none_yet { lifetimes = 1 }) []
+name_64 : lifetime.read none_yet (declared 64) ≡ Done (sort.Lifetime 1) (record none_yet { lifetimes = 1 }) []
 unfolding step
 name_64 = refl
 

@@ -1,7 +1,8 @@
 -- What a text's terminals are parsed to: the file that they spell, or the place of the terminal at which
 -- they stop. Places count terminals, from 0.
-use Rattle.std.specs.Prelude.{◌≡◌, ℕ, List, ◌∷◌, ◌++◌, length, ⊤}
-use Rattle.tm_parse.specs.Accepted.{IsFile, IsFaultAt, PassesAt}
+use Rattle.std.specs.Prelude.{◌≡◌, ◌⊎◌, ℕ, ◌-◌, List, ◌∷◌, ◌++◌, length, Result, Ok, Err, ⊤}
+use Rattle.tm_parse.specs.Accepted.{IsFile, IsFaultAt, PassesAt, answer_of}
+use Rattle.tm_parse.specs.Parts.{Outcome, Done, Stuck, Passed}
 use Rattle.tm_parse.specs.declared.counts.Counts.{Counts}
 use Rattle.tm_base.specs.declared.limit.LimitKind.{LimitKind}
 use Rattle.tm_parse.specs.declared.parsed.Parsed.{Parsed}
@@ -37,3 +38,13 @@ abbrev pub HasCause : List Terminal → ParseErr → Type 0
 HasCause ts (At place) = StopsAt ts place
 HasCause ts (Limit kind place) = PassesLimitAt ts kind place
 HasCause ts Memory = ⊤
+
+-- an answer as it is returned: what is left shows as the place of its first terminal
+abbrev pub returned : List Terminal → Outcome Parsed → Result Parsed ParseErr
+returned ts (Done v after rest) = Ok v
+returned ts (Stuck rest) = Err (At (length ts - length rest))
+returned ts (Passed kind rest) = Err (Limit kind (length ts - length rest))
+
+-- the terminals' answer is returned, unless memory ran out
+abbrev pub IsAnswered : List Terminal → Result Parsed ParseErr → Type 0
+IsAnswered ts result = (result ≡ returned ts (answer_of ts)) ⊎ (result ≡ Err Memory)

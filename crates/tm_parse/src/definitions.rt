@@ -1,6 +1,7 @@
 ghost use Rattle.std.specs.Prelude.{◌≡◌};
 ghost use Rattle.tm_parse.specs.Combinators.{to};
 ghost use Rattle.tm_parse.specs.Definitions.{
+  definition as definition_rule,
   headed_any as headed_any_rule,
   headed_enum as headed_enum_rule,
   headed_struct as headed_struct_rule,
@@ -8,6 +9,7 @@ ghost use Rattle.tm_parse.specs.Definitions.{
 };
 ghost use Rattle.tm_parse.specs.Read.{Gives};
 
+use crate::attributes::attributes;
 use crate::class::Class;
 use crate::counting;
 use crate::counts::Counts;
@@ -18,6 +20,7 @@ use crate::reading::{is_next, take};
 use crate::stop::Stop;
 use crate::terminal::Terminal;
 use crate::variants::{enum_body, struct_body, union_body};
+use crate::words::optional_visibility;
 use std::alloc::Global;
 use tm_base::{Kind, List};
 
@@ -127,4 +130,17 @@ pub fn headed<'a>(
         return union_of(reprs, alloc, counts, terminals);
     }
     enumeration(reprs, alloc, counts, terminals)
+}
+
+/// A definition. Its own visibility says nothing.
+pub fn definition<'a>(
+    alloc: Global,
+    counts: Counts,
+    terminals: &'a [Terminal],
+) -> Result<(Decl, Counts, &'a [Terminal]), Stop<'a>>
+    ensures { Gives (λ x. (x.0, x.1, x.2.now)) result ((definition_rule 0).read counts terminals.now) }
+{
+    let (reprs, counts, terminals) = attributes(alloc, counts, terminals)?;
+    let (_, counts, terminals) = optional_visibility(counts, terminals)?;
+    headed(reprs, alloc, counts, terminals)
 }

@@ -9,6 +9,7 @@ mod counting;
 mod counts;
 mod definitions;
 mod fields;
+mod items;
 mod laws;
 mod lifetimes;
 mod names;

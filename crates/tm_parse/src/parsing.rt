@@ -1,13 +1,17 @@
-ghost use Rattle.std.specs.Prelude.{◌≡◌, ℕ, ◌⊎◌, List, IfOk, IfErr, MatchResult};
+ghost use Rattle.std.specs.Prelude.{◌≡◌, ◌≤◌, ◌<◌, ℕ, ◌-◌, ◌^◌, ◌⊎◌, length, List, IfOk, IfErr, MatchResult};
 ghost use Rattle.tm_lex.specs.Lexes.{Tokenizes};
-ghost use Rattle.tm_parse.specs.Parsing.{HasCause, PassesLimitAt, SpellsFile, StopsAt};
+ghost use Rattle.tm_parse.specs.Parsing.{HasCause, IsAnswered, PassesLimitAt, SpellsFile, StopsAt};
 ghost use Rattle.tm_parse.specs.Spelling.{terminals_of};
 ghost use Rattle.tm_base.specs.declared.limit.LimitKind.{LimitKind as Kind};
 ghost use Rattle.tm_parse.specs.declared.parsed.Parsed.{Parsed as File};
 
+use crate::classify::terminals;
+use crate::items::file;
 use crate::parsed::Parsed;
+use crate::stop::Stop;
+use crate::terminal::Terminal;
 use std::alloc::Global;
-use tm_base::LimitKind;
+use tm_base::{LimitKind, Memory};
 use tm_lex::Token;
 
 /// Why a text's tokens aren't read as a file. Places count tokens, from 0.
@@ -21,6 +25,48 @@ pub enum ParseErr {
     At(u32),
     Limit(LimitKind, u32),
     Memory,
+}
+
+/// How many tokens there are, where the last one ends behind as many bytes at least.
+fn count_to(last: Token, tokens: &[Token]) -> u32
+    requires { length tokens.now ≤ last.end }
+    ensures { result ≡ length tokens.now }
+{
+    tokens.len() as u32
+}
+
+/// How many tokens there are. Each has a byte of its own, so they are no more than the last one's end says.
+fn count(text: &str, tokens: &[Token]) -> u32
+    requires { Tokenizes text.now tokens.now }
+    ensures { result ≡ length tokens.now }
+{
+    match tokens.last() {
+        Some(last) => count_to(*last, tokens),
+        None => 0,
+    }
+}
+
+/// The place of the first of the terminals that are left, where there are so many in all.
+fn place(count: u32, rest: &[Terminal]) -> u32
+    requires { length rest.now ≤ count }
+    ensures { result ≡ count - length rest.now }
+{
+    count - rest.len() as u32
+}
+
+/// The file that all of the terminals spell; `count` says how many they are.
+#[tactic(auto, unfolding(crate::specs::Accepted::answer_of))]
+fn whole_file(alloc: Global, count: u32, terminals: &[Terminal]) -> Result<Parsed, ParseErr>
+    requires { count ≡ length terminals.now }
+    ensures { IsAnswered terminals.now result }
+{
+    match file(alloc, terminals) {
+        Ok((file, _, [])) => Ok(file),
+        Ok((_, _, rest)) => Err(ParseErr::At(place(count, rest))),
+        Err(Stop::Stuck(rest)) => Err(ParseErr::At(place(count, rest))),
+        Err(Stop::Passed(kind, rest)) => Err(ParseErr::Limit(kind, place(count, rest))),
+        Err(Stop::Memory) => Err(ParseErr::Memory),
+    }
 }
 
 /// The file that a text's tokens spell.
@@ -41,5 +87,9 @@ pub fn parse(alloc: Global, text: &str, tokens: &[Token]) -> Result<Parsed, Pars
     ensures faults { (place : ℕ) → StopsAt (terminals_of text.now tokens.now) place → MatchResult result (λ _. ⊥) (λ err. (err ≡ ParseErr.At place) ⊎ (err ≡ ParseErr.Memory)) }
     ensures limits { (kind : Kind) (place : ℕ) → PassesLimitAt (terminals_of text.now tokens.now) kind place → MatchResult result (λ _. ⊥) (λ err. (err ≡ ParseErr.Limit kind place) ⊎ (err ≡ ParseErr.Memory)) }
 {
-    Err(ParseErr::Memory)
+    let terminals = match terminals(alloc, text, tokens) {
+        Ok(terminals) => terminals,
+        Err(Memory) => return Err(ParseErr::Memory),
+    };
+    whole_file(alloc, count(text, tokens), terminals.as_slice())
 }

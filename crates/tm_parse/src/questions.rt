@@ -1,7 +1,6 @@
 ghost use Rattle.std.specs.Prelude.{◌≡◌, refl};
 ghost use Rattle.tm_parse.specs.Combinators.{to};
 ghost use Rattle.tm_parse.specs.Files.{
-  an_ask,
   assume as assume_rule,
   assumed,
   flag as flag_rule,
@@ -14,6 +13,7 @@ ghost use Rattle.tm_parse.specs.Read.{Gives};
 use crate::class::Class;
 use crate::counting;
 use crate::counts::Counts;
+use crate::items::Item;
 use crate::parsed::DeclAsk;
 use crate::reading::{is_next, take};
 use crate::rule::{Rule, listed1};
@@ -97,8 +97,8 @@ pub fn question<'a>(
     alloc: Global,
     counts: Counts,
     terminals: &'a [Terminal],
-) -> Result<(DeclAsk, Counts, &'a [Terminal]), Stop<'a>>
-    ensures { Gives (λ x. (an_ask x.0, x.1, x.2.now)) result ((question_rule 0).read counts terminals.now) }
+) -> Result<(Item, Counts, &'a [Terminal]), Stop<'a>>
+    ensures { Gives (λ x. (x.0, x.1, x.2.now)) result ((question_rule 0).read counts terminals.now) }
 {
     if !is_next(Class::Ask, terminals) {
         return Err(Stop::Stuck(terminals));
@@ -113,5 +113,6 @@ pub fn question<'a>(
     let (dst, counts, terminals) = outermost(alloc, counts, terminals)?;
     let (assume, counts, terminals) = assume(alloc, counts, terminals)?;
     let (_, counts, terminals) = take(Class::Semicolon, counts, terminals)?;
-    Ok((DeclAsk { src, dst, assume }, counts, terminals))
+    let ask = DeclAsk { src, dst, assume };
+    Ok((Item::Question(ask), counts, terminals))
 }

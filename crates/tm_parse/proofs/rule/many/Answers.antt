@@ -1,6 +1,6 @@
 use Rattle.std.proofs.Common.{◌≡◌, ◌+◌, ◌-◌, ◌<◌, sym, ap, ◌∙◌, length, true, arith}
 use Rattle.tm_parse.specs.Combinators.{mapped, to}
-use Rattle.tm_parse.proofs.Loops.{turn_ends, turn_spent, turn_stops, turn_next, again_stops}
+use Rattle.tm_parse.proofs.Loops.{turn_ends, turn_spent, turn_stops, turn_next, mapped_stops}
 use Rattle.tm_parse.proofs.rule.many.Goals as goal
 
 pub returns-then-not-begins : goal.returns-then-not-begins
@@ -10,7 +10,7 @@ returns-then-not-begins g c =
 pub returns-in-Err : goal.returns-in-Err
 returns-in-Err g c =
     let left : 0 < length c.args.terminals.now - c.loop-turn.turn = omega (arith, c.loop-turn-test.true) in
-    turn_stops _ (to (λ v. (v, true)) g.R.Rule.rule).read _ _ (length c.args.terminals.now - c.loop-turn.turn) _ _ _ c.loop-turn.invariant left (sym c.begins.ensures ∙ c.if-not-begins.false) (again_stops g.R.Rule.rule.read _ _ _ c.in-Err.ensures)
+    turn_stops _ (to (λ v. (v, true)) g.R.Rule.rule).read _ _ (length c.args.terminals.now - c.loop-turn.turn) _ _ _ c.loop-turn.invariant left (sym c.begins.ensures ∙ c.if-not-begins.false) (mapped_stops _ _ _ c.in-Err.ensures)
 
 pub loop-turn-preserved : goal.loop-turn-preserved
 loop-turn-preserved g c =
