@@ -12,7 +12,6 @@ use Rattle.tm_base.specs.Cells.{Word, IsByte, number_of, fit, Times}
 use Rattle.tm_base.specs.Expanded.{Expanded, prim, array, level, expanded_within}
 use Rattle.tm_base.specs.Layout.{prim_size, layout_of, size_of}
 use Rattle.tm_base.specs.Valid.{AreBytes, PrimValid, Valid}
-use Rattle.tm_run.proofs.Front.{Some-injective}
 use Rattle.tm_run.specs.declared.bytes.Bytes.{Bytes}
 use Rattle.tm_base.proofs.ShapeLemmas.{HasNoPrivate-Repeat, HasNoAlternatives-Repeat, leaves_of-Repeat, HasSize-Range, HasSize-Repeat}
 use Rattle.tm_base.proofs.TreeLemmas.{TreeWord-Repeat}
@@ -20,11 +19,14 @@ use Rattle.tm_base.specs.Shapes.{HasNoPrivate, HasNoAlternatives, HasSize, leave
 use Rattle.tm_base.specs.Transmutes.{Same, Transmutes, holds}
 use Rattle.tm_base.specs.Trees.{TreeWord}
 use Rattle.tm_base.specs.declared.tree.Tree.{Range, Repeat}
-use Rattle.tm_run.specs.Files.{nothing_assumed}
+use Rattle.tm_run.specs.Questions.{nothing_assumed}
 use Rattle.tm_auto.specs.Automata.{Automaton, equal}
 use Rattle.tm_run.specs.Comparing.{AllFree, HasFreeWords, EveryFits}
 use Rattle.tm_run.specs.Verdicts.{closed_type}
 use Rattle.tm_run.specs.Bytes.{HasWordsOf, UpTo, prim_bytes, element_bytes, repeated, bytes_in, bytes_of}
+
+Some-injective : {T : Type 0} (x y : T) → Some x ≡ Some y → x ≡ y
+Some-injective x y h = cc
 
 Byte-injective : (a b : ℕ) → Byte a ≡ Byte b → a ≡ b
 Byte-injective a b h = cc

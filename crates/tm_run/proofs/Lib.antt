@@ -1,9 +1,9 @@
+pub mod AskLemmas
 pub mod BytesLemmas
 pub mod CompareLemmas
+pub mod FaultLemmas
 pub mod FitLemmas
-pub mod Front
-pub mod GrammarLemmas
 pub mod LeavingLemmas
 pub mod RunLemmas
-pub mod Spelling
+pub mod TokenLemmas
 pub mod VerdictLemmas

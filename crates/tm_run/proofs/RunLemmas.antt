@@ -1,52 +1,107 @@
 -- A run that writes its outcome, and one that stops before it writes.
-use Rattle.std.proofs.Common.{◌≡◌, ◌≢◌, ◌∙◌, ℕ, ◌<◌, ◌≤◌, ◌⊎◌, inl, inr, ◌↔◌, refl, sym, ap, subst, Option, Some, None, List, [], length, drop, arith, length-drop}
+use Rattle.std.proofs.Common.{◌≡◌, ◌≢◌, ◌∙◌, ℕ, ◌<◌, ◌≤◌, ◌⊎◌, inl, inr, ◌↔◌, refl, sym, ap, subst, Bool, true, false, if◌then◌else◌, Option, Some, None, List, [], length, drop, arith, length-drop}
+use Rattle.std.specs.List.{list_all}
 use Rattle.std.proofs.lemmas.List.{nil_from_length}
 use Rattle.tm_base.specs.declared.limit.LimitKind.TheVariants.{FileBytes}
 use Rattle.tm_io.specs.Faults.{Rose}
 use Rattle.tm_io.specs.Told.{TakesAll, TakesPast, AddsAll, AddsPrefix}
-use Rattle.tm_report.specs.declared.fault.FileFault.TheVariants.{Passed}
-use Rattle.tm_run.specs.Outcomes.{file_bytes, usage_line, limit_line, IsAccepted, IsReport, IsFileOutcome, IsOutcome, IsSettled, IsTold}
-use Rattle.tm_run.specs.Runs.{Finishes, Answers, Declines, Runs}
+use Rattle.tm_report.specs.FaultLines.{line_of}
+use Rattle.tm_report.specs.declared.fault.FileFault.{FileFault}
+use Rattle.tm_report.specs.declared.fault.FileFault.TheVariants.{NotUtf8, NoToken, BadNumber, OpenComment, Unexpected, EndOfFile, Passed, Names, NotYet}
+use Rattle.tm_run.specs.Examined.{IsOnlyFault}
+use Rattle.tm_run.specs.Faults.{HasTextFault, PassesLimit, status_of_fault}
+use Rattle.tm_run.specs.Outcomes.{usage_line, IsReport, IsFileOutcome, IsOutcome, IsSettled, IsTold}
+use Rattle.tm_run.specs.Report.{is_yes, status_of}
+use Rattle.tm_run.specs.Runs.{Finishes, Answers, Decides, Declines, Runs}
 use Rattle.tm_run.specs.declared.status.Status.{Status}
 use Rattle.tm_run.specs.declared.status.Status.TheVariants.{AllYes, Mixed, Usage, BadText, Limit, ReadFault, WriteFault, Memory, IllFormed}
+use Rattle.tm_run.specs.declared.verdict.Verdict.{Verdict}
+use Rattle.tm_run.proofs.FaultLemmas.{cause_limit, cause_text, limit_cause, long_only, never_ill_formed, text_cause}
 
--- an outcome of a file that was read
-module _ {W : Type 0} (words : List W) (file : List ℕ) (in_form : length words ≡ 0) where
-  outcome_limit : (status : Status) (text : List ℕ) → IsOutcome words file status text → status ≡ Limit ↔ (file_bytes < length file)
-  outcome_limit Usage text (h, e) = absurd (omega arith)
-  outcome_limit Limit text (h, long, e) = (λ _. long, λ _. refl)
-  outcome_limit BadText text (h, (short, bad, e)) = (λ k. cc, λ long. absurd (omega arith))
-  outcome_limit AllYes text (h, report) = (λ k. cc, λ long. let short = report.short in absurd (omega arith))
-  outcome_limit Mixed text (h, report) = (λ k. cc, λ long. let short = report.short in absurd (omega arith))
-  outcome_limit ReadFault text (z, h) = absurd h
-  outcome_limit WriteFault text (z, h) = absurd h
-  outcome_limit Memory text (z, h) = absurd h
-  outcome_limit IllFormed text (z, h) = absurd h
+-- the statuses of reports and of faults
+report_status : (verdicts : List Verdict) → (status_of verdicts ≡ AllYes) ⊎ (status_of verdicts ≡ Mixed)
+report_status verdicts = by (list_all is_yes verdicts)
+  where
+    by : (all : Bool) → ((if all then AllYes else Mixed) ≡ AllYes) ⊎ ((if all then AllYes else Mixed) ≡ Mixed)
+    by true = inl refl
+    by false = inr refl
 
-  accepted : (status : Status) (text : List ℕ) → IsReport file status text → IsAccepted file
-  accepted status text report = (report.short, (report.asks, report.spelled))
+fault_status : (fault : FileFault) → (status_of_fault fault ≡ BadText) ⊎ ((status_of_fault fault ≡ Limit) ⊎ (status_of_fault fault ≡ IllFormed))
+fault_status (NotUtf8 at) = inl refl
+fault_status (NoToken at) = inl refl
+fault_status (BadNumber at) = inl refl
+fault_status (OpenComment at) = inl refl
+fault_status (Unexpected at) = inl refl
+fault_status (EndOfFile at) = inl refl
+fault_status (Passed kind place) = inr (inl refl)
+fault_status (Names why at) = inr (inr refl)
+fault_status NotYet = inl refl
 
-  outcome_bad_text : (status : Status) (text : List ℕ) → IsOutcome words file status text → status ≡ BadText ↔ ((length file ≤ file_bytes) × (IsAccepted file → ⊥))
-  outcome_bad_text Usage text (h, e) = absurd (omega arith)
-  outcome_bad_text Limit text (h, long, e) = (λ k. cc, λ (short, bad). absurd (omega arith))
-  outcome_bad_text BadText text (h, (short, bad, e)) = (λ _. (short, bad), λ _. refl)
-  outcome_bad_text AllYes text (h, report) = (λ k. cc, λ (short, bad). absurd (bad (accepted AllYes text report)))
-  outcome_bad_text Mixed text (h, report) = (λ k. cc, λ (short, bad). absurd (bad (accepted Mixed text report)))
-  outcome_bad_text ReadFault text (z, h) = absurd h
-  outcome_bad_text WriteFault text (z, h) = absurd h
-  outcome_bad_text Memory text (z, h) = absurd h
-  outcome_bad_text IllFormed text (z, h) = absurd h
+settled_fault : (fault : FileFault) → IsSettled (status_of_fault fault)
+settled_fault fault = by (fault_status fault)
+  where
+    by : (status_of_fault fault ≡ BadText) ⊎ ((status_of_fault fault ≡ Limit) ⊎ (status_of_fault fault ≡ IllFormed)) → IsSettled (status_of_fault fault)
+    by (inl e) = subst IsSettled (sym e) tt
+    by (inr (inl e)) = subst IsSettled (sym e) tt
+    by (inr (inr e)) = subst IsSettled (sym e) tt
 
-  outcome_report : (status : Status) (text : List ℕ) → IsOutcome words file status text → IsAccepted file → IsReport file status text
-  outcome_report Usage text (h, e) a = absurd (omega arith)
-  outcome_report Limit text (h, long, e) a = let short = a.0 in absurd (omega arith)
-  outcome_report BadText text (h, (short, bad, e)) a = absurd (bad a)
-  outcome_report AllYes text (h, report) a = report
-  outcome_report Mixed text (h, report) a = report
-  outcome_report ReadFault text (z, h) a = absurd h
-  outcome_report WriteFault text (z, h) a = absurd h
-  outcome_report Memory text (z, h) a = absurd h
-  outcome_report IllFormed text (z, h) a = absurd h
+-- the only fault of a file decides it
+fault_decides : (file : List ℕ) (fault : FileFault) → IsOnlyFault file fault → Decides file (status_of_fault fault) (line_of fault)
+fault_decides file fault one = record {
+  outcome = inr (record { fault = fault; has = one.has; status_is = refl; text_is = refl });
+  accepted = λ a. absurd (one.refused a);
+  faulted = λ other h. sym (ap status_of_fault (one.only other h));
+}
+
+-- a file with one fault is answered by its line
+pub refused : (file : List ℕ) (fault : FileFault) (written written' : Option (List ℕ)) (faults faults' : ℕ) (result : Status) → IsOnlyFault file fault
+    → Declines fault written written' faults faults' result → Answers file written written' faults faults' result
+refused file fault written written' faults faults' result one (inl f) =
+    inl (status_of_fault fault, line_of fault, settled_fault fault, fault_decides file fault one, f)
+refused file fault written written' faults faults' result one (inr wants) = inr wants
+
+-- a report's status is none of a fault's or of a misuse
+not_of_report : (file : List ℕ) (status : Status) (text : List ℕ) → IsReport file status text → (status ≢ Usage) × (status ≢ Limit) × (status ≢ BadText) × (status ≢ IllFormed)
+not_of_report file status text report = by (report_status report.verdicts)
+  where
+    by : (status_of report.verdicts ≡ AllYes) ⊎ (status_of report.verdicts ≡ Mixed) → (status ≢ Usage) × (status ≢ Limit) × (status ≢ BadText) × (status ≢ IllFormed)
+    by (inl e) = let is = report.status_is in (λ k. cc, λ k. cc, λ k. cc, λ k. cc)
+    by (inr e) = let is = report.status_is in (λ k. cc, λ k. cc, λ k. cc, λ k. cc)
+
+-- what is decided of a file
+module _ (file : List ℕ) (status : Status) (text : List ℕ) (d : Decides file status text) where
+  decides_limit : status ≡ Limit ↔ PassesLimit file
+  decides_limit = (λ e. by e d.outcome, λ h. let (fault, has, is) = cause_limit file h in d.faulted fault has ∙ is)
+    where
+      by : status ≡ Limit → IsFileOutcome file status text → PassesLimit file
+      by e (inl report) = absurd ((not_of_report file status text report).1 e)
+      by e (inr refusal) = limit_cause file refusal.fault refusal.has (sym refusal.status_is ∙ e)
+
+  decides_text : status ≡ BadText ↔ HasTextFault file
+  decides_text = (λ e. by e d.outcome, λ h. let (fault, has, is) = cause_text file h in d.faulted fault has ∙ is)
+    where
+      by : status ≡ BadText → IsFileOutcome file status text → HasTextFault file
+      by e (inl report) = absurd ((not_of_report file status text report).2 e)
+      by e (inr refusal) = text_cause file refusal.fault refusal.has (sym refusal.status_is ∙ e)
+
+  decides_formed : status ≢ IllFormed
+  decides_formed e = by d.outcome
+    where
+      by : IsFileOutcome file status text → ⊥
+      by (inl report) = (not_of_report file status text report).3 e
+      by (inr refusal) = never_ill_formed file refusal.fault refusal.has (sym refusal.status_is ∙ e)
+
+  decides_used : status ≢ Usage
+  decides_used e = by d.outcome
+    where
+      of : (fault : FileFault) → status ≡ status_of_fault fault → (status_of_fault fault ≡ BadText) ⊎ ((status_of_fault fault ≡ Limit) ⊎ (status_of_fault fault ≡ IllFormed)) → ⊥
+      of fault is (inl f) = cc
+      of fault is (inr (inl f)) = cc
+      of fault is (inr (inr f)) = cc
+
+      by : IsFileOutcome file status text → ⊥
+      by (inl report) = (not_of_report file status text report).0 e
+      by (inr refusal) = of refusal.fault refusal.status_is (fault_status refusal.fault)
 
 settled_status : (status : Status) → IsSettled status → (status ≢ ReadFault) × (status ≢ WriteFault) × (status ≢ Memory)
 settled_status AllYes h = (λ e. cc, λ e. cc, λ e. cc)
@@ -66,6 +121,7 @@ module _ {W : Type 0} (words : List W) (left left' : Option (List ℕ)) (reads r
     pub usage : status ≡ Usage ↔ (0 < length words)
     pub ill_formed : status ≢ IllFormed
     pub outcome : (file : List ℕ) → IsTold words left file → IsOutcome words file status text
+    pub decides : (file : List ℕ) → length words ≡ 0 → left ≡ Some file → Decides file status text
     pub unrisen : reads' ≡ reads
     pub unread : 0 < length words → left' ≡ left
     pub taken : (file : List ℕ) → length words ≡ 0 → left ≡ Some file → left' ≡ Some (drop 1048577 file)
@@ -74,11 +130,11 @@ module _ {W : Type 0} (words : List W) (left left' : Option (List ℕ)) (reads r
       → (writes < writes' → status ≡ WriteFault) → Runs words left left' reads reads' written written' writes writes' status
   all_written status text w adds part risen =
       let (no_read, no_write, no_memory) = settled_status status w.settled in record {
-        headline = λ file r a. (text, outcome_report words file r.in_form status text (w.outcome file (inr r.told)) a, adds);
+        headline = λ file r a. (text, (w.decides file r.in_form r.told).accepted a, adds);
         outcome = λ file told s. (text, w.outcome file told, adds);
         usage = λ s. w.usage;
-        limit = λ file r. outcome_limit words file r.in_form status text (w.outcome file (inr r.told));
-        bad_text = λ file r. outcome_bad_text words file r.in_form status text (w.outcome file (inr r.told));
+        limit = λ file r. decides_limit file status text (w.decides file r.in_form r.told);
+        bad_text = λ file r. decides_text file status text (w.decides file r.in_form r.told);
         ill_formed = w.ill_formed;
         read_fault = λ e. absurd (no_read e);
         read_risen = λ r. let same = w.unrisen in absurd (omega arith);
@@ -162,28 +218,6 @@ module _ {W : Type 0} (words : List W) (left left' : Option (List ℕ)) (reads r
     taken = λ file h told a b. absurd (b refl);
   }
 
-file_outcome : {W : Type 0} (words : List W) (file : List ℕ) (status : Status) (text : List ℕ) → length words ≡ 0 → IsFileOutcome file status text → IsOutcome words file status text
-file_outcome words file AllYes text e h = (e, h)
-file_outcome words file Mixed text e h = (e, h)
-file_outcome words file BadText text e h = (e, h)
-file_outcome words file Usage text e h = absurd h
-file_outcome words file Limit text e h = absurd h
-file_outcome words file ReadFault text e h = absurd h
-file_outcome words file WriteFault text e h = absurd h
-file_outcome words file Memory text e h = absurd h
-file_outcome words file IllFormed text e h = absurd h
-
-file_status : (file : List ℕ) (status : Status) (text : List ℕ) → IsFileOutcome file status text → (status ≢ Usage) × (status ≢ IllFormed)
-file_status file AllYes text h = (λ e. cc, λ e. cc)
-file_status file Mixed text h = (λ e. cc, λ e. cc)
-file_status file BadText text h = (λ e. cc, λ e. cc)
-file_status file Usage text h = absurd h
-file_status file Limit text h = absurd h
-file_status file ReadFault text h = absurd h
-file_status file WriteFault text h = absurd h
-file_status file Memory text h = absurd h
-file_status file IllFormed text h = absurd h
-
 drop-short : (n : ℕ) (xs : List ℕ) → length xs ≤ n → drop n xs ≡ []
 drop-short n xs h = nil_from_length (drop n xs) (omega (arith, length-drop n xs))
 
@@ -196,21 +230,24 @@ module _ {W : Type 0} (words : List W) (left left' : Option (List ℕ)) (reads r
         settled = tt;
         usage = (λ e. some, λ h. refl);
         ill_formed = λ e. cc;
-        outcome = λ file told. (some, refl);
+        outcome = λ file told. inl (some, refl, refl);
+        decides = λ file none told. absurd (omega arith);
         unrisen = count;
         unread = λ h. same;
         taken = λ file e told. absurd (omega arith);
       }) f
 
   -- more bytes than a file may have, and the line that says so
-  too_long : (result : Status) → length words ≡ 0 → reads' ≡ reads → TakesPast left left' 1048576 → Finishes Limit limit_line written written' writes writes' result
+  too_long : (result : Status) → length words ≡ 0 → reads' ≡ reads → TakesPast left left' 1048576
+      → Finishes Limit (line_of (Passed FileBytes None)) written written' writes writes' result
       → Runs words left left' reads reads' written written' writes writes' result
-  too_long result in_form count past f = finished words left left' reads reads' written written' writes writes' Limit limit_line result
+  too_long result in_form count past f = finished words left left' reads reads' written written' writes writes' Limit (line_of (Passed FileBytes None)) result
       (record {
         settled = tt;
         usage = (λ e. cc, λ h. absurd (omega arith));
         ill_formed = λ e. cc;
         outcome = λ file told. by file told;
+        decides = λ file none told. decided file told;
         unrisen = count;
         unread = λ h. absurd (omega arith);
         taken = λ file e told. (at file told).1;
@@ -219,13 +256,16 @@ module _ {W : Type 0} (words : List W) (left left' : Option (List ℕ)) (reads r
       at : (file : List ℕ) → left ≡ Some file → (1048576 < length file) × (left' ≡ Some (drop 1048577 file))
       at file told = subst (λ (l : Option (List ℕ)). TakesPast l left' 1048576) told past
 
-      by : (file : List ℕ) → IsTold words left file → IsOutcome words file Limit limit_line
+      decided : (file : List ℕ) → left ≡ Some file → Decides file Limit (line_of (Passed FileBytes None))
+      decided file told = fault_decides file (Passed FileBytes None) (long_only file (at file told).0)
+
+      by : (file : List ℕ) → IsTold words left file → IsOutcome words file Limit (line_of (Passed FileBytes None))
       by file (inl some) = absurd (omega arith)
-      by file (inr told) = (in_form, (subst (λ (l : Option (List ℕ)). TakesPast l left' 1048576) told past).0, refl)
+      by file (inr told) = inr (in_form, (decided file told).outcome)
 
   -- more bytes than a file may have, or no memory for the line
   pub declined : (result : Status) → length words ≡ 0 → reads' ≡ reads → TakesPast left left' 1048576
-      → Declines (Passed FileBytes None) Limit written written' writes writes' result → Runs words left left' reads reads' written written' writes writes' result
+      → Declines (Passed FileBytes None) written written' writes writes' result → Runs words left left' reads reads' written written' writes writes' result
   declined result in_form count past (inl f) = too_long result in_form count past f
   declined result in_form count past (inr (e, same, unwritten)) =
       subst (λ (s : Status). Runs words left left' reads reads' written written' writes writes' s) (sym e)
@@ -234,25 +274,26 @@ module _ {W : Type 0} (words : List W) (left left' : Option (List ℕ)) (reads r
   -- a file that was read whole
   pub answered : (result : Status) (bytes : List ℕ) → length words ≡ 0 → reads' ≡ reads → TakesAll left left' bytes → length bytes ≤ 1048576
       → Answers bytes written written' writes writes' result → Runs words left left' reads reads' written written' writes writes' result
-  answered result bytes in_form count all short (inl (status, text, settled, outcome, f)) = finished words left left' reads reads' written written' writes writes' status text result
+  answered result bytes in_form count all short (inl (status, text, settled, decides, f)) = finished words left left' reads reads' written written' writes writes' status text result
       (record {
         settled = settled;
-        usage = (λ e. absurd ((file_status bytes status text outcome).0 e), λ h. absurd (omega arith));
-        ill_formed = (file_status bytes status text outcome).1;
+        usage = (λ e. absurd (decides_used bytes status text decides e), λ h. absurd (omega arith));
+        ill_formed = decides_formed bytes status text decides;
         outcome = by;
+        decides = λ file none told. decided file told;
         unrisen = count;
         unread = λ h. absurd (omega arith);
         taken = λ file e told. left_over file told;
       }) f
     where
-      at : (file : List ℕ) → left ≡ Some file → (bytes ≡ file) × (left' ≡ Some [])
-      at file told = subst (λ (l : Option (List ℕ)). TakesAll l left' bytes) told all
+      decided : (file : List ℕ) → left ≡ Some file → Decides file status text
+      decided file told =
+          let (same, none) = subst (λ (l : Option (List ℕ)). TakesAll l left' bytes) told all in
+          subst (λ (x : List ℕ). Decides x status text) same decides
 
       by : (file : List ℕ) → IsTold words left file → IsOutcome words file status text
       by file (inl some) = absurd (omega arith)
-      by file (inr told) =
-          let (same, none) = subst (λ (l : Option (List ℕ)). TakesAll l left' bytes) told all in
-          file_outcome words file status text in_form (subst (λ (x : List ℕ). IsFileOutcome x status text) same outcome)
+      by file (inr told) = inr (in_form, (decided file told).outcome)
 
       left_over : (file : List ℕ) → left ≡ Some file → left' ≡ Some (drop 1048577 file)
       left_over file told =

@@ -1,7 +1,6 @@
--- The types of the question file's grammar: some bytes, each of which has a number up to a greatest.
-use Rattle.std.specs.Prelude.{◌≡◌, ℕ, zero, suc, ◌≤◌, ◌*◌, ◌↔◌, Bool, nat_le, if◌then◌else◌, Option, Some, None, IsSome, [], ◌∷◌}
+-- The types that are answered today: some bytes, each of which has a number up to a greatest.
+use Rattle.std.specs.Prelude.{◌≡◌, ℕ, zero, suc, ◌≤◌, ◌*◌, ◌↔◌, Bool, nat_le, if◌then◌else◌, Option, Some, None, [], ◌∷◌}
 use Rattle.tm_auto.specs.Automata.{Automaton, AutoWord}
-use Rattle.tm_base.specs.declared.ask.Ask.{Ask}
 use Rattle.tm_base.specs.declared.cell.Cell.TheVariants.{Byte}
 use Rattle.tm_base.specs.declared.ground.Ground.{Ground, out-Ground}
 use Rattle.tm_base.specs.declared.ground.Ground.TheOpen.{Ground-F}
@@ -9,7 +8,6 @@ use Rattle.tm_base.specs.declared.ground.Primitive.{Primitive}
 use Rattle.tm_base.specs.declared.ground.Primitive.TheVariants.{Bool as bool', U8, U16, U32, U64}
 use Rattle.tm_base.specs.Cells.{Word}
 use Rattle.tm_base.specs.Transmutes.{holds}
-use Rattle.tm_run.specs.Files.{nothing_assumed}
 use Rattle.tm_run.specs.declared.bytes.Bytes.{Bytes}
 
 -- so many bytes, each at most so great
@@ -33,7 +31,7 @@ abbrev pub repeated : ℕ → Option Bytes → Option Bytes
 repeated n None = None
 repeated n (Some bytes) = if nat_le n 4096 then Some (record { most = bytes.most; count = n * bytes.count }) else None
 
--- the bytes of a type of the grammar
+-- the bytes of a primitive, or of an array of at most 4096 of them
 abbrev pub bytes_in : Ground-F Ground → Option Bytes
 bytes_in (Ground-F.Prim p) = prim_bytes p
 bytes_in (Ground-F.Array element n) = repeated n (element_bytes (out-Ground element))
@@ -45,9 +43,3 @@ bytes_of g = bytes_in (out-Ground g)
 -- the automaton's words are these bytes
 pub record HasWordsOf (auto : Automaton) (bytes : Bytes) : Type 0 where
   pub words : (A : ℕ → ℕ → Bool) (w : Word) → AutoWord (holds A) auto w ↔ UpTo bytes.most bytes.count w
-
--- a question between types of the grammar, where nothing is assumed
-pub record IsOfGrammar (ask : Ask) : Type 0 where
-  pub src : IsSome (bytes_of ask.src)
-  pub dst : IsSome (bytes_of ask.dst)
-  pub assume : ask.assume ≡ nothing_assumed

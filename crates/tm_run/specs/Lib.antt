@@ -1,8 +1,11 @@
 pub mod Bytes
 pub mod Comparing
+pub mod Examined
+pub mod Faults
 pub mod Files
 pub mod Outcomes
-pub mod Reading
+pub mod Places
+pub mod Questions
 pub mod Report
 pub mod Runs
 pub mod Verdicts

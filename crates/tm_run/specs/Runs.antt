@@ -1,10 +1,12 @@
 -- What a run keeps, all at once: the clauses of `run` say each of it.
-use Rattle.std.specs.Prelude.{◌≡◌, ◌≢◌, ℕ, ◌<◌, ◌≤◌, ◌⊎◌, ◌↔◌, Option, Some, List, length, drop}
+use Rattle.std.specs.Prelude.{◌≡◌, ◌≢◌, ℕ, ◌<◌, ◌⊎◌, ◌↔◌, Option, Some, List, length, drop}
 use Rattle.tm_io.specs.Faults.{Rose}
 use Rattle.tm_io.specs.Told.{AddsAll, AddsPrefix}
 use Rattle.tm_report.specs.FaultLines.{line_of}
 use Rattle.tm_report.specs.declared.fault.FileFault.{FileFault}
-use Rattle.tm_run.specs.Outcomes.{file_bytes, IsAccepted, IsFileOutcome, IsSettled, IsTold, IsRead, WritesOutcome, WritesPrefix, WritesReport}
+use Rattle.tm_run.specs.Faults.{HasFault, HasTextFault, PassesLimit, status_of_fault}
+use Rattle.tm_run.specs.Files.{IsAccepted}
+use Rattle.tm_run.specs.Outcomes.{IsFileOutcome, IsReport, IsSettled, IsTold, IsRead, WritesOutcome, WritesPrefix, WritesReport}
 use Rattle.tm_run.specs.declared.status.Status.{Status}
 use Rattle.tm_run.specs.declared.status.Status.TheVariants.{Usage, BadText, Limit, ReadFault, WriteFault, Memory, IllFormed}
 
@@ -19,14 +21,21 @@ abbrev pub WantsMemory : Option (List ℕ) → Option (List ℕ) → ℕ → ℕ
 WantsMemory written written' faults faults' result = (result ≡ Memory) × (written' ≡ written) × (faults' ≡ faults)
 
 -- The line of a fault is written, or memory is wanting.
-abbrev pub Declines : FileFault → Status → Option (List ℕ) → Option (List ℕ) → ℕ → ℕ → Status → Type 0
-Declines fault status written written' faults faults' result =
-    Finishes status (line_of fault) written written' faults faults' result ⊎ WantsMemory written written' faults faults' result
+abbrev pub Declines : FileFault → Option (List ℕ) → Option (List ℕ) → ℕ → ℕ → Status → Type 0
+Declines fault written written' faults faults' result =
+    Finishes (status_of_fault fault) (line_of fault) written written' faults faults' result ⊎ WantsMemory written written' faults faults' result
 
--- The outcome of a file that isn't too long is written, or memory is wanting.
+-- The outcome of a file, and no other is: the report on it where it is accepted, and the status of its fault
+-- where it has one.
+pub record Decides (file : List ℕ) (status : Status) (text : List ℕ) : Type 0 where
+  pub outcome : IsFileOutcome file status text
+  pub accepted : IsAccepted file → IsReport file status text
+  pub faulted : (fault : FileFault) → HasFault file fault → status ≡ status_of_fault fault
+
+-- The outcome of a file is written, or memory is wanting.
 abbrev pub Answers : List ℕ → Option (List ℕ) → Option (List ℕ) → ℕ → ℕ → Status → Type 0
 Answers file written written' faults faults' result =
-    ((status : Status) × (text : List ℕ) × IsSettled status × IsFileOutcome file status text × Finishes status text written written' faults faults' result)
+    ((status : Status) × (text : List ℕ) × IsSettled status × Decides file status text × Finishes status text written written' faults faults' result)
     ⊎ WantsMemory written written' faults faults' result
 
 module _ {W : Type 0} (words : List W) (left left' : Option (List ℕ)) (reads reads' : ℕ) (written written' : Option (List ℕ)) (writes writes' : ℕ) where
@@ -34,8 +43,8 @@ module _ {W : Type 0} (words : List W) (left left' : Option (List ℕ)) (reads r
     pub headline : (file : List ℕ) → IsRead words left file status → IsAccepted file → WritesReport file status written written'
     pub outcome : (file : List ℕ) → IsTold words left file → IsSettled status → WritesOutcome words file status written written'
     pub usage : IsSettled status → (status ≡ Usage ↔ (0 < length words))
-    pub limit : (file : List ℕ) → IsRead words left file status → (status ≡ Limit ↔ (file_bytes < length file))
-    pub bad_text : (file : List ℕ) → IsRead words left file status → (status ≡ BadText ↔ ((length file ≤ file_bytes) × (IsAccepted file → ⊥)))
+    pub limit : (file : List ℕ) → IsRead words left file status → (status ≡ Limit ↔ PassesLimit file)
+    pub bad_text : (file : List ℕ) → IsRead words left file status → (status ≡ BadText ↔ HasTextFault file)
     pub ill_formed : status ≢ IllFormed
     pub read_fault : status ≡ ReadFault → Rose reads reads'
     pub read_risen : reads < reads' → status ≡ ReadFault

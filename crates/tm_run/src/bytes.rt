@@ -2,10 +2,12 @@ ghost use Rattle.std.specs.Prelude.{◌≡◌, ◌≤◌, Some, IfOk, IfSome};
 ghost use Rattle.tm_auto.specs.Automata.{HasOneStateALayer};
 ghost use Rattle.tm_run.specs.Bytes.{HasWordsOf, prim_bytes, bytes_of, repeated};
 
-use crate::file::MOST_ELEMENTS;
 use std::alloc::Global;
 use tm_auto::Auto;
 use tm_base::{Boxed, Ground, Memory, Primitive, Tree};
+
+/// The greatest length of an array that is answered today.
+const MOST_ELEMENTS: u32 = 4096;
 
 /// Some bytes, each of which has a number from 0 to `most`.
 #[derive(Clone, Copy, PartialEq, Eq, Debug)]
@@ -29,7 +31,7 @@ fn primitive_bytes(primitive: Primitive) -> Option<Bytes>
     Some(Bytes { most, count })
 }
 
-/// The bytes of a type of the question file's grammar.
+/// The bytes of a primitive, or of an array of at most 4,096 of them, where they are known.
 pub fn bytes_of(ground: &Ground) -> Option<Bytes>
     ensures bytes { result ≡ bytes_of ground.now }
     ensures few { IfSome result (λ bytes. bytes.count ≤ 32768) }

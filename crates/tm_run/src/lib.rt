@@ -3,7 +3,9 @@
 
 mod bytes;
 mod comparing;
-mod file;
+mod examining;
+mod places;
+mod questions;
 mod report;
 mod running;
 mod status;

@@ -1,12 +1,15 @@
-ghost use Rattle.std.specs.Prelude.{◌≡◌, ◌≢◌, ℕ, ◌<◌, ◌≤◌, ◌↔◌, Option, Some, List, IfOk, drop, length, string_bytes};
+ghost use Rattle.std.specs.Prelude.{◌≡◌, ◌≢◌, ℕ, ◌<◌, ◌≤◌, ◌↔◌, Option, Some, List, IfOk, IfErr, drop, length, string_bytes};
 ghost use Rattle.tm_io.specs.Faults.{Rose};
 ghost use Rattle.tm_io.specs.Told.{AddsAll};
-ghost use Rattle.tm_run.specs.Outcomes.{IsAccepted, IsReport, IsSettled, IsTold, IsRead, WritesOutcome, WritesPrefix, WritesReport, file_bytes};
-ghost use Rattle.tm_run.specs.Runs.{Finishes, Runs, Answers, Declines};
+ghost use Rattle.tm_run.specs.Examined.{IsStop};
+ghost use Rattle.tm_run.specs.Faults.{HasTextFault, PassesLimit};
+ghost use Rattle.tm_run.specs.Files.{IsAccepted};
+ghost use Rattle.tm_run.specs.Outcomes.{IsSettled, IsTold, IsRead, WritesOutcome, WritesPrefix, WritesReport};
+ghost use Rattle.tm_run.specs.Runs.{Answers, Decides, Declines, Finishes, Runs};
 
-use crate::file::{FileErr, questions};
+use crate::examining::{Stop, examine};
 use crate::report::{report, status};
-use crate::status::Status;
+use crate::status::{Status, fault_status};
 use crate::verdict::verdicts;
 use std::alloc::Global;
 use tm_base::LimitKind;
@@ -17,8 +20,6 @@ use tm_report::{FileFault, fault_line};
 const FILE_BYTES: u32 = 1_048_576;
 
 const USAGE_LINE: &str = "usage: transmute_report\n";
-
-const BAD_TEXT_LINE: &str = "bad text\n";
 
 /// What is wrong with an input of more than `FILE_BYTES`.
 const TOO_LONG: FileFault = FileFault::Passed(LimitKind::FileBytes, None);
@@ -41,8 +42,8 @@ pub fn run<S: Source, K: Sink>(alloc: Global, words: &[String], src: &mut S, out
 
     // The cause of each status.
     ensures usage { IsSettled result → (result ≡ Status.Usage ↔ (0 < length words.now)) }
-    ensures limit { (file : List ℕ) → IsRead words.now (S.left src.old) file result → (result ≡ Status.Limit ↔ (file_bytes < length file)) }
-    ensures bad_text { (file : List ℕ) → IsRead words.now (S.left src.old) file result → (result ≡ Status.BadText ↔ ((length file ≤ file_bytes) × (IsAccepted file → ⊥))) }
+    ensures limit { (file : List ℕ) → IsRead words.now (S.left src.old) file result → (result ≡ Status.Limit ↔ PassesLimit file) }
+    ensures bad_text { (file : List ℕ) → IsRead words.now (S.left src.old) file result → (result ≡ Status.BadText ↔ HasTextFault file) }
     ensures ill_formed { result ≢ Status.IllFormed }
     ensures read_fault { result ≡ Status.ReadFault → Rose (S.faults src.old) (S.faults src.new) }
     ensures read_risen { S.faults src.old < S.faults src.new → result ≡ Status.ReadFault }
@@ -66,42 +67,42 @@ fn ran<S: Source, K: Sink>(alloc: Global, words: &[String], src: &mut S, out: &m
     match read_all(alloc, src, FILE_BYTES) {
         Ok(file) => answer(alloc, &file, out),
         Err(ReadErr::Fault) => Status::ReadFault,
-        Err(ReadErr::TooLong) => decline(alloc, TOO_LONG, Status::Limit, out),
+        Err(ReadErr::TooLong) => decline(alloc, TOO_LONG, out),
         Err(ReadErr::Memory) => Status::Memory,
     }
 }
 
-/// Writes the report on a file, or the line that says that it isn't one.
+/// Writes the report on a file, or the line that says why it gets none.
 fn answer<K: Sink>(alloc: Global, file: &[u8], out: &mut K) -> Status
     requires { length file.now ≤ 1048576 }
     ensures { Answers file.now (K.written out.old) (K.written out.new) (K.faults out.old) (K.faults out.new) result }
 {
     match judged(alloc, file) {
         Ok((status, text)) => finish(out, text.as_str(), status),
-        Err(FileErr::BadText) => finish(out, BAD_TEXT_LINE, Status::BadText),
-        Err(FileErr::OutOfMemory) => Status::Memory,
+        Err(Stop::Fault(fault)) => decline(alloc, fault, out),
+        Err(Stop::Memory) => Status::Memory,
     }
 }
 
 /// The status and the text of the report on a file.
-fn judged(alloc: Global, file: &[u8]) -> Result<(Status, String), FileErr>
+fn judged(alloc: Global, file: &[u8]) -> Result<(Status, String), Stop>
     requires { length file.now ≤ 1048576 }
-    ensures report { IfOk result (λ outcome. IsReport file.now outcome.0 (string_bytes outcome.1)) }
-    ensures bad { result ≡ Err FileErr.BadText → IsAccepted file.now → ⊥ }
+    ensures settled { IfOk result (λ outcome. IsSettled outcome.0) }
+    ensures report { IfOk result (λ outcome. Decides file.now outcome.0 (string_bytes outcome.1)) }
+    ensures stop { IfErr result (IsStop file.now) }
 {
-    let asks = questions(alloc, file)?;
+    let asks = examine(alloc, file)?;
     let verdicts = verdicts(alloc, asks.as_slice())?;
     let text = report(alloc, &verdicts)?;
     Ok((status(&verdicts), text))
 }
 
-/// Writes the line of a file that gets no report.
-fn decline<K: Sink>(alloc: Global, fault: FileFault, status: Status, out: &mut K) -> Status
-    requires { IsSettled status }
-    ensures { Declines fault status (K.written out.old) (K.written out.new) (K.faults out.old) (K.faults out.new) result }
+/// Writes the line of a fault.
+fn decline<K: Sink>(alloc: Global, fault: FileFault, out: &mut K) -> Status
+    ensures { Declines fault (K.written out.old) (K.written out.new) (K.faults out.old) (K.faults out.new) result }
 {
     match fault_line(alloc, &fault) {
-        Ok(line) => finish(out, line.as_str(), status),
+        Ok(line) => finish(out, line.as_str(), fault_status(fault)),
         Err(_) => Status::Memory,
     }
 }

@@ -1,6 +1,6 @@
 ghost use Rattle.std.specs.Prelude.{◌≡◌, All, IfOk};
 ghost use Rattle.tm_run.specs.Verdicts.{AreTrueVerdicts, IsTrueVerdict};
-ghost use Rattle.tm_run.specs.Bytes.{IsOfGrammar};
+ghost use Rattle.tm_run.specs.Questions.{IsAnswerable};
 
 use crate::bytes::{automaton, bytes_of};
 use crate::comparing::every_word_fits;
@@ -16,7 +16,7 @@ pub enum Verdict {
 
 /// Answers a question.
 fn answer(alloc: Global, ask: &Ask) -> Result<Verdict, Memory>
-    requires { IsOfGrammar ask.now }
+    requires { IsAnswerable ask.now }
     ensures { IfOk result (λ verdict. IsTrueVerdict ask.now verdict) }
 {
     let Some(src) = bytes_of(&ask.src) else {
@@ -36,7 +36,7 @@ fn answer(alloc: Global, ask: &Ask) -> Result<Verdict, Memory>
 
 /// Answers each question, in order.
 pub fn verdicts(alloc: Global, asks: &[Ask]) -> Result<Vec<Verdict>, Memory>
-    requires { All IsOfGrammar asks.now }
+    requires { All IsAnswerable asks.now }
     ensures { IfOk result (λ answers. AreTrueVerdicts asks.now answers.items) }
 {
     let mut answers = Vec::new(alloc);

@@ -1,6 +1,6 @@
 use Rattle.std.proofs.Common.{◌≡◌, ℕ, Bool, true, false, sym}
 use Rattle.tm_base.specs.Transmutes.{Transmutes, holds}
-use Rattle.tm_run.specs.Files.{nothing_assumed}
+use Rattle.tm_run.specs.Questions.{nothing_assumed}
 use Rattle.tm_run.specs.Verdicts.{closed_type}
 use Rattle.tm_run.proofs.BytesLemmas.{closed-HasBytes, HasFreeWords-bytes, EveryFits-bytes, bytes-EveryFits, fits-Transmutes, Transmutes-fits}
 use Rattle.tm_run.proofs.verdict.answer.Goals as goal

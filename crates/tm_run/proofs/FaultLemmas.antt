@@ -1,0 +1,182 @@
+-- Each fault by its cause, and that a file has one fault only.
+use Rattle.std.proofs.Common.{◌≡◌, ◌∙◌, ℕ, ◌<◌, inl, inr, refl, sym, ap, subst, Some, None, List, length, arith}
+use Rattle.std.proofs.lemmas.Str.{utf8_valid_len-IsValidUpTo}
+use Rattle.tm_base.specs.declared.limit.LimitKind.{LimitKind}
+use Rattle.tm_base.specs.declared.limit.LimitKind.TheVariants.{FileBytes}
+use Rattle.tm_lex.specs.Lexes.{IsFault, Tokenizes}
+use Rattle.tm_lex.specs.declared.fault.LexWhy.{LexWhy}
+use Rattle.tm_lex.specs.declared.fault.LexWhy.TheVariants as why
+use Rattle.tm_lex.specs.declared.token.Token.{Token}
+use Rattle.tm_parse.specs.Parsing.{PassesLimitAt, SpellsFile, StopsAt}
+use Rattle.tm_parse.specs.Spelling.{terminals_of}
+use Rattle.tm_parse.specs.declared.parsed.Parsed.{Parsed}
+use Rattle.tm_report.specs.declared.fault.At.{At}
+use Rattle.tm_report.specs.declared.fault.FileFault.{FileFault}
+use Rattle.tm_report.specs.declared.fault.FileFault.TheVariants.{NotUtf8, NoToken, BadNumber, OpenComment, Unexpected, EndOfFile, Passed, Names, NotYet}
+use Rattle.tm_run.specs.Examined.{AreTokensOf, IsOnlyFault, no_token_at}
+use Rattle.tm_run.specs.Faults.{BeginsAt, EndsTooSoon, GoesBeyond, HasFault, HasTextFault, IsNotUtf8, LacksToken, PassesLimit, PassesLimitAtToken, StopsAtToken, status_of_fault}
+use Rattle.tm_run.specs.Files.{IsAccepted, file_bytes}
+use Rattle.tm_run.specs.Places.{at_byte}
+use Rattle.tm_run.specs.Questions.{questions_of}
+use Rattle.tm_run.specs.declared.status.Status.TheVariants.{BadText, Limit, IllFormed}
+
+-- what holds of the fault of each cause holds of each fault
+module _ (file : List ℕ) (P : FileFault → Type 0) where
+  pub record ByCause : Type 0 where
+    pub not_utf8 : (byte : ℕ) → IsNotUtf8 file byte → P (NotUtf8 (at_byte file byte))
+    pub lacks : (byte : ℕ) (why : LexWhy) → LacksToken file byte why → P (no_token_at (at_byte file byte) why)
+    pub stops : (byte : ℕ) → StopsAtToken file byte → P (Unexpected (at_byte file byte))
+    pub ends : EndsTooSoon file → P (EndOfFile (at_byte file (length file)))
+    pub passes : (kind : LimitKind) (byte : ℕ) → PassesLimitAtToken file kind byte → P (Passed kind (Some (at_byte file byte)))
+    pub long : file_bytes < length file → P (Passed FileBytes None)
+    pub beyond : GoesBeyond file → P NotYet
+
+  pub by_cause : ByCause → (fault : FileFault) → HasFault file fault → P fault
+  by_cause by (NotUtf8 at) (place, h) = subst (λ (at : At). P (NotUtf8 at)) (sym place) (by.not_utf8 at.byte h)
+  by_cause by (NoToken at) (place, h) = subst (λ (at : At). P (NoToken at)) (sym place) (by.lacks at.byte why.NoToken h)
+  by_cause by (BadNumber at) (place, h) = subst (λ (at : At). P (BadNumber at)) (sym place) (by.lacks at.byte why.BadNumber h)
+  by_cause by (OpenComment at) (place, h) = subst (λ (at : At). P (OpenComment at)) (sym place) (by.lacks at.byte why.OpenComment h)
+  by_cause by (Unexpected at) (place, h) = subst (λ (at : At). P (Unexpected at)) (sym place) (by.stops at.byte h)
+  by_cause by (EndOfFile at) (place, h) = subst (λ (at : At). P (EndOfFile at)) (sym place) (by.ends h)
+  by_cause by (Passed kind None) (k, h) = subst (λ (kind : LimitKind). P (Passed kind None)) (sym k) (by.long h)
+  by_cause by (Passed kind (Some at)) (place, h) = subst (λ (at : At). P (Passed kind (Some at))) (sym place) (by.passes kind at.byte h)
+  by_cause by (Names why at) h = absurd h
+  by_cause by NotYet h = by.beyond h
+
+-- the fault of each cause is one that the file has
+pub has_lacks : (file : List ℕ) (byte : ℕ) (why : LexWhy) → LacksToken file byte why → HasFault file (no_token_at (at_byte file byte) why)
+has_lacks file byte why.NoToken h = (refl, h)
+has_lacks file byte why.BadNumber h = (refl, h)
+has_lacks file byte why.OpenComment h = (refl, h)
+
+status_of_lacks : (at : At) (why : LexWhy) → status_of_fault (no_token_at at why) ≡ BadText
+status_of_lacks at why.NoToken = refl
+status_of_lacks at why.BadNumber = refl
+status_of_lacks at why.OpenComment = refl
+
+-- a file with a fault has a cause of its status
+pub limit_cause : (file : List ℕ) (fault : FileFault) → HasFault file fault → status_of_fault fault ≡ Limit → PassesLimit file
+limit_cause file = by_cause file (λ fault. status_of_fault fault ≡ Limit → PassesLimit file) (record {
+  not_utf8 = λ byte h e. cc;
+  lacks = λ byte why h e. let text = status_of_lacks (at_byte file byte) why in cc;
+  stops = λ byte h e. cc;
+  ends = λ h e. cc;
+  passes = λ kind byte h e. inr (kind, byte, h);
+  long = λ h e. inl h;
+  beyond = λ h e. cc;
+})
+
+pub text_cause : (file : List ℕ) (fault : FileFault) → HasFault file fault → status_of_fault fault ≡ BadText → HasTextFault file
+text_cause file = by_cause file (λ fault. status_of_fault fault ≡ BadText → HasTextFault file) (record {
+  not_utf8 = λ byte h e. inl (byte, h);
+  lacks = λ byte why h e. inr (inl (byte, why, h));
+  stops = λ byte h e. inr (inr (inl (byte, h)));
+  ends = λ h e. inr (inr (inr (inl h)));
+  passes = λ kind byte h e. cc;
+  long = λ h e. cc;
+  beyond = λ h e. inr (inr (inr (inr h)));
+})
+
+pub never_ill_formed : (file : List ℕ) (fault : FileFault) → HasFault file fault → status_of_fault fault ≡ IllFormed → ⊥
+never_ill_formed file = by_cause file (λ fault. status_of_fault fault ≡ IllFormed → ⊥) (record {
+  not_utf8 = λ byte h e. cc;
+  lacks = λ byte why h e. let text = status_of_lacks (at_byte file byte) why in cc;
+  stops = λ byte h e. cc;
+  ends = λ h e. cc;
+  passes = λ kind byte h e. cc;
+  long = λ h e. cc;
+  beyond = λ h e. cc;
+})
+
+-- a file with a cause has a fault of its status
+pub cause_limit : (file : List ℕ) → PassesLimit file → (fault : FileFault) × HasFault file fault × (status_of_fault fault ≡ Limit)
+cause_limit file (inl long) = (Passed FileBytes None, (refl, long), refl)
+cause_limit file (inr (kind, byte, h)) = (Passed kind (Some (at_byte file byte)), (refl, h), refl)
+
+pub cause_text : (file : List ℕ) → HasTextFault file → (fault : FileFault) × HasFault file fault × (status_of_fault fault ≡ BadText)
+cause_text file (inl (byte, h)) = (NotUtf8 (at_byte file byte), (refl, h), refl)
+cause_text file (inr (inl (byte, why, h))) =
+    (no_token_at (at_byte file byte) why, has_lacks file byte why h, status_of_lacks (at_byte file byte) why)
+cause_text file (inr (inr (inl (byte, h)))) = (Unexpected (at_byte file byte), (refl, h), refl)
+cause_text file (inr (inr (inr (inl h)))) = (EndOfFile (at_byte file (length file)), (refl, h), refl)
+cause_text file (inr (inr (inr (inr h)))) = (NotYet, h, refl)
+
+-- too many bytes are the one fault
+pub long_only : (file : List ℕ) → file_bytes < length file → IsOnlyFault file (Passed FileBytes None)
+long_only file long = record {
+  has = (refl, long);
+  only = by_cause file (λ other. other ≡ Passed FileBytes None) (record {
+    not_utf8 = λ byte h. absurd (omega arith);
+    lacks = λ byte why h. absurd (omega arith);
+    stops = λ byte h. let lexed = h.lexed in absurd (omega arith);
+    ends = λ h. let lexed = h.lexed in absurd (omega arith);
+    passes = λ kind byte h. let lexed = h.lexed in absurd (omega arith);
+    long = λ h. refl;
+    beyond = λ h. let lexed = h.spelled.lexed in absurd (omega arith);
+  });
+  refused = λ h. let lexed = h.spelled.lexed in absurd (omega arith);
+}
+
+-- bytes that aren't UTF-8 are the one fault
+pub broken_only : (file : List ℕ) (byte : ℕ) → IsNotUtf8 file byte → IsOnlyFault file (NotUtf8 (at_byte file byte))
+broken_only file byte broken = record {
+  has = (refl, broken);
+  only = by_cause file (λ other. other ≡ NotUtf8 (at_byte file byte)) (record {
+    not_utf8 = λ found h. ap (λ b. NotUtf8 (at_byte file b))
+        (sym (utf8_valid_len-IsValidUpTo file found h.front) ∙ utf8_valid_len-IsValidUpTo file byte broken.front);
+    lacks = λ byte why h. absurd (broken.broken h.utf8);
+    stops = λ byte h. absurd (broken.broken h.lexed.utf8);
+    ends = λ h. absurd (broken.broken h.lexed.utf8);
+    passes = λ kind byte h. absurd (broken.broken h.lexed.utf8);
+    long = λ h. let short = broken.short in absurd (omega arith);
+    beyond = λ h. absurd (broken.broken h.spelled.lexed.utf8);
+  });
+  refused = λ h. broken.broken h.spelled.lexed.utf8;
+}
+
+-- a byte at which no token begins is the one fault
+pub lacks_only : (file : List ℕ) (byte : ℕ) (why : LexWhy) → LacksToken file byte why → ((tokens : List Token) → Tokenizes file tokens → ⊥)
+    → ((other : ℕ) (because : LexWhy) → IsFault file other because → (other ≡ byte) × (because ≡ why)) → IsOnlyFault file (no_token_at (at_byte file byte) why)
+lacks_only file byte why lacks no_tokens same = record {
+  has = has_lacks file byte why lacks;
+  only = by_cause file (λ other. other ≡ no_token_at (at_byte file byte) why) (record {
+    not_utf8 = λ found h. absurd (h.broken lacks.utf8);
+    lacks = λ found because h. let (b, w) = same found because h.fault in
+        ap (λ b. no_token_at (at_byte file b) because) b ∙ ap (no_token_at (at_byte file byte)) w;
+    stops = λ found h. absurd (no_tokens h.tokens h.lexed.tokenizes);
+    ends = λ h. absurd (no_tokens h.tokens h.lexed.tokenizes);
+    passes = λ kind found h. absurd (no_tokens h.tokens h.lexed.tokenizes);
+    long = λ h. let short = lacks.short in absurd (omega arith);
+    beyond = λ h. absurd (no_tokens h.spelled.tokens h.spelled.lexed.tokenizes);
+  });
+  refused = λ h. no_tokens h.spelled.tokens h.spelled.lexed.tokenizes;
+}
+
+-- what holds of each fault of a file's tokens holds of each of its faults
+module _ (file : List ℕ) (tokens : List Token) (are : AreTokensOf file tokens) (P : FileFault → Type 0) where
+  pub record ByTokens : Type 0 where
+    pub stops : (byte place : ℕ) → BeginsAt tokens place byte → StopsAt (terminals_of file tokens) place → P (Unexpected (at_byte file byte))
+    pub ends : StopsAt (terminals_of file tokens) (length tokens) → P (EndOfFile (at_byte file (length file)))
+    pub passes : (kind : LimitKind) (byte place : ℕ) → BeginsAt tokens place byte → PassesLimitAt (terminals_of file tokens) kind place
+        → P (Passed kind (Some (at_byte file byte)))
+    pub beyond : (parsed : Parsed) → SpellsFile (terminals_of file tokens) parsed → questions_of parsed ≡ None → P NotYet
+
+  pub by_tokens : ByTokens → (fault : FileFault) → HasFault file fault → P fault
+  by_tokens by = by_cause file P (record {
+    not_utf8 = λ byte h. absurd (h.broken are.lexed.utf8);
+    lacks = λ byte why h. absurd (are.faultless byte why h.fault);
+    stops = λ byte h. let e = are.only h.tokens h.lexed.tokenizes in
+        by.stops byte h.place (subst (λ (ts : List Token). BeginsAt ts h.place byte) e h.begins)
+        (subst (λ (ts : List Token). StopsAt (terminals_of file ts) h.place) e h.stops);
+    ends = λ h. by.ends (subst (λ (ts : List Token). StopsAt (terminals_of file ts) (length ts)) (are.only h.tokens h.lexed.tokenizes) h.stops);
+    passes = λ kind byte h. let e = are.only h.tokens h.lexed.tokenizes in
+        by.passes kind byte h.place (subst (λ (ts : List Token). BeginsAt ts h.place byte) e h.begins)
+        (subst (λ (ts : List Token). PassesLimitAt (terminals_of file ts) kind h.place) e h.passes);
+    long = λ h. let short = are.lexed.short in absurd (omega arith);
+    beyond = λ h. by.beyond h.parsed
+        (subst (λ (ts : List Token). SpellsFile (terminals_of file ts) h.parsed) (are.only h.spelled.tokens h.spelled.lexed.tokenizes) h.spelled.spelled) h.beyond;
+  })
+
+  -- a file that is accepted is spelled by these tokens
+  pub spelled_by : (h : IsAccepted file) → SpellsFile (terminals_of file tokens) h.parsed
+  spelled_by h = subst (λ (ts : List Token). SpellsFile (terminals_of file ts) h.parsed) (are.only h.spelled.tokens h.spelled.lexed.tokenizes) h.spelled.spelled

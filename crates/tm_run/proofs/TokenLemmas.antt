@@ -1,0 +1,165 @@
+-- What lexing and parsing answer to a file: the one fault that the answer names, or that there is none.
+use Rattle.std.proofs.Common.{◌≡◌, ◌∙◌, ℕ, ◌<◌, ◌≤◌, ◌⊎◌, inl, inr, refl, sym, ap, subst, Some, None, Option, List, ◌∷◌, length, arith, slice_get, get_or, length-append}
+use Rattle.std.proofs.lemmas.List.{length-map}
+use Rattle.std.proofs.lemmas.List.FromFn.{length-enumerate_from}
+use Rattle.std.proofs.lemmas.Option.{slice_get_cases, slice_get_past, slice_get-get_or}
+use Rattle.tm_base.specs.declared.limit.LimitKind.{LimitKind}
+use Rattle.tm_lex.specs.Lexes.{IsFault, Tokenizes}
+use Rattle.tm_lex.specs.declared.fault.LexErr.TheVariants as lex_err
+use Rattle.tm_lex.specs.declared.fault.LexWhy.{LexWhy}
+use Rattle.tm_lex.specs.declared.token.Token.{Token}
+use Rattle.tm_parse.specs.Parsing.{PassesLimitAt, SpellsFile, StopsAt}
+use Rattle.tm_parse.specs.Spelling.{terminals_of}
+use Rattle.tm_parse.specs.declared.parsed.Parsed.{Parsed}
+use Rattle.tm_parse.specs.declared.parsing.ParseErr.TheVariants as parse_err
+use Rattle.tm_base.specs.declared.ask.Ask.{Ask}
+use Rattle.tm_report.specs.declared.fault.At.{At}
+use Rattle.tm_report.specs.declared.fault.FileFault.TheVariants.{Unexpected, EndOfFile, Passed, NotYet}
+use Rattle.tm_run.specs.Examined.{AreQuestionsOf, AreTokensOf, IsOnlyFault, IsParsedOf, fault_at, no_token_at}
+use Rattle.tm_run.specs.Faults.{BeginsAt, HasFault, LacksToken}
+use Rattle.tm_run.specs.Places.{at_byte}
+use Rattle.tm_run.specs.Questions.{questions_of}
+use Rattle.tm_run.proofs.FaultLemmas.{by_tokens, lacks_only, spelled_by}
+
+-- the lexer's fault
+pub lexer_fault : (file : List ℕ) (byte : ℕ) (why : LexWhy) → LacksToken file byte why
+    → ((tokens : List Token) → Tokenizes file tokens → lex_err.At byte why ≡ lex_err.Memory)
+    → ((other : ℕ) (because : LexWhy) → IsFault file other because → (lex_err.At byte why ≡ lex_err.At other because) ⊎ (lex_err.At byte why ≡ lex_err.Memory))
+    → IsOnlyFault file (no_token_at (at_byte file byte) why)
+lexer_fault file byte why lacks tokens faults = lacks_only file byte why lacks
+    (λ found h. let e = tokens found h in cc) (λ other because h. same other because (faults other because h))
+  where
+    same : (other : ℕ) (because : LexWhy) → (lex_err.At byte why ≡ lex_err.At other because) ⊎ (lex_err.At byte why ≡ lex_err.Memory) → (other ≡ byte) × (because ≡ why)
+    same other because (inl e) = (cc, cc)
+    same other because (inr e) = (cc, cc)
+
+length-terminals_of : (file : List ℕ) (tokens : List Token) → length (terminals_of file tokens) ≡ length tokens
+length-terminals_of file tokens = simp (length-map, length-enumerate_from)
+
+-- a token that passes a limit is one of the tokens
+pub passing_within : (file : List ℕ) (tokens : List Token) (kind : LimitKind) (place : ℕ) → PassesLimitAt (terminals_of file tokens) kind place → place < length tokens
+passing_within file tokens kind place h =
+    let e = length-terminals_of file tokens in let s = ap length h.splits in let long = h.long in
+    omega (arith, length-append h.front (h.next ∷ h.rest))
+
+-- where no token follows, the tokens stop at their end
+stopping_end : (file : List ℕ) (tokens : List Token) (place : ℕ) → StopsAt (terminals_of file tokens) place → length tokens ≤ place → place ≡ length tokens
+stopping_end file tokens place h past =
+    let e = length-terminals_of file tokens in let s = ap length h.splits in let long = h.long in
+    omega (arith, length-append h.front h.rest)
+
+module _ (file : List ℕ) (tokens : List Token) (are : AreTokensOf file tokens) where
+  has_stop : (place : ℕ) → StopsAt (terminals_of file tokens) place → HasFault file (fault_at file (slice_get tokens place))
+  has_stop place stops = by (slice_get_cases tokens place).1
+    where
+      by : ((token : Token) × (place < length tokens) × (slice_get tokens place ≡ Some token) × (get_or tokens place token ≡ token)) ⊎ ((length tokens ≤ place) × (slice_get tokens place ≡ None))
+          → HasFault file (fault_at file (slice_get tokens place))
+      by (inl (token, within, e, same)) = subst (λ (found : Option Token). HasFault file (fault_at file found)) (sym e)
+          (refl, record { tokens = tokens; lexed = are.lexed; place = place; begins = record { token = token; is = e; start = refl }; stops = stops })
+      by (inr (past, e)) = subst (λ (found : Option Token). HasFault file (fault_at file found)) (sym e)
+          (refl, record { tokens = tokens; lexed = are.lexed; stops = subst (λ (n : ℕ). StopsAt (terminals_of file tokens) n) (stopping_end file tokens place stops past) stops })
+
+  -- the parser's fault at a token or at the end
+  pub parser_fault : (place : ℕ) → StopsAt (terminals_of file tokens) place
+      → ((v : Parsed) → SpellsFile (terminals_of file tokens) v → parse_err.At place ≡ parse_err.Memory)
+      → ((p : ℕ) → StopsAt (terminals_of file tokens) p → (parse_err.At place ≡ parse_err.At p) ⊎ (parse_err.At place ≡ parse_err.Memory))
+      → ((kind : LimitKind) (p : ℕ) → PassesLimitAt (terminals_of file tokens) kind p → (parse_err.At place ≡ parse_err.Limit kind p) ⊎ (parse_err.At place ≡ parse_err.Memory))
+      → IsOnlyFault file (fault_at file (slice_get tokens place))
+  parser_fault place stops files faults limits = record {
+    has = has_stop place stops;
+    only = by_tokens file tokens are (λ other. other ≡ fault_at file (slice_get tokens place)) (record {
+      stops = λ byte p begins h. at_token byte p begins (same p (faults p h));
+      ends = λ h. at_end (same (length tokens) (faults (length tokens) h));
+      passes = λ kind byte p begins h. absurd (neither kind p (limits kind p h));
+      beyond = λ v h e. let m = files v h in cc;
+    });
+    refused = λ h. let m = files h.parsed (spelled_by file tokens are (λ fault. ⊥) h) in cc;
+  }
+    where
+      same : (p : ℕ) → (parse_err.At place ≡ parse_err.At p) ⊎ (parse_err.At place ≡ parse_err.Memory) → place ≡ p
+      same p (inl e) = cc
+      same p (inr e) = cc
+
+      neither : (kind : LimitKind) (p : ℕ) → (parse_err.At place ≡ parse_err.Limit kind p) ⊎ (parse_err.At place ≡ parse_err.Memory) → ⊥
+      neither kind p (inl e) = cc
+      neither kind p (inr e) = cc
+
+      at_token : (byte p : ℕ) → BeginsAt tokens p byte → place ≡ p → Unexpected (at_byte file byte) ≡ fault_at file (slice_get tokens place)
+      at_token byte p begins e =
+          ap (λ b. Unexpected (at_byte file b)) (sym begins.start) ∙ ap (fault_at file) (sym begins.is ∙ ap (slice_get tokens) (sym e))
+
+      at_end : place ≡ length tokens → EndOfFile (at_byte file (length file)) ≡ fault_at file (slice_get tokens place)
+      at_end e = ap (fault_at file) (sym (slice_get_past tokens place (omega arith)))
+
+  -- the parser's limit
+  pub parser_limit : (kind : LimitKind) (place : ℕ) (token : Token) → slice_get tokens place ≡ Some token → PassesLimitAt (terminals_of file tokens) kind place
+      → ((v : Parsed) → SpellsFile (terminals_of file tokens) v → parse_err.Limit kind place ≡ parse_err.Memory)
+      → ((p : ℕ) → StopsAt (terminals_of file tokens) p → (parse_err.Limit kind place ≡ parse_err.At p) ⊎ (parse_err.Limit kind place ≡ parse_err.Memory))
+      → ((k : LimitKind) (p : ℕ) → PassesLimitAt (terminals_of file tokens) k p → (parse_err.Limit kind place ≡ parse_err.Limit k p) ⊎ (parse_err.Limit kind place ≡ parse_err.Memory))
+      → IsOnlyFault file (Passed kind (Some (at_byte file token.start)))
+  parser_limit kind place token is passes files faults limits = record {
+    has = (refl, record { tokens = tokens; lexed = are.lexed; place = place; begins = record { token = token; is = is; start = refl }; passes = passes });
+    only = by_tokens file tokens are (λ other. other ≡ Passed kind (Some (at_byte file token.start))) (record {
+      stops = λ byte p begins h. absurd (neither p (faults p h));
+      ends = λ h. absurd (neither (length tokens) (faults (length tokens) h));
+      passes = λ k byte p begins h. at_token k byte p begins (limits k p h);
+      beyond = λ v h e. let m = files v h in cc;
+    });
+    refused = λ h. let m = files h.parsed (spelled_by file tokens are (λ fault. ⊥) h) in cc;
+  }
+    where
+      neither : (p : ℕ) → (parse_err.Limit kind place ≡ parse_err.At p) ⊎ (parse_err.Limit kind place ≡ parse_err.Memory) → ⊥
+      neither p (inl e) = cc
+      neither p (inr e) = cc
+
+      one : (byte p : ℕ) → BeginsAt tokens p byte → place ≡ p → byte ≡ token.start
+      one byte p begins e =
+          let t : Some begins.token ≡ Some token = sym begins.is ∙ ap (slice_get tokens) (sym e) ∙ is in
+          let same : begins.token ≡ token = cc in sym begins.start ∙ ap (λ t. t.start) same
+
+      at_token : (k : LimitKind) (byte p : ℕ) → BeginsAt tokens p byte → (parse_err.Limit kind place ≡ parse_err.Limit k p) ⊎ (parse_err.Limit kind place ≡ parse_err.Memory)
+          → Passed k (Some (at_byte file byte)) ≡ Passed kind (Some (at_byte file token.start))
+      at_token k byte p begins (inl e) =
+          let place_is : place ≡ p = cc in let kind_is : k ≡ kind = cc in
+          ap (λ x. Passed x (Some (at_byte file byte))) kind_is ∙ ap (λ b. Passed kind (Some (at_byte file b))) (one byte p begins place_is)
+      at_token k byte p begins (inr e) = cc
+
+  pub parser_limit_at : (kind : LimitKind) (place : ℕ) (default : Token) (bytes : List ℕ) (at : At) → bytes ≡ file → at ≡ at_byte bytes (get_or tokens place default).start
+      → PassesLimitAt (terminals_of file tokens) kind place
+      → ((v : Parsed) → SpellsFile (terminals_of file tokens) v → parse_err.Limit kind place ≡ parse_err.Memory)
+      → ((p : ℕ) → StopsAt (terminals_of file tokens) p → (parse_err.Limit kind place ≡ parse_err.At p) ⊎ (parse_err.Limit kind place ≡ parse_err.Memory))
+      → ((k : LimitKind) (p : ℕ) → PassesLimitAt (terminals_of file tokens) k p → (parse_err.Limit kind place ≡ parse_err.Limit k p) ⊎ (parse_err.Limit kind place ≡ parse_err.Memory))
+      → IsOnlyFault file (Passed kind (Some at))
+  parser_limit_at kind place default bytes at same is passes files faults limits =
+      let start = (get_or tokens place default).start in
+      let here : at ≡ at_byte file start = is ∙ ap (λ b. at_byte b start) same in
+      subst (λ (at : At). IsOnlyFault file (Passed kind (Some at))) (sym here)
+      (parser_limit kind place (get_or tokens place default) (slice_get-get_or tokens place default (passing_within file tokens kind place passes)) passes files faults limits)
+
+  -- what goes beyond today's questions
+  pub beyond_only : (parsed : Parsed) → IsParsedOf file tokens parsed → questions_of parsed ≡ None → IsOnlyFault file NotYet
+  beyond_only parsed is none = record {
+    has = record { parsed = parsed; spelled = record { tokens = tokens; lexed = are.lexed; spelled = is.spelled }; beyond = none };
+    only = by_tokens file tokens are (λ other. other ≡ NotYet) (record {
+      stops = λ byte p begins h. absurd (is.goes_on p h);
+      ends = λ h. absurd (is.goes_on (length tokens) h);
+      passes = λ kind byte p begins h. absurd (is.within kind p h);
+      beyond = λ v h e. refl;
+    });
+    refused = λ h. let same = is.only h.parsed (spelled_by file tokens are (λ fault. ⊥) h) in
+        let some = h.questions in let e = ap questions_of same in cc;
+  }
+
+  -- the questions of a file that goes nowhere beyond
+  pub questions_only : (parsed : Parsed) (asks : List Ask) → IsParsedOf file tokens parsed → questions_of parsed ≡ Some asks → AreQuestionsOf file asks
+  questions_only parsed asks is some = record {
+    parsed = parsed;
+    spelled = record { tokens = tokens; lexed = are.lexed; spelled = is.spelled };
+    questions = some;
+    faultless = by_tokens file tokens are (λ fault. ⊥) (record {
+      stops = λ byte p begins h. is.goes_on p h;
+      ends = λ h. is.goes_on (length tokens) h;
+      passes = λ kind byte p begins h. is.within kind p h;
+      beyond = λ v h none. let e = ap questions_of (is.only v h) in cc;
+    });
+  }

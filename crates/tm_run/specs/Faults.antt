@@ -1,0 +1,100 @@
+-- Why a file gets no report.
+use Rattle.std.specs.Prelude.{◌≡◌, ℕ, ◌<◌, ◌≤◌, ◌⊎◌, Some, None, List, length, slice_get, IsUtf8}
+use Rattle.std.specs.Str.{IsValidUpTo}
+use Rattle.tm_base.specs.declared.limit.LimitKind.{LimitKind}
+use Rattle.tm_base.specs.declared.limit.LimitKind.TheVariants.{FileBytes}
+use Rattle.tm_lex.specs.Lexes.{IsFault}
+use Rattle.tm_lex.specs.declared.fault.LexWhy.{LexWhy}
+use Rattle.tm_lex.specs.declared.fault.LexWhy.TheVariants as why
+use Rattle.tm_lex.specs.declared.token.Token.{Token}
+use Rattle.tm_parse.specs.Parsing.{PassesLimitAt, StopsAt}
+use Rattle.tm_parse.specs.Spelling.{terminals_of}
+use Rattle.tm_parse.specs.declared.parsed.Parsed.{Parsed}
+use Rattle.tm_report.specs.declared.fault.FileFault.{FileFault}
+use Rattle.tm_report.specs.declared.fault.FileFault.TheVariants.{NotUtf8, NoToken, BadNumber, OpenComment, Unexpected, EndOfFile, Passed, Names, NotYet}
+use Rattle.tm_run.specs.Files.{file_bytes, IsLexed, IsSpelled}
+use Rattle.tm_run.specs.Places.{IsPlaceIn, at_byte}
+use Rattle.tm_run.specs.Questions.{questions_of}
+use Rattle.tm_run.specs.declared.status.Status.{Status}
+use Rattle.tm_run.specs.declared.status.Status.TheVariants.{BadText, Limit, IllFormed}
+
+-- the file isn't UTF-8, and so many bytes are its longest front that is
+pub record IsNotUtf8 (file : List ℕ) (byte : ℕ) : Type 0 where
+  pub short : length file ≤ file_bytes
+  pub broken : IsUtf8 file → ⊥
+  pub front : IsValidUpTo file byte
+
+-- neither white space nor a comment nor a token begins at the byte, the first of such
+pub record LacksToken (file : List ℕ) (byte : ℕ) (why : LexWhy) : Type 0 where
+  pub short : length file ≤ file_bytes
+  pub utf8 : IsUtf8 file
+  pub fault : IsFault file byte why
+
+-- the token at a place in the list, counted from 0, begins at the byte
+pub record BeginsAt (tokens : List Token) (place byte : ℕ) : Type 0 where
+  pub token : Token
+  pub is : slice_get tokens place ≡ Some token
+  pub start : token.start ≡ byte
+
+-- no file of the grammar goes on with the token that begins at the byte, the first of such
+pub record StopsAtToken (file : List ℕ) (byte : ℕ) : Type 0 where
+  pub tokens : List Token
+  pub lexed : IsLexed file tokens
+  pub place : ℕ
+  pub begins : BeginsAt tokens place byte
+  pub stops : StopsAt (terminals_of file tokens) place
+
+-- the tokens begin a file of the grammar, and aren't one
+pub record EndsTooSoon (file : List ℕ) : Type 0 where
+  pub tokens : List Token
+  pub lexed : IsLexed file tokens
+  pub stops : StopsAt (terminals_of file tokens) (length tokens)
+
+-- some file of the grammar goes on with the token that begins at the byte, the first that passes a limit
+pub record PassesLimitAtToken (file : List ℕ) (kind : LimitKind) (byte : ℕ) : Type 0 where
+  pub tokens : List Token
+  pub lexed : IsLexed file tokens
+  pub place : ℕ
+  pub begins : BeginsAt tokens place byte
+  pub passes : PassesLimitAt (terminals_of file tokens) kind place
+
+-- the file is spelled, and has what isn't answered today
+pub record GoesBeyond (file : List ℕ) : Type 0 where
+  pub parsed : Parsed
+  pub spelled : IsSpelled file parsed
+  pub beyond : questions_of parsed ≡ None
+
+-- the file has the fault, at its place
+abbrev pub HasFault : List ℕ → FileFault → Type 0
+HasFault file (NotUtf8 at) = IsPlaceIn file at × IsNotUtf8 file at.byte
+HasFault file (NoToken at) = IsPlaceIn file at × LacksToken file at.byte why.NoToken
+HasFault file (BadNumber at) = IsPlaceIn file at × LacksToken file at.byte why.BadNumber
+HasFault file (OpenComment at) = IsPlaceIn file at × LacksToken file at.byte why.OpenComment
+HasFault file (Unexpected at) = IsPlaceIn file at × StopsAtToken file at.byte
+HasFault file (EndOfFile at) = (at ≡ at_byte file (length file)) × EndsTooSoon file
+HasFault file (Passed kind None) = (kind ≡ FileBytes) × (file_bytes < length file)
+HasFault file (Passed kind (Some at)) = IsPlaceIn file at × PassesLimitAtToken file kind at.byte
+HasFault file (Names why at) = ⊥
+HasFault file NotYet = GoesBeyond file
+
+abbrev pub status_of_fault : FileFault → Status
+status_of_fault (NotUtf8 at) = BadText
+status_of_fault (NoToken at) = BadText
+status_of_fault (BadNumber at) = BadText
+status_of_fault (OpenComment at) = BadText
+status_of_fault (Unexpected at) = BadText
+status_of_fault (EndOfFile at) = BadText
+status_of_fault (Passed kind place) = Limit
+status_of_fault (Names why at) = IllFormed
+status_of_fault NotYet = BadText
+
+-- The file isn't too long, and it isn't UTF-8, or somewhere no token begins, or no file of the grammar goes
+-- on with a token, or it ends too soon, or it has what isn't answered today.
+abbrev pub HasTextFault : List ℕ → Type 0
+HasTextFault file =
+    ((byte : ℕ) × IsNotUtf8 file byte) ⊎ ((byte : ℕ) × (why : LexWhy) × LacksToken file byte why)
+    ⊎ ((byte : ℕ) × StopsAtToken file byte) ⊎ EndsTooSoon file ⊎ GoesBeyond file
+
+-- the file has too many bytes, or one of its tokens is the first that passes a limit
+abbrev pub PassesLimit : List ℕ → Type 0
+PassesLimit file = (file_bytes < length file) ⊎ ((kind : LimitKind) × (byte : ℕ) × PassesLimitAtToken file kind byte)

@@ -1,0 +1,130 @@
+ghost use Rattle.std.specs.Prelude.{◌≡◌, ◌≤◌, IfOk, IfErr, length, slice_get, IsUtf8};
+ghost use Rattle.tm_run.specs.Examined.{AreQuestionsOf, AreTokensOf, IsParsedOf, IsStop, fault_at, no_token_at};
+ghost use Rattle.tm_run.specs.declared.examining.Stop.TheVariants as stop_is;
+
+use crate::places::at;
+use crate::questions::questions;
+use std::alloc::{AllocError, Global};
+use std::str;
+use tm_base::{Ask, List, Memory};
+use tm_lex::{LexErr, LexWhy, Token, lex};
+use tm_parse::{ParseErr, Parsed, parse};
+use tm_report::{At, FileFault};
+
+/// Why there is no report: the file's fault, or memory was wanting.
+#[derive(Clone, Copy, Debug)]
+pub enum Stop {
+    Fault(FileFault),
+    Memory,
+}
+
+impl From<Memory> for Stop {
+    ghost from_gives = { λ _ stop. stop ≡ stop_is.Memory };
+
+    fn from(_: Memory) -> Stop {
+        Stop::Memory
+    }
+}
+
+impl From<AllocError> for Stop {
+    ghost from_gives = { λ _ stop. stop ≡ stop_is.Memory };
+
+    fn from(_: AllocError) -> Stop {
+        Stop::Memory
+    }
+}
+
+/// The text of a file.
+fn decoded(file: &[u8]) -> Result<&str, Stop>
+    requires { length file.now ≤ 1048576 }
+    ensures text { IfOk result (λ text. (text.now ≡ file.now) × IsUtf8 file.now) }
+    ensures stop { IfErr result (IsStop file.now) }
+{
+    match str::from_utf8(file) {
+        Ok(text) => Ok(text),
+        Err(broken) => Err(Stop::Fault(FileFault::NotUtf8(at(file, broken.valid_up_to())))),
+    }
+}
+
+/// The fault of a text in which no token begins at a place.
+fn no_token(why: LexWhy, at: At) -> FileFault
+    ensures { result ≡ no_token_at at why }
+{
+    match why {
+        LexWhy::NoToken => FileFault::NoToken(at),
+        LexWhy::BadNumber => FileFault::BadNumber(at),
+        LexWhy::OpenComment => FileFault::OpenComment(at),
+    }
+}
+
+/// The tokens of a text.
+fn tokens(alloc: Global, text: &str) -> Result<Vec<Token>, Stop>
+    requires { length text.now ≤ 1048576 }
+    ensures tokens { IfOk result (λ tokens. AreTokensOf text.now tokens.items) }
+    ensures stop { IfErr result (IsStop text.now) }
+{
+    match lex(alloc, text) {
+        Ok(tokens) => Ok(tokens),
+        Err(LexErr::At(byte, why)) => {
+            let place = at(text.as_bytes(), byte as usize);
+            Err(Stop::Fault(no_token(why, place)))
+        }
+        Err(LexErr::Memory) => Err(Stop::Memory),
+    }
+}
+
+/// The fault of a text whose tokens stop at a place in their list, or at its end.
+fn fault(text: &str, tokens: &[Token], place: usize) -> FileFault
+    requires short { length text.now ≤ 1048576 }
+    requires tokens { AreTokensOf text.now tokens.now }
+    ensures { result ≡ fault_at text.now (slice_get tokens.now place) }
+{
+    let bytes = text.as_bytes();
+    match tokens.get(place) {
+        Some(token) => FileFault::Unexpected(at(bytes, token.start as usize)),
+        None => FileFault::EndOfFile(at(bytes, bytes.len())),
+    }
+}
+
+/// The file of the grammar that a text's tokens spell.
+fn parsed(alloc: Global, text: &str, tokens: &[Token]) -> Result<Parsed, Stop>
+    requires short { length text.now ≤ 1048576 }
+    requires tokens { AreTokensOf text.now tokens.now }
+    ensures parsed { IfOk result (IsParsedOf text.now tokens.now) }
+    ensures stop { IfErr result (IsStop text.now) }
+{
+    match parse(alloc, text, tokens) {
+        Ok(parsed) => Ok(parsed),
+        Err(ParseErr::At(place)) => Err(Stop::Fault(fault(text, tokens, place as usize))),
+        Err(ParseErr::Limit(kind, place)) => {
+            let start = tokens[place as usize].start as usize;
+            let passed = FileFault::Passed(kind, Some(at(text.as_bytes(), start)));
+            Err(Stop::Fault(passed))
+        }
+        Err(ParseErr::Memory) => Err(Stop::Memory),
+    }
+}
+
+/// The questions of a text.
+fn asks(alloc: Global, text: &str) -> Result<List<Ask>, Stop>
+    requires { length text.now ≤ 1048576 }
+    ensures questions { IfOk result (AreQuestionsOf text.now) }
+    ensures stop { IfErr result (IsStop text.now) }
+{
+    let tokens = tokens(alloc, text)?;
+    let parsed = parsed(alloc, text, &tokens)?;
+    match questions(alloc, &parsed)? {
+        Some(asks) => Ok(asks),
+        None => Err(Stop::Fault(FileFault::NotYet)),
+    }
+}
+
+/// The questions of a file of at most 1,048,576 bytes, or the one fault for which it gets no report.
+pub fn examine(alloc: Global, file: &[u8]) -> Result<List<Ask>, Stop>
+    requires { length file.now ≤ 1048576 }
+    ensures questions { IfOk result (AreQuestionsOf file.now) }
+    ensures stop { IfErr result (IsStop file.now) }
+{
+    let text = decoded(file)?;
+    asks(alloc, text)
+}
