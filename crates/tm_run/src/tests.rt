@@ -28,8 +28,8 @@ impl Source for BreaksOff {
     }
 }
 
-fn source(rt: &HostRuntime, text: &str) -> Result<MemSource, Fail> {
-    Ok(MemSource::new(Vec::from_slice(rt.alloc(), text.as_bytes())?))
+fn source(rt: &HostRuntime, file: &[u8]) -> Result<MemSource, Fail> {
+    Ok(MemSource::new(Vec::from_slice(rt.alloc(), file)?))
 }
 
 fn sink(rt: &HostRuntime, room: u32) -> Result<MemSink, Fail> {
@@ -37,6 +37,13 @@ fn sink(rt: &HostRuntime, room: u32) -> Result<MemSink, Fail> {
         .ok()
         .ok_or("no memory")?;
     Ok(sink)
+}
+
+/// Whether a run on the file, with ample room, ends so and writes this.
+fn ends(rt: &HostRuntime, file: &[u8], status: Status, written: &str) -> Result<bool, Fail> {
+    let mut out = sink(rt, 100)?;
+    let ended = run(rt.alloc(), &[], &mut source(rt, file)?, &mut out);
+    Ok(ended == status && out.written() == written.as_bytes())
 }
 
 #[test]
@@ -48,20 +55,56 @@ fn answers_with_ample_memory(rt: HostRuntime) -> Result<(), Fail> {
             Status::Mixed,
             "1: yes\n2: no\n1 yes, 1 no, 0 refused\n",
         ),
-        ("ask u8 => $;", Status::BadText, "bad text\n"),
+        (
+            "/* hexadecimal */ ask (u8) => [u8; 0x10];",
+            Status::Mixed,
+            "1: no\n0 yes, 1 no, 0 refused\n",
+        ),
     ] {
-        let mut out = sink(&rt, 100)?;
-        let ended = run(rt.alloc(), &[], &mut source(&rt, file)?, &mut out);
-        assert_eq!(rt; ended, status, "{file}");
-        assert_eq!(rt; out.written(), report.as_bytes(), "{file}");
+        assert!(rt; ends(&rt, file.as_bytes(), status, report)?, "{file}");
     }
+    Ok(())
+}
+
+#[test]
+fn says_where_a_file_is_wrong(rt: HostRuntime) -> Result<(), Fail> {
+    for (file, line) in [
+        ("ask u8 => $;", "no token at byte 10, line 1\n"),
+        ("ask u8 =>", "unexpected end at byte 9, line 1\n"),
+        (
+            "\nask u8\n=> u8 u8;",
+            "unexpected token at byte 14, line 3\n",
+        ),
+        ("struct S;", "not built yet\n"),
+        ("ask u8 => u8 assume safety;", "not built yet\n"),
+        ("ask [u8; 4097] => u8;", "not built yet\n"),
+    ] {
+        assert!(rt;
+            ends(&rt, file.as_bytes(), Status::BadText, line)?,
+            "{file}"
+        );
+    }
+    Ok(())
+}
+
+#[test]
+fn a_byte_outside_of_text_is_named(rt: HostRuntime) -> Result<(), Fail> {
+    let line = "not utf-8 at byte 0, line 1\n";
+    assert!(rt; ends(&rt, &[0xFF], Status::BadText, line)?);
+    Ok(())
+}
+
+#[test]
+fn a_token_past_a_limit_is_named(rt: HostRuntime) -> Result<(), Fail> {
+    let line = "limit array-length 4294967295 passed at byte 9, line 1\n";
+    assert!(rt; ends(&rt, b"ask [u8; 4294967296] => u8;", Status::Limit, line)?);
     Ok(())
 }
 
 #[test]
 fn a_sink_without_room_gets_a_front_of_the_report(rt: HostRuntime) -> Result<(), Fail> {
     let mut out = sink(&rt, 3)?;
-    let ended = run(rt.alloc(), &[], &mut source(&rt, "")?, &mut out);
+    let ended = run(rt.alloc(), &[], &mut source(&rt, b"")?, &mut out);
     assert_eq!(rt; ended, Status::WriteFault);
     assert_eq!(rt; out.written(), b"0 y".as_slice());
     Ok(())
@@ -84,7 +127,7 @@ fn a_read_fault_writes_nothing(rt: HostRuntime) -> Result<(), Fail> {
 fn a_word_leaves_the_source_unread(rt: HostRuntime) -> Result<(), Fail> {
     let alloc = rt.alloc();
     let words = vec![in alloc; String::from_str(alloc, "--summary")?]?;
-    let mut src = source(&rt, "ask u8 => u8;")?;
+    let mut src = source(&rt, b"ask u8 => u8;")?;
     let mut out = sink(&rt, 100)?;
     let ended = run(alloc, &words, &mut src, &mut out);
     assert_eq!(rt; ended, Status::Usage);
