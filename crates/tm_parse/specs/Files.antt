@@ -1,5 +1,6 @@
 -- The grammar of files.
-use Rattle.std.specs.Prelude.{ℕ, Bool, false, ◌||◌, Option, Some, None, List, [], ◌∷◌, ◌++◌}
+use Rattle.std.specs.Prelude.{ℕ, Bool, Option, Some, None, List, [], ◌∷◌, ◌++◌}
+use Rattle.std.specs.List.{list_any}
 use Rattle.tm_base.specs.declared.assume.Assume.{Assume}
 use Rattle.tm_parse.specs.Classes.{alike}
 use Rattle.tm_parse.specs.Combinators.{◌>>◌, ◌or◌, to, counts_as}
@@ -24,8 +25,7 @@ outlives = to (λ v. sort.Outlives (record { longer = v.1.0.place; shorter = v.1
 
 -- the flags that are written, each once or several times
 abbrev pub is_flagged : Class → List Terminal → Bool
-is_flagged flag [] = false
-is_flagged flag (t ∷ ts) = alike flag t.class || is_flagged flag ts
+is_flagged flag ts = list_any (λ t. alike flag t.class) ts
 
 abbrev pub flags : List Terminal → Assume
 flags ts = record { alignment = is_flagged c.Alignment ts; lifetimes = is_flagged c.Lifetimes ts; safety = is_flagged c.Safety ts; validity = is_flagged c.Validity ts }

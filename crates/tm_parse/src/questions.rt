@@ -28,10 +28,9 @@ use tm_base::Assume;
 fn is_flagged(flag: Class, terminals: &[Terminal]) -> bool
     ensures { result ≡ is_flagged_by flag terminals.now }
 {
-    match terminals {
-        [] => false,
-        [first, rest @ ..] => flag.is_alike(first.class) || is_flagged(flag, rest),
-    }
+    terminals
+        .iter()
+        .any(|terminal| flag.is_alike(terminal.class))
 }
 
 /// The flags that are written.
