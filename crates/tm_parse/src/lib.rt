@@ -21,6 +21,8 @@ mod reading;
 mod rule;
 mod stop;
 mod terminal;
+#[cfg(test)]
+mod tests;
 mod types;
 mod variants;
 mod vocabulary;

@@ -1,4 +1,4 @@
-ghost use Rattle.std.specs.Prelude.{◌≡◌, ◌≤◌, ◌<◌, ℕ, ◌-◌, ◌^◌, ◌⊎◌, length, List, IfOk, IfErr, MatchResult};
+ghost use Rattle.std.specs.Prelude.{◌≡◌, ◌≤◌, ℕ, ◌-◌, ◌⊎◌, length, List, IfOk, IfErr, MatchResult};
 ghost use Rattle.tm_lex.specs.Lexes.{Tokenizes};
 ghost use Rattle.tm_parse.specs.Parsing.{HasCause, IsAnswered, PassesLimitAt, SpellsFile, StopsAt};
 ghost use Rattle.tm_parse.specs.Spelling.{terminals_of};
