@@ -3,6 +3,7 @@
 #![tactic(auto)]
 
 mod fault;
+mod mentions;
 mod resolved;
 
 pub use fault::NameErr;
