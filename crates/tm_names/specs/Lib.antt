@@ -6,3 +6,4 @@ pub mod Representations
 pub mod Holding
 pub mod Faults
 pub mod Resolutions
+pub mod Source

@@ -2,9 +2,12 @@
 //! where the first fault of these stands.
 #![tactic(auto)]
 
+mod definitions;
 mod fault;
+mod mentioning;
 mod mentions;
 mod resolved;
+mod source;
 
 pub use fault::NameErr;
 pub use resolved::{Life, Open, OpenAsk, Resolved};
