@@ -7,3 +7,5 @@ pub mod Holding
 pub mod Faults
 pub mod Resolutions
 pub mod Source
+pub mod Sights
+pub mod Values

@@ -2,12 +2,18 @@
 //! where the first fault of these stands.
 #![tactic(auto)]
 
+mod adding;
+mod counting;
 mod definitions;
 mod fault;
+mod lives;
 mod mentioning;
 mod mentions;
 mod resolved;
+mod sight;
 mod source;
+mod typing;
+mod value;
 
 pub use fault::NameErr;
 pub use resolved::{Life, Open, OpenAsk, Resolved};

@@ -1,6 +1,7 @@
-ghost use Rattle.std.specs.Prelude.{◌≡◌, ◌&&◌, ◌++◌, ◌∷◌, [], OnOk, flat_map, map};
+ghost use Rattle.std.specs.Prelude.{◌≡◌, ◌&&◌, ◌++◌, OnOk, flat_map, map};
 ghost use Rattle.tm_names.specs.Mentions.{is_holder, mentions_of};
 
+use crate::adding::add;
 use crate::mentions::{Mention, NameMention};
 use tm_base::{List, Memory, Wrapper};
 use tm_parse::Expr;
@@ -10,16 +11,6 @@ fn is_held_in(wrapper: Wrapper, held: bool) -> bool
     ensures { result ≡ (held && is_holder wrapper) }
 {
     held && !matches!(wrapper, Wrapper::PhantomData)
-}
-
-/// Puts a mention behind the others.
-fn add(found: &mut List<Mention>, mention: Mention) -> Result<(), Memory>
-    ensures { OnOk result (found.new ≡ found.old ++ mention ∷ []) }
-{
-    match found.push(mention) {
-        Ok(()) => Ok(()),
-        Err(_) => Err(Memory),
-    }
 }
 
 /// Puts lifetimes behind the others.
