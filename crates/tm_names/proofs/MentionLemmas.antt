@@ -1,8 +1,7 @@
 -- What each kind of type mentions that holds others.
-use Rattle.std.proofs.Common.{◌≡◌, ℕ, refl, ap, ◌∙◌, Bool, false, ◌&&◌, List, [], ◌∷◌, ◌++◌, append-nil}
+use Rattle.std.proofs.Common.{◌≡◌, ℕ, refl, ap, ◌∙◌, Bool, false, ◌&&◌, List, ◌∷◌, ◌++◌, append-nil}
 use Rattle.std.specs.List.{flat_map}
 use Rattle.tm_base.specs.declared.ground.Wrapper.{Wrapper}
-use Rattle.tm_names.specs.declared.mentions.Mention.{Mention}
 use Rattle.tm_names.specs.declared.mentions.Mention.TheVariants.{Life}
 use Rattle.tm_names.specs.Mentions.{is_holder, mentions_of, row_mentions}
 use Rattle.tm_parse.specs.declared.parsed.Expr.{Expr, Row_of-Expr, end_of-Expr, more_of-Expr, items-the_row-Expr, items_hidden-the_row-Expr-0, Tuple, Array, Wrap, Ref}

@@ -1,5 +1,5 @@
 -- What each kind of type that holds others is resolved to.
-use Rattle.std.proofs.Common.{◌≡◌, ℕ, refl, ap, ◌∙◌, Bool, List, [], ◌∷◌, map}
+use Rattle.std.proofs.Common.{◌≡◌, ℕ, refl, ap, ◌∙◌, Bool, List, ◌∷◌, map}
 use Rattle.tm_base.specs.declared.ground.Wrapper.{Wrapper}
 use Rattle.tm_names.specs.declared.resolved.Life.{Life}
 use Rattle.tm_names.specs.declared.resolved.Open.{Open as Type'}

@@ -109,12 +109,15 @@ module _ (name : ℕ → List ℕ) where
   abbrev pub bound_of : List ℕ → DeclBound → Bound
   bound_of lifetimes bound = record { longer = region_of lifetimes bound.longer; shorter = region_of lifetimes bound.shorter }
 
+  abbrev pub regions_of : List ℕ → List (List ℕ)
+  regions_of lifetimes = codes "'static" ∷ map name lifetimes
+
   -- the whole file
   abbrev pub resolved_of : Parsed → Resolved
   resolved_of file = record {
     defs = map def_of file.decls;
     types = map (decl_types file.decls) file.decls;
-    regions = codes "'static" ∷ map name file.lifetimes;
+    regions = regions_of file.lifetimes;
     bounds = map (bound_of file.lifetimes) file.bounds;
     asks = map (ask_of file) file.questions;
   }
