@@ -9,6 +9,7 @@ use Rattle.tm_names.specs.declared.mentions.Mention.TheVariants.{Name, Life}
 use Rattle.tm_names.specs.declared.mentions.NameMention.{NameMention}
 use Rattle.tm_names.specs.Discriminants.{Valued, valued, is_in_range}
 use Rattle.tm_names.specs.Holding.{first_named, HoldsItself}
+use Rattle.tm_names.specs.Ranks.{rank}
 use Rattle.tm_names.specs.Representations.{is_repr_in_form, tag_of}
 use Rattle.tm_names.specs.Scopes.{Scope, scopes_of, is_in_sight}
 use Rattle.tm_names.specs.Written.{is_among, is_reserved}
@@ -35,16 +36,6 @@ name_lists file = map (λ d. d.name) file.decls ∷ file.lifetimes ∷ flat_map 
 -- the lists of declared lifetimes and of parameters
 abbrev pub lifetime_lists : Parsed → List (List ℕ)
 lifetime_lists file = file.lifetimes ∷ map (λ d. d.params) file.decls
-
--- the kinds of faults in their order
-abbrev pub rank : NameWhy → ℕ
-rank Twice = 0
-rank Unknown = 1
-rank Arity = 2
-rank Lifetime = 3
-rank Discriminant = 4
-rank Infinite = 5
-rank BadRepr = 6
 
 module _ (name : ℕ → List ℕ) (file : Parsed) where
   -- the name stands before in its list

@@ -9,3 +9,6 @@ pub mod Resolutions
 pub mod Source
 pub mod Sights
 pub mod Values
+pub mod Ranks
+pub mod Least
+pub mod Found
