@@ -7,6 +7,7 @@ use Rattle.tm_base.specs.declared.ground.Primitive.{Primitive}
 use Rattle.tm_base.specs.Integers.{is_tag_type}
 use Rattle.tm_base.specs.Whole.{is_alignment}
 use Rattle.std.specs.List.{list_any}
+use Rattle.std.specs.Option.{option_or}
 use Rattle.tm_parse.specs.declared.parsed.Decl.{Decl}
 use Rattle.tm_parse.specs.declared.parsed.DeclVariant.{DeclVariant}
 use Rattle.tm_parse.specs.declared.parsed.ReprItem.{ReprItem}
@@ -55,12 +56,16 @@ is_form Enum variants items = is_enum_form variants items
 abbrev pub is_repr_in_form : Decl → Bool
 is_repr_in_form d = is_form d.kind d.variants (items_of d)
 
+-- an integer of at most 64 bits
+abbrev pub tag_of_item : ReprItem → Option Primitive
+tag_of_item (Int p) = if is_tag_type p then Some p else None
+tag_of_item item = None
+
 -- The integer representation: the first integer of at most 64 bits. A wider one is never in form, and
 -- its fault stands before the enum's variants.
 abbrev pub tag_in : List ReprItem → Option Primitive
 tag_in [] = None
-tag_in (Int p ∷ items) = if is_tag_type p then Some p else tag_in items
-tag_in (item ∷ items) = tag_in items
+tag_in (item ∷ items) = option_or (tag_of_item item) (tag_in items)
 
 abbrev pub tag_of : Decl → Option Primitive
 tag_of d = tag_in (items_of d)

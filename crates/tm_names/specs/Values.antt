@@ -36,3 +36,12 @@ value_in implied v = written_value implied v.negative v.value
 abbrev pub values_from : Value → List DeclVariant → List Value
 values_from implied [] = []
 values_from implied (v ∷ vs) = value_in implied v ∷ values_from (next_of (value_in implied v)) vs
+
+-- the number, or what stands for it below zero, is below a bound; it is so and at least zero
+abbrev pub is_below : ℕ → Value → Bool
+is_below bound (AtLeastZero n) = nat_lt n bound
+is_below bound (BelowZero n) = nat_lt n bound
+
+abbrev pub is_small : ℕ → Value → Bool
+is_small bound (AtLeastZero n) = nat_lt n bound
+is_small bound (BelowZero n) = false
