@@ -12,3 +12,4 @@ pub mod Values
 pub mod Ranks
 pub mod Least
 pub mod Found
+pub mod Closures

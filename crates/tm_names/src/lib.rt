@@ -3,10 +3,12 @@
 #![tactic(auto)]
 
 mod adding;
+mod closure;
 mod counting;
 mod definitions;
 mod fault;
 mod forms;
+mod holding;
 mod least;
 mod lives;
 mod mentioning;
