@@ -1,2 +1,3 @@
 pub mod MentionLemmas
 pub mod TypeLemmas
+pub mod LeastLemmas

@@ -1,6 +1,6 @@
 -- Which definition holds which by value, as rows of flags: the flag at place j of row i says it of i and
 -- j. Ways of several steps are found by admitting one number after another on the way.
-use Rattle.std.specs.Prelude.{ℕ, zero, suc, ◌+◌, ◌==◌, Bool, true, false, ◌&&◌, ◌||◌, if◌then◌else◌, Option, Some, None, unwrap_or, List, [], ◌∷◌, length, map, filter_map, flat_map, slice_get}
+use Rattle.std.specs.Prelude.{ℕ, zero, suc, ◌+◌, ◌==◌, Bool, false, ◌&&◌, ◌||◌, if◌then◌else◌, Option, None, unwrap_or, List, [], length, map, filter_map, flat_map, slice_get}
 use Rattle.std.specs.List.{enumerate_from, list_any, range_with_len}
 use Rattle.tm_base.specs.declared.limit.NameWhy.TheVariants.{Infinite}
 use Rattle.tm_names.specs.declared.least.NameFault.{NameFault}
@@ -43,6 +43,10 @@ closure k (suc n) rows = closure (k + 1) n (next_rows k rows)
 abbrev pub is_number_among : List ℕ → ℕ → Bool
 is_number_among numbers number = list_any (λ other. other == number) numbers
 
+-- a definition from which a way leads back
+abbrev pub infinite_fault : List (List Bool) → ℕ × Decl → List NameFault
+infinite_fault closed (number, d) = fault_where (bit_at (row_at closed number) number) Infinite d.name
+
 module _ (name : ℕ → List ℕ) (decls : List Decl) where
   -- the definition that a mention holds by value
   abbrev pub held_number : Mention → Option ℕ
@@ -57,8 +61,5 @@ module _ (name : ℕ → List ℕ) (decls : List Decl) where
   rows_of = map row_of decls
 
   -- the faults of definitions that hold themselves
-  abbrev pub infinite_fault : List (List Bool) → ℕ × Decl → List NameFault
-  infinite_fault closed (number, d) = fault_where (bit_at (row_at closed number) number) Infinite d.name
-
   abbrev pub infinite_faults : List NameFault
   infinite_faults = flat_map (infinite_fault (closure 0 (length rows_of) rows_of)) (enumerate_from 0 decls)

@@ -13,3 +13,4 @@ pub mod Ranks
 pub mod Least
 pub mod Found
 pub mod Closures
+pub mod FileFaults
