@@ -1,3 +1,6 @@
 pub mod MentionLemmas
 pub mod TypeLemmas
 pub mod LeastLemmas
+pub mod Members
+pub mod LeastLaws
+pub mod PartLemmas
