@@ -4,3 +4,4 @@ pub mod LeastLemmas
 pub mod Members
 pub mod LeastLaws
 pub mod PartLemmas
+pub mod StandingLemmas
