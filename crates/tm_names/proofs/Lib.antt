@@ -5,3 +5,5 @@ pub mod Members
 pub mod LeastLaws
 pub mod PartLemmas
 pub mod StandingLemmas
+pub mod ListedLemmas
+pub mod PlaceLemmas
