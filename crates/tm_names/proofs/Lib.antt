@@ -7,3 +7,4 @@ pub mod PartLemmas
 pub mod StandingLemmas
 pub mod ListedLemmas
 pub mod PlaceLemmas
+pub mod ValueLemmas
