@@ -8,3 +8,5 @@ pub mod StandingLemmas
 pub mod ListedLemmas
 pub mod PlaceLemmas
 pub mod ValueLemmas
+pub mod DiscriminantLemmas
+pub mod ThroughLemmas
