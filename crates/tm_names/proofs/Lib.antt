@@ -10,3 +10,5 @@ pub mod PlaceLemmas
 pub mod ValueLemmas
 pub mod DiscriminantLemmas
 pub mod ThroughLemmas
+pub mod RowLemmas
+pub mod HoldingLemmas
