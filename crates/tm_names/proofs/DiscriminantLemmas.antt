@@ -1,5 +1,5 @@
 -- Where the faults of discriminants come from, and that each comes.
-use Rattle.std.proofs.Common.{◌≡◌, ℕ, refl, sym, ap, ◌∙◌, subst, inl, inr, ⊎_elim, Bool, true, false, List, [], ◌∷◌, ◌++◌, append_assoc, append-nil}
+use Rattle.std.proofs.Common.{◌≡◌, ℕ, refl, sym, ◌∙◌, subst, inl, ⊎_elim, Bool, true, List, [], ◌∷◌, ◌++◌, append_assoc, append-nil}
 use Rattle.std.specs.Prelude.{pos, Option, Some, None}
 use Rattle.tm_base.specs.declared.ground.Primitive.{Primitive}
 use Rattle.tm_base.specs.declared.limit.NameWhy.TheVariants.{Discriminant}
@@ -13,7 +13,6 @@ use Rattle.tm_names.specs.Discriminants.{Valued, valued}
 use Rattle.tm_names.specs.Found.{fault_at, value_faults}
 use Rattle.tm_names.specs.Representations.{items_of, tag_of}
 use Rattle.tm_parse.specs.declared.parsed.Decl.{Decl}
-use Rattle.tm_parse.specs.declared.parsed.DeclVariant.{DeclVariant}
 use Rattle.tm_parse.specs.declared.parsed.Parsed.{Parsed}
 
 from_at : (P : NameFault → Type 0) (wrong : Bool) (o : Option ℕ) (f : NameFault) → ((place : ℕ) → o ≡ Some place → wrong ≡ true → P (fault Discriminant place))
@@ -30,7 +29,7 @@ module _ (tag : Option Primitive) where
 
   from_exact : (P : NameFault → Type 0) (f : NameFault) (whole earlier rest : List Valued) → earlier ++ rest ≡ whole
       → ((before after : List Valued) (here : Valued) (place : ℕ) → before ++ (here ∷ after) ≡ whole → here.variant.name ≡ Some place
-          → exact_wrong tag before here.value ≡ true → P (fault Discriminant place))
+      → exact_wrong tag before here.value ≡ true → P (fault Discriminant place))
       → Member f (exact_faults tag earlier rest) → P f
   from_exact P f whole earlier [] e h m = absurd m
   from_exact P f whole earlier (v ∷ vs) e h m =

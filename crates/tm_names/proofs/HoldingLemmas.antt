@@ -1,27 +1,22 @@
 -- The rows of flags say which definition holds which, and their closure which holds itself.
-use Rattle.std.proofs.Common.{◌≡◌, ℕ, zero, suc, ◌+◌, ◌<◌, refl, sym, ap, ◌∙◌, subst, arith, inl, inr, ◌⊎◌, ⊎_elim, Bool, true, false, ◌||◌, if◌then◌else◌, List, [], ◌∷◌, length, map}
-use Rattle.std.specs.Prelude.{slice_get, Option, Some, None, ◌==◌}
-use Rattle.std.specs.List.{enumerate_from, filter_map, list_any, position_from, range_with_len}
+use Rattle.std.proofs.Common.{◌≡◌, ℕ, zero, suc, ◌+◌, ◌<◌, refl, sym, ap, ◌∙◌, subst, arith, inl, inr, ⊎_elim, Bool, true, ◌||◌, if◌then◌else◌, List, [], ◌∷◌, length, map}
+use Rattle.std.specs.Prelude.{slice_get, Some, None, ◌==◌}
+use Rattle.std.specs.List.{filter_map, position_from, range_with_len}
 use Rattle.std.proofs.lemmas.Bool.{cases_Bool, false≢true}
 use Rattle.std.proofs.lemmas.Bool.Decides.{nat_tests}
 use Rattle.std.proofs.lemmas.Option.{none-some, same_Some}
-use Rattle.tm_base.specs.declared.limit.NameWhy.TheVariants.{Infinite}
-use Rattle.tm_base.specs.Reaches.{Leads, LeadsIn}
-use Rattle.tm_names.proofs.Members.{Member, contained, from_filter_map, from_flat_map, from_numbered, into_filter_map, into_flat_map, member, numbered}
-use Rattle.tm_names.proofs.PartLemmas.{fault, from_where, into_where}
+use Rattle.tm_base.specs.Reaches.{LeadsIn}
+use Rattle.tm_names.proofs.Members.{Member, contained, from_filter_map, into_filter_map, member}
 use Rattle.tm_names.proofs.RowLemmas.{Admits, bit_within, closure_admits, length_map, row_of_map, row_within, some_at}
-use Rattle.tm_names.proofs.StandingLemmas.{Stands}
 use Rattle.tm_names.proofs.ThroughLemmas.{Way, through_is_way, way_is_through}
-use Rattle.tm_names.specs.declared.least.NameFault.{NameFault}
 use Rattle.tm_names.specs.declared.mentions.Mention.{Mention}
 use Rattle.tm_names.specs.declared.mentions.Mention.TheVariants.{Name, Life}
 use Rattle.tm_names.specs.declared.mentions.NameMention.{NameMention}
-use Rattle.tm_names.specs.Closures.{bit_at, closure, held_number, infinite_fault, infinite_faults, is_number_among, row_at, row_of, rows_of, through}
+use Rattle.tm_names.specs.Closures.{bit_at, closure, held_number, is_number_among, row_at, row_of, rows_of, through}
 use Rattle.tm_names.specs.Holding.{first_named, Holds, HoldsItself}
 use Rattle.tm_names.specs.Scopes.{decl_mentions}
 use Rattle.tm_names.specs.Written.{is_same}
 use Rattle.tm_parse.specs.declared.parsed.Decl.{Decl}
-use Rattle.tm_parse.specs.declared.parsed.Parsed.{Parsed}
 
 same_number : (a b : ℕ) → (a == b) ≡ true → a ≡ b
 same_number a b h = grind (arith, nat_tests)

@@ -12,3 +12,5 @@ pub mod DiscriminantLemmas
 pub mod ThroughLemmas
 pub mod RowLemmas
 pub mod HoldingLemmas
+pub mod FileLemmas
+pub mod FirstLemmas

@@ -1,5 +1,5 @@
 -- Each fault of a part of a file is listed for it.
-use Rattle.std.proofs.Common.{◌≡◌, ℕ, refl, sym, ap, subst, inl, inr, Bool, true, false, List, [], ◌∷◌, ◌++◌, length}
+use Rattle.std.proofs.Common.{◌≡◌, ℕ, refl, sym, ap, subst, inl, Bool, true, false, List, ◌∷◌, length}
 use Rattle.std.specs.Prelude.{Option, Some, None, not, ◌==◌, slice_get, is_some}
 use Rattle.std.proofs.lemmas.Bool.{false≢true}
 use Rattle.tm_base.specs.declared.limit.NameWhy.TheVariants as why

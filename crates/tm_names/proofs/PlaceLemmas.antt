@@ -1,5 +1,5 @@
 -- Where the parts of a file are listed.
-use Rattle.std.proofs.Common.{◌≡◌, ℕ, refl, sym, subst, inl, inr, ◌⊎◌, ⊎_elim, List, [], ◌∷◌, ◌++◌, map}
+use Rattle.std.proofs.Common.{ℕ, sym, subst, ⊎_elim, List, [], ◌∷◌, ◌++◌, map}
 use Rattle.std.specs.List.{flat_map}
 use Rattle.tm_names.proofs.Members.{Member, behind, either, front, from_flat_map, from_map, into_flat_map}
 use Rattle.tm_names.specs.declared.least.NameFault.{NameFault}
@@ -93,21 +93,21 @@ module _ (name : ℕ → List ℕ) (file : Parsed) (f : NameFault) where
       ⊎_elim (λ e. in_first f names_part lifetimes_part reserved_part decls_part rest_part (subst (λ those. Member f (repeats name those)) (sym e) m))
       (⊎_elim (λ e. in_second f names_part lifetimes_part reserved_part decls_part rest_part (subst (λ those. Member f (repeats name those)) (sym e) m))
       (λ n. let (d, declared, here) = from_flat_map decl_lists places file.decls n in
-          at_decl d declared (in_first f (lists_of d) (reserved name d.params) (mentions_of d) (values_of d) (repr_faults d)
-          (into_flat_map (repeats name) f places (decl_lists d) here m)))) listed
+      at_decl d declared (in_first f (lists_of d) (reserved name d.params) (mentions_of d) (values_of d) (repr_faults d)
+      (into_flat_map (repeats name) f places (decl_lists d) here m)))) listed
 
   pub at_lifetimes : (places : List ℕ) → Member places (lifetime_lists file) → Member f (reserved name places) → Listed
   at_lifetimes places listed m =
       ⊎_elim (λ e. in_third f names_part lifetimes_part reserved_part decls_part rest_part (subst (λ those. Member f (reserved name those)) (sym e) m))
       (λ n. let (d, declared, same) = from_map (λ d. d.params) places file.decls n in
-          at_decl d declared (in_second f (lists_of d) (reserved name d.params) (mentions_of d) (values_of d) (repr_faults d)
-          (subst (λ those. Member f (reserved name those)) (sym same) m))) listed
+      at_decl d declared (in_second f (lists_of d) (reserved name d.params) (mentions_of d) (values_of d) (repr_faults d)
+      (subst (λ those. Member f (reserved name those)) (sym same) m))) listed
 
   pub at_scope : (scope : Scope) → Member scope (scopes_of file) → Member f (scope_faults name file.decls scope) → Listed
   at_scope scope part m =
       ⊎_elim (λ n. let (d, declared, same) = from_map decl_scope scope file.decls n in
-          at_decl d declared (in_third f (lists_of d) (reserved name d.params) (mentions_of d) (values_of d) (repr_faults d)
-          (subst (λ those. Member f (scope_faults name file.decls those)) (sym same) m)))
+      at_decl d declared (in_third f (lists_of d) (reserved name d.params) (mentions_of d) (values_of d) (repr_faults d)
+      (subst (λ those. Member f (scope_faults name file.decls those)) (sym same) m)))
       (⊎_elim (λ e. in_fifth f names_part lifetimes_part reserved_part decls_part rest_part
-          (front f outer_part infinite_part (subst (λ those. Member f (scope_faults name file.decls those)) (sym e) m))) (λ n. absurd n))
+      (front f outer_part infinite_part (subst (λ those. Member f (scope_faults name file.decls those)) (sym e) m))) (λ n. absurd n))
       (either scope (map decl_scope file.decls) (outer_scope file ∷ []) part)

@@ -1,10 +1,10 @@
 -- Each fault that is listed for a part of a file stands in the file.
-use Rattle.std.proofs.Common.{◌≡◌, ℕ, refl, sym, ap, ◌∙◌, subst, inl, inr, ◌⊎◌, ⊎_elim, Bool, true, false, List, [], ◌∷◌, ◌++◌, length}
-use Rattle.std.specs.Prelude.{Option, Some, None, IsNone, IsTrue, IsFalse, not, ◌==◌, slice_get, Contains}
+use Rattle.std.proofs.Common.{◌≡◌, ℕ, refl, sym, subst, inl, inr, Bool, true, false, List, [], ◌∷◌, ◌++◌, length}
+use Rattle.std.specs.Prelude.{Option, Some, None, IsNone, not, ◌==◌, slice_get}
 use Rattle.std.proofs.lemmas.Bool.{false≢true}
 use Rattle.tm_base.specs.declared.limit.NameWhy.TheVariants as why
-use Rattle.tm_names.proofs.Members.{Member, contained, either, from_flat_map}
-use Rattle.tm_names.proofs.PartLemmas.{fault, from_repeats, from_where}
+use Rattle.tm_names.proofs.Members.{Member, contained, from_flat_map}
+use Rattle.tm_names.proofs.PartLemmas.{from_repeats, from_where}
 use Rattle.tm_names.specs.declared.least.NameFault.{NameFault}
 use Rattle.tm_names.specs.declared.mentions.Mention.{Mention}
 use Rattle.tm_names.specs.declared.mentions.Mention.TheVariants.{Name, Life}

@@ -1,6 +1,6 @@
 -- Ways that are found by admitting one number after another are the ways that there are.
-use Rattle.std.proofs.Common.{◌≡◌, ℕ, zero, suc, ◌+◌, ◌<◌, refl, sym, ap, ◌∙◌, subst, arith, inl, inr, ◌⊎◌, ⊎_elim, Bool, true, false, ◌||◌, ◌&&◌}
-use Rattle.std.proofs.lemmas.Bool.{cases_Bool, false≢true}
+use Rattle.std.proofs.Common.{◌≡◌, ℕ, zero, suc, ◌<◌, refl, sym, ap, ◌∙◌, subst, arith, inl, inr, ◌⊎◌, ⊎_elim, Bool, true, false, ◌||◌, ◌&&◌}
+use Rattle.std.proofs.lemmas.Bool.{false≢true}
 use Rattle.tm_base.specs.Reaches.{Leads, LeadsIn}
 use Rattle.tm_names.specs.Closures.{through}
 
@@ -56,7 +56,7 @@ module _ (edge : ℕ → ℕ → Bool) where
   through_is_way (suc k) i j h =
       ⊎_elim (λ e. through_is_way k i j e)
       (λ e. let parts = and_parts (through edge k i k) (through edge k k j) e in
-          ways Edge i k j (through_is_way k i k parts.0) (through_is_way k k j parts.1))
+      ways Edge i k j (through_is_way k i k parts.0) (through_is_way k k j parts.1))
       (or_cases (through edge k i j) (through edge k i k && through edge k k j) h)
 
   pub one_way : (k i j : ℕ) → edge i j ≡ true → through edge k i j ≡ true
@@ -89,15 +89,15 @@ module _ (edge : ℕ → ℕ → Bool) where
       ⊎_elim
       (λ e. via k i j (to_last k i (subst (λ z. through edge (suc k) i z ≡ true) e p)) (from_last k j (subst (λ z. through edge (suc k) z j ≡ true) e q)))
       (λ less. ⊎_elim
-          (λ p1. ⊎_elim
-              (λ q1. longer k i j (through_joins k i m j less p1 q1))
-              (λ q2. let b = and_parts (through edge k m k) (through edge k k j) q2 in via k i j (through_joins k i m k less p1 b.0) b.1)
-              (or_cases (through edge k m j) (over k m j) q))
-          (λ p2. let a = and_parts (through edge k i k) (through edge k k m) p2 in ⊎_elim
-              (λ q1. via k i j a.0 (through_joins k k m j less a.1 q1))
-              (λ q2. let b = and_parts (through edge k m k) (through edge k k j) q2 in via k i j a.0 b.1)
-              (or_cases (through edge k m j) (over k m j) q))
-          (or_cases (through edge k i m) (over k i m) p))
+      (λ p1. ⊎_elim
+      (λ q1. longer k i j (through_joins k i m j less p1 q1))
+      (λ q2. let b = and_parts (through edge k m k) (through edge k k j) q2 in via k i j (through_joins k i m k less p1 b.0) b.1)
+      (or_cases (through edge k m j) (over k m j) q))
+      (λ p2. let a = and_parts (through edge k i k) (through edge k k m) p2 in ⊎_elim
+      (λ q1. via k i j a.0 (through_joins k k m j less a.1 q1))
+      (λ q2. let b = and_parts (through edge k m k) (through edge k k j) q2 in via k i j a.0 b.1)
+      (or_cases (through edge k m j) (over k m j) q))
+      (or_cases (through edge k i m) (over k i m) p))
       (which m k l)
 
   led : (n : ℕ) → ((a b : ℕ) → edge a b ≡ true → (a < n) × (b < n)) → (steps i m j : ℕ) → edge i m ≡ true → LeadsIn Edge steps m j → through edge n i j ≡ true

@@ -1,23 +1,20 @@
 -- Discriminants that are counted up to a greatest one are right or wrong as the whole numbers are.
-use Rattle.std.proofs.Common.{◌≡◌, ℕ, zero, suc, ◌+◌, ◌<◌, ◌≤◌, refl, sym, ap, ◌∙◌, subst, arith, inl, inr, ◌⊎◌, ⊎_elim, Bool, true, false, ◌||◌, if◌then◌else◌, List, [], ◌∷◌, ◌++◌, append_assoc, append-nil}
+use Rattle.std.proofs.Common.{◌≡◌, ℕ, zero, suc, ◌+◌, ◌<◌, ◌≤◌, refl, sym, ap, ◌∙◌, subst, arith, inl, inr, ◌⊎◌, ⊎_elim, Bool, true, false, ◌||◌, if◌then◌else◌, List, [], ◌∷◌, ◌++◌}
 use Rattle.std.specs.Prelude.{ℤ, pos, negsuc, ◌+ℤ◌, Option, Some, None, not, nat_abs, nat_lt}
 use Rattle.std.specs.List.{list_any}
 use Rattle.std.specs.Ordering.{int_eq}
 use Rattle.std.proofs.lemmas.Bool.{cases_Bool, false≢true}
 use Rattle.std.proofs.lemmas.Bool.Decides.{Decides-int_eq, nat_tests}
-use Rattle.std.proofs.lemmas.Option.{none-some, same_Some}
 use Rattle.tm_base.specs.declared.ground.Primitive.{Primitive}
 use Rattle.tm_base.specs.declared.ground.Primitive.TheVariants.{Bool as bool', Char, U8, U16, U32, U64, U128, Usize, I8, I16, I32, I64, I128, Isize, F32, F64}
 use Rattle.tm_base.specs.declared.limit.NameWhy.TheVariants.{Discriminant}
 use Rattle.tm_base.specs.Integers.{fits_integer, is_tag_type}
-use Rattle.tm_names.proofs.Members.{Member, behind, either, front}
-use Rattle.tm_names.proofs.PartLemmas.{fault, from_where, into_where}
 use Rattle.tm_names.specs.declared.least.NameFault.{NameFault}
 use Rattle.tm_names.specs.declared.value.Value.{Value}
 use Rattle.tm_names.specs.declared.value.Value.TheVariants.{AtLeastZero, BelowZero}
 use Rattle.tm_names.specs.Discriminants.{Valued, is_in_range, signed, value_of, valued_from, written_or}
 use Rattle.tm_names.specs.Found.{fault_at, is_wrong, value_faults}
-use Rattle.tm_names.specs.Representations.{tag_in, tag_of_item}
+use Rattle.tm_names.specs.Representations.{tag_in}
 use Rattle.tm_names.specs.Values.{greatest, int_of, next_of, signed_value, value_in, written_value}
 use Rattle.tm_parse.specs.declared.parsed.DeclVariant.{DeclVariant}
 use Rattle.tm_parse.specs.declared.parsed.ReprItem.{ReprItem}
@@ -163,10 +160,10 @@ same_wrong : (tag : Option Primitive) → TagOk tag → (vs : List Value) (us : 
 same_wrong tag ok vs us h v z a =
     ap (λ b. not b || list_any (λ o. int_eq (int_of o) (int_of v)) vs) (same_range tag ok v z a)
     ∙ ⊎_elim
-        (λ t. ap (λ w. not (is_in_range tag z) || list_any (λ o. int_eq (int_of o) w) vs) (exact_in_range tag ok v z a t)
-            ∙ ap (λ b. not (is_in_range tag z) || b) (same_any tag ok z t vs us h))
-        (λ t. ap (λ b. not b || list_any (λ o. int_eq (int_of o) (int_of v)) vs) t ∙ sym (ap (λ b. not b || list_any (λ u. int_eq u.value z) us) t))
-        (cases_Bool (is_in_range tag z))
+    (λ t. ap (λ w. not (is_in_range tag z) || list_any (λ o. int_eq (int_of o) w) vs) (exact_in_range tag ok v z a t)
+    ∙ ap (λ b. not (is_in_range tag z) || b) (same_any tag ok z t vs us h))
+    (λ t. ap (λ b. not b || list_any (λ o. int_eq (int_of o) (int_of v)) vs) t ∙ sym (ap (λ b. not b || list_any (λ u. int_eq u.value z) us) t))
+    (cases_Bool (is_in_range tag z))
 
 -- the faults of an enum's discriminants as whole numbers
 abbrev pub exact_faults : Option Primitive → List Valued → List Valued → List NameFault

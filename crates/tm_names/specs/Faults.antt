@@ -127,3 +127,7 @@ module _ (name : ℕ → List ℕ) (file : Parsed) where
     pub fault : IsNameFault why place
     pub first : (other : NameWhy) (there : ℕ) → IsNameFault other there
         → (place < there) ⊎ ((place ≡ there) × (rank why ≤ rank other))
+
+  -- no fault stands in the file
+  pub record HasNoFault : Type 0 where
+    pub none : (why : NameWhy) (place : ℕ) → IsNameFault why place → ⊥

@@ -14,3 +14,4 @@ pub mod Least
 pub mod Found
 pub mod Closures
 pub mod FileFaults
+pub mod Checking

@@ -3,6 +3,7 @@
 #![tactic(auto)]
 
 mod adding;
+mod checking;
 mod closure;
 mod counting;
 mod definitions;
@@ -25,5 +26,6 @@ mod source;
 mod typing;
 mod value;
 
+pub use checking::check;
 pub use fault::NameErr;
 pub use resolved::{Life, Open, OpenAsk, Resolved};
