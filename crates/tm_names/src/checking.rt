@@ -8,6 +8,7 @@ ghost use Rattle.tm_names.specs.Written.{name_at};
 ghost use Rattle.tm_parse.specs.Parsing.{SpellsFile};
 ghost use Rattle.tm_parse.specs.Spelling.{terminals_of};
 
+use crate::definitions::indexed;
 use crate::fault::NameErr;
 use crate::faults::first_fault;
 use crate::resolved::Resolved;
@@ -38,10 +39,13 @@ pub fn check(
     ensures faults { (why : Kind) (place : ℕ) → IsFirstFault (name_at text.now tokens.now) parsed.now why place → MatchResult result (λ _. ⊥) (λ err. (err ≡ NameErr.Fault why place) ⊎ (err ≡ NameErr.Memory)) }
 {
     let source = Source { text, tokens };
-    match first_fault(alloc, &source, parsed) {
+    let Ok(definitions) = indexed(alloc, &source, parsed.decls.as_slice()) else {
+        return Err(NameErr::Memory);
+    };
+    match first_fault(alloc, &source, &definitions, parsed) {
         Err(_) => Err(NameErr::Memory),
         Ok(Some(fault)) => Err(NameErr::Fault(fault.why, fault.place)),
-        Ok(None) => match resolved(alloc, &source, parsed) {
+        Ok(None) => match resolved(alloc, &source, &definitions, parsed) {
             Ok(found) => Ok(found),
             Err(_) => Err(NameErr::Memory),
         },

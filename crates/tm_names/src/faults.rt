@@ -5,12 +5,14 @@ ghost use Rattle.tm_names.specs.FileFaults.{file_faults};
 ghost use Rattle.tm_names.specs.Found.{decl_faults, scope_faults};
 ghost use Rattle.tm_names.specs.Least.{earliest};
 ghost use Rattle.tm_names.specs.Scopes.{ask_mentions, bound_mentions, outer_scope};
+ghost use Rattle.tm_names.specs.Directories.{IsIndexed};
 ghost use Rattle.tm_names.specs.Source.{names_in};
 
 use crate::adding::add;
 use crate::closure::{closure, is_cyclic};
 use crate::forms::{items, note_repr, tag};
 use crate::holding::{mentions, rows};
+use crate::indexed::Definitions;
 use crate::least::{NameFault, note};
 use crate::listing::{decl_names, note_lists};
 use crate::mentioning::add_mentions;
@@ -27,17 +29,18 @@ fn note_decl(
     alloc: Global,
     first: Option<NameFault>,
     source: &Source,
-    decls: &[Decl],
+    definitions: &Definitions,
     decl: &Decl,
 ) -> Result<Option<NameFault>, Memory>
-    ensures { IfOk result (λ found. found ≡ earliest first (decl_faults (names_in source.now) decls.now decl.now)) }
+    requires { IsIndexed (names_in source.now) definitions.now }
+    ensures { IfOk result (λ found. found ≡ earliest first (decl_faults (names_in source.now) definitions.now.decls.now decl.now)) }
 {
     let items = items(alloc, decl)?;
     let mentions = mentions(alloc, decl)?;
     let params = decl.params.as_slice();
     let first = note_lists(alloc, first, source, decl)?;
     let first = note_reserved(first, source, params);
-    let first = note_mentions(first, source, decls, params, mentions.as_slice());
+    let first = note_mentions(first, source, definitions, params, mentions.as_slice());
     let tag = tag(items.as_slice());
     let first = note_values(alloc, first, tag, decl.variants.as_slice())?;
     Ok(note_repr(first, decl, items.as_slice()))
@@ -48,13 +51,14 @@ fn note_decls(
     alloc: Global,
     first: Option<NameFault>,
     source: &Source,
-    decls: &[Decl],
+    definitions: &Definitions,
 ) -> Result<Option<NameFault>, Memory>
-    ensures { IfOk result (λ found. found ≡ earliest first (flat_map (decl_faults (names_in source.now) decls.now) decls.now)) }
+    requires { IsIndexed (names_in source.now) definitions.now }
+    ensures { IfOk result (λ found. found ≡ earliest first (flat_map (decl_faults (names_in source.now) definitions.now.decls.now) definitions.now.decls.now)) }
 {
     let mut first = first;
-    for decl in decls {
-        first = note_decl(alloc, first, source, decls, decl)?;
+    for decl in definitions.decls {
+        first = note_decl(alloc, first, source, definitions, decl)?;
     }
     Ok(first)
 }
@@ -86,16 +90,17 @@ fn note_outer(
     alloc: Global,
     first: Option<NameFault>,
     source: &Source,
+    definitions: &Definitions,
     parsed: &Parsed,
 ) -> Result<Option<NameFault>, Memory>
-    ensures { IfOk result (λ found. found ≡ earliest first (scope_faults (names_in source.now) parsed.now.decls (outer_scope parsed.now))) }
+    requires { IsIndexed (names_in source.now) definitions.now }
+    ensures { IfOk result (λ found. found ≡ earliest first (scope_faults (names_in source.now) definitions.now.decls.now (outer_scope parsed.now))) }
 {
     let mut mentions = List::new(alloc);
     add_bounds(&mut mentions, parsed.bounds.as_slice())?;
     add_asks(&mut mentions, parsed.questions.as_slice())?;
-    let decls = parsed.decls.as_slice();
     let sight = parsed.lifetimes.as_slice();
-    Ok(note_mentions(first, source, decls, sight, mentions.as_slice()))
+    Ok(note_mentions(first, source, definitions, sight, mentions.as_slice()))
 }
 
 /// The first of some faults, and of those of definitions from which a way leads back.
@@ -115,30 +120,33 @@ fn note_infinite(
     alloc: Global,
     first: Option<NameFault>,
     source: &Source,
-    decls: &[Decl],
+    definitions: &Definitions,
 ) -> Result<Option<NameFault>, Memory>
-    ensures { IfOk result (λ found. found ≡ earliest first (infinite_faults (names_in source.now) decls.now)) }
+    requires { IsIndexed (names_in source.now) definitions.now }
+    ensures { IfOk result (λ found. found ≡ earliest first (infinite_faults (names_in source.now) definitions.now.decls.now)) }
 {
-    let rows = rows(alloc, source, decls)?;
+    let rows = rows(alloc, source, definitions)?;
     let closed = closure(alloc, rows)?;
-    Ok(note_cyclic(first, decls, closed.as_slice()))
+    Ok(note_cyclic(first, definitions.decls, closed.as_slice()))
 }
 
-/// The first name fault of a file.
+/// The first name fault of a file with these definitions.
 pub fn first_fault(
     alloc: Global,
     source: &Source,
+    definitions: &Definitions,
     parsed: &Parsed,
 ) -> Result<Option<NameFault>, Memory>
+    requires indexed { IsIndexed (names_in source.now) definitions.now }
+    requires same { definitions.now.decls.now ≡ parsed.now.decls }
     ensures { IfOk result (λ found. found ≡ earliest None (file_faults (names_in source.now) parsed.now)) }
 {
-    let decls = parsed.decls.as_slice();
     let lifetimes = parsed.lifetimes.as_slice();
-    let names = decl_names(alloc, decls)?;
+    let names = decl_names(alloc, definitions.decls)?;
     let first = note_repeats(None, source, names.as_slice());
     let first = note_repeats(first, source, lifetimes);
     let first = note_reserved(first, source, lifetimes);
-    let first = note_decls(alloc, first, source, decls)?;
-    let first = note_outer(alloc, first, source, parsed)?;
-    note_infinite(alloc, first, source, decls)
+    let first = note_decls(alloc, first, source, definitions)?;
+    let first = note_outer(alloc, first, source, definitions, parsed)?;
+    note_infinite(alloc, first, source, definitions)
 }

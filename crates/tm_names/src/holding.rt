@@ -2,10 +2,12 @@ ghost use Rattle.std.specs.Prelude.{◌≡◌, ◌++◌, IfOk, OnOk, filter_map,
 ghost use Rattle.std.specs.List.{range_with_len};
 ghost use Rattle.tm_names.specs.Closures.{held_number, is_number_among, row_of, rows_of};
 ghost use Rattle.tm_names.specs.Scopes.{decl_mentions, variant_mentions};
+ghost use Rattle.tm_names.specs.Directories.{IsIndexed};
 ghost use Rattle.tm_names.specs.Source.{names_in};
 
 use crate::adding::add;
 use crate::definitions::first_named;
+use crate::indexed::Definitions;
 use crate::mentioning::add_mentions;
 use crate::mentions::Mention;
 use crate::source::Source;
@@ -35,11 +37,12 @@ pub fn mentions(alloc: Global, decl: &Decl) -> Result<List<Mention>, Memory>
 }
 
 /// The number of the definition that a mention holds by value, if it holds one.
-fn held_number(source: &Source, decls: &[Decl], mention: Mention) -> Option<usize>
-    ensures { result ≡ held_number (names_in source.now) decls.now mention }
+fn held_number(source: &Source, definitions: &Definitions, mention: Mention) -> Option<usize>
+    requires { IsIndexed (names_in source.now) definitions.now }
+    ensures { result ≡ held_number (names_in source.now) definitions.now.decls.now mention }
 {
     match mention {
-        Mention::Name(name) if name.held => first_named(source, decls, name.place),
+        Mention::Name(name) if name.held => first_named(source, definitions, name.place),
         _ => None,
     }
 }
@@ -48,14 +51,15 @@ fn held_number(source: &Source, decls: &[Decl], mention: Mention) -> Option<usiz
 fn held_numbers(
     alloc: Global,
     source: &Source,
-    decls: &[Decl],
+    definitions: &Definitions,
     mentions: &[Mention],
 ) -> Result<List<usize>, Memory>
-    ensures { IfOk result (λ found. found ≡ filter_map (held_number (names_in source.now) decls.now) mentions.now) }
+    requires { IsIndexed (names_in source.now) definitions.now }
+    ensures { IfOk result (λ found. found ≡ filter_map (held_number (names_in source.now) definitions.now.decls.now) mentions.now) }
 {
     let mut found = List::new(alloc);
     for mention in mentions {
-        if let Some(number) = held_number(source, decls, *mention) {
+        if let Some(number) = held_number(source, definitions, *mention) {
             add(&mut found, number)?;
         }
     }
@@ -87,21 +91,32 @@ fn flags(alloc: Global, numbers: &[usize], size: usize) -> Result<List<bool>, Me
 }
 
 /// For each definition whether this one holds it by value.
-fn row(alloc: Global, source: &Source, decls: &[Decl], decl: &Decl) -> Result<List<bool>, Memory>
-    ensures { IfOk result (λ row. row ≡ row_of (names_in source.now) decls.now decl.now) }
+fn row(
+    alloc: Global,
+    source: &Source,
+    definitions: &Definitions,
+    decl: &Decl,
+) -> Result<List<bool>, Memory>
+    requires { IsIndexed (names_in source.now) definitions.now }
+    ensures { IfOk result (λ row. row ≡ row_of (names_in source.now) definitions.now.decls.now decl.now) }
 {
     let mentions = mentions(alloc, decl)?;
-    let numbers = held_numbers(alloc, source, decls, mentions.as_slice())?;
-    flags(alloc, numbers.as_slice(), decls.len())
+    let numbers = held_numbers(alloc, source, definitions, mentions.as_slice())?;
+    flags(alloc, numbers.as_slice(), definitions.decls.len())
 }
 
 /// For each two definitions whether the first holds the second by value.
-pub fn rows(alloc: Global, source: &Source, decls: &[Decl]) -> Result<List<List<bool>>, Memory>
-    ensures { IfOk result (λ rows. rows ≡ rows_of (names_in source.now) decls.now) }
+pub fn rows(
+    alloc: Global,
+    source: &Source,
+    definitions: &Definitions,
+) -> Result<List<List<bool>>, Memory>
+    requires { IsIndexed (names_in source.now) definitions.now }
+    ensures { IfOk result (λ rows. rows ≡ rows_of (names_in source.now) definitions.now.decls.now) }
 {
     let mut rows = List::new(alloc);
-    for decl in decls {
-        let row = row(alloc, source, decls, decl)?;
+    for decl in definitions.decls {
+        let row = row(alloc, source, definitions, decl)?;
         add(&mut rows, row)?;
     }
     Ok(rows)

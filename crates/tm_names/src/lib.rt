@@ -11,6 +11,7 @@ mod fault;
 mod faults;
 mod forms;
 mod holding;
+mod indexed;
 mod least;
 mod listing;
 mod lives;

@@ -3,14 +3,15 @@ ghost use Rattle.tm_names.specs.Found.{arity_faults, mention_faults, name_faults
 ghost use Rattle.tm_names.specs.Holding.{first_named};
 ghost use Rattle.tm_names.specs.Least.{earliest};
 ghost use Rattle.tm_names.specs.Scopes.{is_in_sight};
+ghost use Rattle.tm_names.specs.Directories.{IsIndexed};
 ghost use Rattle.tm_names.specs.Source.{names_in};
 
 use crate::definitions::first_named;
+use crate::indexed::Definitions;
 use crate::least::{NameFault, note};
 use crate::mentions::{Mention, NameMention};
 use crate::source::{Source, is_among, is_reserved, is_static};
 use tm_base::NameWhy;
-use tm_parse::Decl;
 
 /// The first of some faults, and of those of a list in which a name stands again.
 pub fn note_repeats(first: Option<NameFault>, source: &Source, places: &[u32]) -> Option<NameFault>
@@ -51,14 +52,15 @@ fn is_in_sight(source: &Source, sight: &[u32], place: u32) -> bool
 fn note_name(
     first: Option<NameFault>,
     source: &Source,
-    decls: &[Decl],
+    definitions: &Definitions,
     mention: NameMention,
 ) -> Option<NameFault>
-    ensures { result ≡ earliest first (name_faults decls.now mention (first_named (names_in source.now) decls.now mention.place)) }
+    requires { IsIndexed (names_in source.now) definitions.now }
+    ensures { result ≡ earliest first (name_faults definitions.now.decls.now mention (first_named (names_in source.now) definitions.now.decls.now mention.place)) }
 {
-    match first_named(source, decls, mention.place) {
+    match first_named(source, definitions, mention.place) {
         None => note(first, true, NameWhy::Unknown, mention.place),
-        Some(number) => match decls.get(number) {
+        Some(number) => match definitions.decls.get(number) {
             None => first,
             Some(decl) => {
                 let differs = mention.lifetimes != decl.params.len();
@@ -72,14 +74,15 @@ fn note_name(
 fn note_mention(
     first: Option<NameFault>,
     source: &Source,
-    decls: &[Decl],
+    definitions: &Definitions,
     sight: &[u32],
     mention: Mention,
 ) -> Option<NameFault>
-    ensures { result ≡ earliest first (mention_faults (names_in source.now) decls.now sight.now mention) }
+    requires { IsIndexed (names_in source.now) definitions.now }
+    ensures { result ≡ earliest first (mention_faults (names_in source.now) definitions.now.decls.now sight.now mention) }
 {
     match mention {
-        Mention::Name(mention) => note_name(first, source, decls, mention),
+        Mention::Name(mention) => note_name(first, source, definitions, mention),
         Mention::Life(place) => {
             let hidden = !is_in_sight(source, sight, place);
             note(first, hidden, NameWhy::Lifetime, place)
@@ -91,15 +94,16 @@ fn note_mention(
 pub fn note_mentions(
     first: Option<NameFault>,
     source: &Source,
-    decls: &[Decl],
+    definitions: &Definitions,
     sight: &[u32],
     mentions: &[Mention],
 ) -> Option<NameFault>
-    ensures { result ≡ earliest first (flat_map (mention_faults (names_in source.now) decls.now sight.now) mentions.now) }
+    requires { IsIndexed (names_in source.now) definitions.now }
+    ensures { result ≡ earliest first (flat_map (mention_faults (names_in source.now) definitions.now.decls.now sight.now) mentions.now) }
 {
     let mut first = first;
     for mention in mentions {
-        first = note_mention(first, source, decls, sight, *mention);
+        first = note_mention(first, source, definitions, sight, *mention);
     }
     first
 }

@@ -1,10 +1,12 @@
 ghost use Rattle.std.specs.Prelude.{◌≡◌, IfOk, map, pos};
 ghost use Rattle.tm_names.specs.Discriminants.{valued};
 ghost use Rattle.tm_names.specs.Resolutions.{ask_of, bound_of, decl_types, def_of, field_of, regions_of, resolved_of, text_or_none, variant_of, variant_types};
+ghost use Rattle.tm_names.specs.Directories.{IsIndexed};
 ghost use Rattle.tm_names.specs.Source.{names_in};
 
 use crate::adding::add;
 use crate::counting::{narrow, next, value_in};
+use crate::indexed::Definitions;
 use crate::lives::bound;
 use crate::reprs::repr;
 use crate::resolved::{Open, OpenAsk, Resolved};
@@ -105,16 +107,17 @@ fn definition(alloc: Global, source: &Source, declared: &Decl) -> Result<Def, Me
 fn field_types(
     alloc: Global,
     source: &Source,
-    decls: &[Decl],
+    definitions: &Definitions,
     params: &[u32],
     declared: &DeclVariant,
 ) -> Result<List<Open>, Memory>
-    ensures { IfOk result (λ types. types ≡ variant_types (names_in source.now) decls.now params.now declared.now) }
+    requires { IsIndexed (names_in source.now) definitions.now }
+    ensures { IfOk result (λ types. types ≡ variant_types (names_in source.now) definitions.now.decls.now params.now declared.now) }
 {
     let sight = Sight::Params(params);
     let mut types = List::new(alloc);
     for field in declared.fields.as_slice() {
-        let ty = resolve(alloc, source, decls, &sight, &field.ty)?;
+        let ty = resolve(alloc, source, definitions, &sight, &field.ty)?;
         add(&mut types, ty)?;
     }
     Ok(types)
@@ -124,14 +127,21 @@ fn field_types(
 fn types(
     alloc: Global,
     source: &Source,
-    decls: &[Decl],
+    definitions: &Definitions,
     declared: &Decl,
 ) -> Result<List<List<Open>>, Memory>
-    ensures { IfOk result (λ types. types ≡ decl_types (names_in source.now) decls.now declared.now) }
+    requires { IsIndexed (names_in source.now) definitions.now }
+    ensures { IfOk result (λ types. types ≡ decl_types (names_in source.now) definitions.now.decls.now declared.now) }
 {
     let mut types = List::new(alloc);
     for variant in declared.variants.as_slice() {
-        let fields = field_types(alloc, source, decls, declared.params.as_slice(), variant)?;
+        let fields = field_types(
+            alloc,
+            source,
+            definitions,
+            declared.params.as_slice(),
+            variant,
+        )?;
         add(&mut types, fields)?;
     }
     Ok(types)
@@ -153,13 +163,14 @@ fn all_definitions(alloc: Global, source: &Source, decls: &[Decl]) -> Result<Lis
 fn all_types(
     alloc: Global,
     source: &Source,
-    decls: &[Decl],
+    definitions: &Definitions,
 ) -> Result<List<List<List<Open>>>, Memory>
-    ensures { IfOk result (λ found. found ≡ map (decl_types (names_in source.now) decls.now) decls.now) }
+    requires { IsIndexed (names_in source.now) definitions.now }
+    ensures { IfOk result (λ found. found ≡ map (decl_types (names_in source.now) definitions.now.decls.now) definitions.now.decls.now) }
 {
     let mut found = List::new(alloc);
-    for decl in decls {
-        let types = types(alloc, source, decls, decl)?;
+    for decl in definitions.decls {
+        let types = types(alloc, source, definitions, decl)?;
         add(&mut found, types)?;
     }
     Ok(found)
@@ -197,47 +208,62 @@ fn all_bounds(
     Ok(bounds)
 }
 
-/// A question.
+/// A question of a file with these definitions.
 fn question(
     alloc: Global,
     source: &Source,
+    definitions: &Definitions,
     parsed: &Parsed,
     declared: &DeclAsk,
 ) -> Result<OpenAsk, Memory>
+    requires indexed { IsIndexed (names_in source.now) definitions.now }
+    requires same { definitions.now.decls.now ≡ parsed.now.decls }
     ensures { IfOk result (λ ask. ask ≡ ask_of (names_in source.now) parsed.now declared.now) }
 {
-    let decls = parsed.decls.as_slice();
     let sight = Sight::Declared(parsed.lifetimes.as_slice());
     Ok(OpenAsk {
-        src: resolve(alloc, source, decls, &sight, &declared.src)?,
-        dst: resolve(alloc, source, decls, &sight, &declared.dst)?,
+        src: resolve(alloc, source, definitions, &sight, &declared.src)?,
+        dst: resolve(alloc, source, definitions, &sight, &declared.dst)?,
         assume: declared.assume,
     })
 }
 
-/// All questions.
-fn all_questions(alloc: Global, source: &Source, parsed: &Parsed) -> Result<List<OpenAsk>, Memory>
+/// All questions of a file with these definitions.
+fn all_questions(
+    alloc: Global,
+    source: &Source,
+    definitions: &Definitions,
+    parsed: &Parsed,
+) -> Result<List<OpenAsk>, Memory>
+    requires indexed { IsIndexed (names_in source.now) definitions.now }
+    requires same { definitions.now.decls.now ≡ parsed.now.decls }
     ensures { IfOk result (λ asks. asks ≡ map (ask_of (names_in source.now) parsed.now) parsed.now.questions) }
 {
     let mut asks = List::new(alloc);
     for item in parsed.questions.as_slice() {
-        let ask = question(alloc, source, parsed, item)?;
+        let ask = question(alloc, source, definitions, parsed, item)?;
         add(&mut asks, ask)?;
     }
     Ok(asks)
 }
 
-/// What the names of a file mean.
-pub fn resolved(alloc: Global, source: &Source, parsed: &Parsed) -> Result<Resolved, Memory>
+/// What the names of a file with these definitions mean.
+pub fn resolved(
+    alloc: Global,
+    source: &Source,
+    definitions: &Definitions,
+    parsed: &Parsed,
+) -> Result<Resolved, Memory>
+    requires indexed { IsIndexed (names_in source.now) definitions.now }
+    requires same { definitions.now.decls.now ≡ parsed.now.decls }
     ensures { IfOk result (λ found. found ≡ resolved_of (names_in source.now) parsed.now) }
 {
-    let decls = parsed.decls.as_slice();
     let lifetimes = parsed.lifetimes.as_slice();
     Ok(Resolved {
-        defs: all_definitions(alloc, source, decls)?,
-        types: all_types(alloc, source, decls)?,
+        defs: all_definitions(alloc, source, definitions.decls)?,
+        types: all_types(alloc, source, definitions)?,
         regions: all_regions(alloc, source, lifetimes)?,
         bounds: all_bounds(alloc, source, lifetimes, parsed.bounds.as_slice())?,
-        asks: all_questions(alloc, source, parsed)?,
+        asks: all_questions(alloc, source, definitions, parsed)?,
     })
 }

@@ -14,7 +14,7 @@ pub returns : goal.returns
 returns c =
     let name = names_in c.args.source.now in
     let file = c.args.parsed.now in
-    let decls = c.as_slice-decls.ensures in
+    let decls = c.requires.same in
     let lifetimes = c.as_slice-lifetimes.ensures in
     let named = rw (c.as_slice.ensures, c.in_ok-names.ensures, decls) at c.note_repeats-first.ensures in
     let declared = rw lifetimes at c.note_repeats-first-2.ensures in
@@ -27,5 +27,5 @@ returns c =
     (chain c.note_repeats-first.result c.note_repeats-first-2.result c.note_reserved-first.result c.in_ok-first.first c.in_ok-first-2.first (earliest c.in_ok-first-2.first infinite)
     (repeats name file.lifetimes) (reserved name file.lifetimes) (flat_map (decl_faults name file.decls) file.decls)
     (scope_faults name file.decls (outer_scope file)) infinite
-    declared reserved_ones defined c.in_ok-first-2.ensures refl) in
+    declared reserved_ones defined (rw decls at c.in_ok-first-2.ensures) refl) in
     subst (λ found_ones. IfOk c.note_infinite.result (λ found. found ≡ found_ones)) whole (rw decls at c.note_infinite.ensures)

@@ -7,5 +7,5 @@ use Rattle.tm_names.proofs.faults.note_decls.Given as goal
 
 abbrev pub invariant-loop-decl : goal.invariant-loop-decl
 invariant-loop-decl l =
-    earliest l.first (flat_map (decl_faults (names_in l.source) l.decls) (drop l.decl-index l.decls))
-    ≡ earliest l.fn.first (flat_map (decl_faults (names_in l.fn.source) l.fn.decls) l.fn.decls)
+    earliest l.first (flat_map (decl_faults (names_in l.source) l.definitions.decls.now) (drop l.decl-index l.definitions.decls.now))
+    ≡ earliest l.fn.first (flat_map (decl_faults (names_in l.fn.source) l.fn.definitions.decls.now) l.fn.definitions.decls.now)

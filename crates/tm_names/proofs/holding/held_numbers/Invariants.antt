@@ -6,4 +6,4 @@ use Rattle.tm_names.proofs.holding.held_numbers.Given as goal
 
 abbrev pub invariant-loop-mention : goal.invariant-loop-mention
 invariant-loop-mention l =
-    l.found ++ filter_map (held_number (names_in l.source) l.decls) (drop l.mention-index l.mentions) ≡ filter_map (held_number (names_in l.fn.source) l.fn.decls) l.fn.mentions
+    l.found ++ filter_map (held_number (names_in l.source) l.definitions.decls.now) (drop l.mention-index l.mentions) ≡ filter_map (held_number (names_in l.fn.source) l.fn.definitions.decls.now) l.fn.mentions

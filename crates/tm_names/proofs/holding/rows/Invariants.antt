@@ -5,4 +5,4 @@ use Rattle.tm_names.proofs.holding.rows.Given as goal
 
 abbrev pub invariant-loop-decl : goal.invariant-loop-decl
 invariant-loop-decl l =
-    l.rows ++ map (row_of (names_in l.source) l.decls) (drop l.decl-index l.decls) ≡ rows_of (names_in l.fn.source) l.fn.decls
+    l.rows ++ map (row_of (names_in l.source) l.definitions.decls.now) (drop l.decl-index l.definitions.decls.now) ≡ rows_of (names_in l.fn.source) l.fn.definitions.decls.now

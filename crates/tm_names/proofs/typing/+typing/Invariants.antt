@@ -6,5 +6,5 @@ use Rattle.tm_names.proofs.typing.+typing.Given as goal
 
 abbrev pub invariant-resolve_all-loop-ty : goal.invariant-resolve_all-loop-ty
 invariant-resolve_all-loop-ty l =
-    l.found ++ map (type_of (names_in l.source) l.decls (life_in (names_in l.source) l.sight)) (drop l.ty-index l.types)
-    ≡ map (type_of (names_in l.source) l.decls (life_in (names_in l.source) l.sight)) l.types
+    l.found ++ map (type_of (names_in l.source) l.definitions.decls.now (life_in (names_in l.source) l.sight)) (drop l.ty-index l.types)
+    ≡ map (type_of (names_in l.source) l.definitions.decls.now (life_in (names_in l.source) l.sight)) l.types
