@@ -1,0 +1,22 @@
+use Rattle.std.proofs.Common.{◌∙◌, sym, ap, inl}
+use Rattle.tm_names.proofs.FirstLemmas.{first_stands, no_first, nothing_stands, one_first}
+use Rattle.tm_names.specs.declared.fault.NameErr.TheVariants.{Fault}
+use Rattle.tm_names.specs.Written.{name_at}
+use Rattle.tm_names.proofs.checking.check.Goals as goal
+
+pub returns-in-Ok-Some-clause-fault : goal.returns-in-Ok-Some-clause-fault
+returns-in-Ok-Some-clause-fault c =
+    first_stands (name_at c.args.text.now c.args.tokens.now) c.args.parsed.now c.in-Ok-Some.fault (sym c.in-Ok-Some.ensures ∙ c.in-Ok-Some.field-0-is)
+
+pub returns-in-Ok-Some-clause-faults : goal.returns-in-Ok-Some-clause-faults
+returns-in-Ok-Some-clause-faults c = λ why place h.
+    let same = one_first (name_at c.args.text.now c.args.tokens.now) c.args.parsed.now why place h c.in-Ok-Some.fault (sym c.in-Ok-Some.ensures ∙ c.in-Ok-Some.field-0-is) in
+    inl (ap (λ kind. Fault kind c.in-Ok-Some.fault.place) same.0 ∙ ap (λ there. Fault why there) same.1)
+
+pub returns-in-Ok-resolved-clause-sound : goal.returns-in-Ok-resolved-clause-sound
+returns-in-Ok-resolved-clause-sound c =
+    nothing_stands (name_at c.args.text.now c.args.tokens.now) c.args.parsed.now (sym c.in-Ok-None.ensures ∙ c.in-Ok-None.field-0-is)
+
+pub returns-in-Ok-resolved-clause-faults : goal.returns-in-Ok-resolved-clause-faults
+returns-in-Ok-resolved-clause-faults c = λ why place h.
+    no_first (name_at c.args.text.now c.args.tokens.now) c.args.parsed.now why place h (sym c.in-Ok-None.ensures ∙ c.in-Ok-None.field-0-is)

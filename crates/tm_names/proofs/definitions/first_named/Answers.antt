@@ -1,0 +1,11 @@
+use Rattle.std.proofs.Common.{ap, ◌∙◌}
+use Rattle.std.specs.HashMap.{get_by}
+use Rattle.std.specs.Str.{bytes_eq}
+use Rattle.tm_names.specs.Source.{names_in}
+use Rattle.tm_names.proofs.definitions.first_named.Goals as goal
+
+pub returns : goal.returns
+returns c =
+    c.copied.ensures ∙ (c.get.ensures.value
+    ∙ (ap (λ bytes. get_by (λ key. bytes_eq bytes key.now) c.args.definitions.now.firsts) c.name.ensures
+    ∙ c.requires.found (names_in c.args.source.now c.args.place)))

@@ -1,0 +1,55 @@
+ghost use Rattle.std.specs.Prelude.{◌≡◌};
+ghost use Rattle.tm_names.specs.Least.{earliest, fault_where, is_no_later, keep};
+ghost use Rattle.tm_names.specs.Ranks.{rank};
+
+use tm_base::NameWhy;
+
+/// A name fault and the token at which it stands.
+#[derive(Clone, Copy, Debug)]
+pub struct NameFault {
+    pub why: NameWhy,
+    pub place: u32,
+}
+
+/// The number of a kind of fault in their order.
+fn rank(why: NameWhy) -> u32
+    ensures { result ≡ rank why }
+{
+    match why {
+        NameWhy::Twice => 0,
+        NameWhy::Unknown => 1,
+        NameWhy::Arity => 2,
+        NameWhy::Lifetime => 3,
+        NameWhy::Discriminant => 4,
+        NameWhy::Infinite => 5,
+        NameWhy::BadRepr => 6,
+    }
+}
+
+/// Whether a fault is the other one or stands before it.
+fn is_no_later(fault: NameFault, other: NameFault) -> bool
+    ensures { result ≡ is_no_later fault other }
+{
+    fault.place < other.place || fault.place == other.place && rank(fault.why) <= rank(other.why)
+}
+
+/// The first of some faults, where one more is found.
+fn keep(first: Option<NameFault>, fault: NameFault) -> Option<NameFault>
+    ensures { result ≡ keep first fault }
+{
+    match first {
+        Some(kept) if is_no_later(kept, fault) => Some(kept),
+        _ => Some(fault),
+    }
+}
+
+/// The first of some faults, where one more stands at a place if something is wrong there.
+pub fn note(first: Option<NameFault>, wrong: bool, why: NameWhy, place: u32) -> Option<NameFault>
+    ensures { result ≡ earliest first (fault_where wrong why place) }
+{
+    if wrong {
+        keep(first, NameFault { why, place })
+    } else {
+        first
+    }
+}

@@ -1,0 +1,52 @@
+use tm_base::{Assume, Bound, Boxed, Def, DefId, List, Primitive, Text, Wrapper};
+
+/// A lifetime that is resolved.
+///
+/// `Declared(k)` is the region at place k of the file's regions, 1 at least; `Param(k)` the parameter at
+/// place k, from 0, of the definition in whose field it stands.
+#[derive(Clone, Copy, PartialEq, Eq, Debug)]
+pub enum Life {
+    Static,
+    Declared(u32),
+    Param(u32),
+}
+
+/// A type whose names are resolved and whose lifetimes may be parameters.
+///
+/// `Array` has the element's type and the length. `NonZero` holds an integer type. `Named` has the
+/// definition and a lifetime for each of its parameters. `Ref` has the lifetime, whether it is `&mut`,
+/// and what it points to. The empty `Tuple` is `()`.
+#[derive(Debug, Drop)]
+pub enum Open {
+    Prim(Primitive),
+    Never,
+    Tuple(List<Open>),
+    Array(Boxed<Open>, u32),
+    NonZero(Primitive),
+    Wrap(Wrapper, Boxed<Open>),
+    Named(DefId, List<Life>),
+    Ref(Life, bool, Boxed<Open>),
+}
+
+/// A question: may a value of `src` be taken as one of `dst`, where so much is assumed? No lifetime in it
+/// is a parameter.
+#[derive(Debug, Drop)]
+pub struct OpenAsk {
+    pub src: Open,
+    pub dst: Open,
+    pub assume: Assume,
+}
+
+/// A file whose names are resolved.
+///
+/// A [`DefId`] is a place in `defs`. `types` has one list for each definition, in it one for each variant,
+/// and in that one type for each field. `regions` has the text of each region: `'static` first, then the
+/// declared lifetimes in the file's order.
+#[derive(Debug, Drop)]
+pub struct Resolved {
+    pub defs: List<Def>,
+    pub types: List<List<List<Open>>>,
+    pub regions: List<Text>,
+    pub bounds: List<Bound>,
+    pub asks: List<OpenAsk>,
+}

@@ -1,0 +1,269 @@
+ghost use Rattle.std.specs.Prelude.{◌≡◌, IfOk, map, pos};
+ghost use Rattle.tm_names.specs.Discriminants.{valued};
+ghost use Rattle.tm_names.specs.Resolutions.{ask_of, bound_of, decl_types, def_of, field_of, regions_of, resolved_of, text_or_none, variant_of, variant_types};
+ghost use Rattle.tm_names.specs.Directories.{IsIndexed};
+ghost use Rattle.tm_names.specs.Source.{names_in};
+
+use crate::adding::add;
+use crate::counting::{narrow, next, value_in};
+use crate::indexed::Definitions;
+use crate::lives::bound;
+use crate::reprs::repr;
+use crate::resolved::{Open, OpenAsk, Resolved};
+use crate::sight::Sight;
+use crate::source::{Source, name};
+use crate::typing::resolve;
+use crate::value::Value;
+use std::alloc::Global;
+use std::str::from_utf8;
+use tm_base::{Bound, Def, Field, List, Memory, Text, Variant};
+use tm_parse::{Decl, DeclAsk, DeclBound, DeclField, DeclVariant, Parsed};
+
+/// The name of the token at a place.
+///
+/// `Memory` comes also where it isn't UTF-8, which each token of a text is.
+fn text(alloc: Global, source: &Source, place: u32) -> Result<Text, Memory>
+    ensures { IfOk result (λ text. text ≡ names_in source.now place) }
+{
+    let mut text = Text::new(alloc);
+    match from_utf8(name(source, place)) {
+        Ok(name) => text.push_str(name)?,
+        Err(_) => return Err(Memory),
+    }
+    Ok(text)
+}
+
+/// A name that is written, else the empty one.
+fn text_or_none(alloc: Global, source: &Source, place: Option<u32>) -> Result<Text, Memory>
+    ensures { IfOk result (λ text. text ≡ text_or_none (names_in source.now) place) }
+{
+    match place {
+        None => Ok(Text::new(alloc)),
+        Some(place) => text(alloc, source, place),
+    }
+}
+
+/// Fields, without their types.
+fn fields(alloc: Global, source: &Source, declared: &[DeclField]) -> Result<List<Field>, Memory>
+    ensures { IfOk result (λ fields. fields ≡ map (field_of (names_in source.now)) declared.now) }
+{
+    let mut fields = List::new(alloc);
+    for field in declared {
+        let name = text_or_none(alloc, source, field.name)?;
+        let public = field.public;
+        add(&mut fields, Field { name, public })?;
+    }
+    Ok(fields)
+}
+
+/// A variant with its discriminant.
+fn variant(
+    alloc: Global,
+    source: &Source,
+    declared: &DeclVariant,
+    value: i128,
+) -> Result<Variant, Memory>
+    ensures { IfOk result (λ variant. variant ≡ variant_of (names_in source.now) (record { variant = declared.now; value = value })) }
+{
+    Ok(Variant {
+        name: text_or_none(alloc, source, declared.name)?,
+        value,
+        fields: fields(alloc, source, declared.fields.as_slice())?,
+    })
+}
+
+/// Variants with their discriminants.
+fn variants(
+    alloc: Global,
+    source: &Source,
+    declared: &[DeclVariant],
+) -> Result<List<Variant>, Memory>
+    ensures { IfOk result (λ variants. variants ≡ map (variant_of (names_in source.now)) (valued declared.now)) }
+{
+    let mut variants = List::new(alloc);
+    let mut implied = Value::AtLeastZero(0);
+    for item in declared {
+        let value = value_in(implied, item);
+        let variant = variant(alloc, source, item, narrow(value)?)?;
+        add(&mut variants, variant)?;
+        implied = next(value);
+    }
+    Ok(variants)
+}
+
+/// A definition, without the types of its fields.
+fn definition(alloc: Global, source: &Source, declared: &Decl) -> Result<Def, Memory>
+    ensures { IfOk result (λ def. def ≡ def_of (names_in source.now) declared.now) }
+{
+    Ok(Def {
+        name: text(alloc, source, declared.name)?,
+        kind: declared.kind,
+        repr: repr(declared)?,
+        variants: variants(alloc, source, declared.variants.as_slice())?,
+    })
+}
+
+/// The types of a variant's fields, in a definition with these parameters.
+fn field_types(
+    alloc: Global,
+    source: &Source,
+    definitions: &Definitions,
+    params: &[u32],
+    declared: &DeclVariant,
+) -> Result<List<Open>, Memory>
+    requires { IsIndexed (names_in source.now) definitions.now }
+    ensures { IfOk result (λ types. types ≡ variant_types (names_in source.now) definitions.now.decls.now params.now declared.now) }
+{
+    let sight = Sight::Params(params);
+    let mut types = List::new(alloc);
+    for field in declared.fields.as_slice() {
+        let ty = resolve(alloc, source, definitions, &sight, &field.ty)?;
+        add(&mut types, ty)?;
+    }
+    Ok(types)
+}
+
+/// The types of a definition's fields.
+fn types(
+    alloc: Global,
+    source: &Source,
+    definitions: &Definitions,
+    declared: &Decl,
+) -> Result<List<List<Open>>, Memory>
+    requires { IsIndexed (names_in source.now) definitions.now }
+    ensures { IfOk result (λ types. types ≡ decl_types (names_in source.now) definitions.now.decls.now declared.now) }
+{
+    let mut types = List::new(alloc);
+    for variant in declared.variants.as_slice() {
+        let fields = field_types(
+            alloc,
+            source,
+            definitions,
+            declared.params.as_slice(),
+            variant,
+        )?;
+        add(&mut types, fields)?;
+    }
+    Ok(types)
+}
+
+/// All definitions, without the types of their fields.
+fn all_definitions(alloc: Global, source: &Source, decls: &[Decl]) -> Result<List<Def>, Memory>
+    ensures { IfOk result (λ defs. defs ≡ map (def_of (names_in source.now)) decls.now) }
+{
+    let mut defs = List::new(alloc);
+    for decl in decls {
+        let def = definition(alloc, source, decl)?;
+        add(&mut defs, def)?;
+    }
+    Ok(defs)
+}
+
+/// The types of the fields of all definitions.
+fn all_types(
+    alloc: Global,
+    source: &Source,
+    definitions: &Definitions,
+) -> Result<List<List<List<Open>>>, Memory>
+    requires { IsIndexed (names_in source.now) definitions.now }
+    ensures { IfOk result (λ found. found ≡ map (decl_types (names_in source.now) definitions.now.decls.now) definitions.now.decls.now) }
+{
+    let mut found = List::new(alloc);
+    for decl in definitions.decls {
+        let types = types(alloc, source, definitions, decl)?;
+        add(&mut found, types)?;
+    }
+    Ok(found)
+}
+
+/// The texts of all regions: `'static` and the declared lifetimes.
+fn all_regions(alloc: Global, source: &Source, lifetimes: &[u32]) -> Result<List<Text>, Memory>
+    ensures { IfOk result (λ regions. regions ≡ regions_of (names_in source.now) lifetimes.now) }
+{
+    let mut regions = List::new(alloc);
+    let mut first = Text::new(alloc);
+    first.push_str("'static")?;
+    add(&mut regions, first)?;
+    for place in lifetimes {
+        let region = text(alloc, source, *place)?;
+        add(&mut regions, region)?;
+    }
+    Ok(regions)
+}
+
+/// All items `outlives`.
+fn all_bounds(
+    alloc: Global,
+    source: &Source,
+    lifetimes: &[u32],
+    declared: &[DeclBound],
+) -> Result<List<Bound>, Memory>
+    ensures { IfOk result (λ bounds. bounds ≡ map (bound_of (names_in source.now) lifetimes.now) declared.now) }
+{
+    let mut bounds = List::new(alloc);
+    for item in declared {
+        let bound = bound(source, lifetimes, item)?;
+        add(&mut bounds, bound)?;
+    }
+    Ok(bounds)
+}
+
+/// A question of a file with these definitions.
+fn question(
+    alloc: Global,
+    source: &Source,
+    definitions: &Definitions,
+    parsed: &Parsed,
+    declared: &DeclAsk,
+) -> Result<OpenAsk, Memory>
+    requires indexed { IsIndexed (names_in source.now) definitions.now }
+    requires same { definitions.now.decls.now ≡ parsed.now.decls }
+    ensures { IfOk result (λ ask. ask ≡ ask_of (names_in source.now) parsed.now declared.now) }
+{
+    let sight = Sight::Declared(parsed.lifetimes.as_slice());
+    Ok(OpenAsk {
+        src: resolve(alloc, source, definitions, &sight, &declared.src)?,
+        dst: resolve(alloc, source, definitions, &sight, &declared.dst)?,
+        assume: declared.assume,
+    })
+}
+
+/// All questions of a file with these definitions.
+fn all_questions(
+    alloc: Global,
+    source: &Source,
+    definitions: &Definitions,
+    parsed: &Parsed,
+) -> Result<List<OpenAsk>, Memory>
+    requires indexed { IsIndexed (names_in source.now) definitions.now }
+    requires same { definitions.now.decls.now ≡ parsed.now.decls }
+    ensures { IfOk result (λ asks. asks ≡ map (ask_of (names_in source.now) parsed.now) parsed.now.questions) }
+{
+    let mut asks = List::new(alloc);
+    for item in parsed.questions.as_slice() {
+        let ask = question(alloc, source, definitions, parsed, item)?;
+        add(&mut asks, ask)?;
+    }
+    Ok(asks)
+}
+
+/// What the names of a file with these definitions mean.
+pub fn resolved(
+    alloc: Global,
+    source: &Source,
+    definitions: &Definitions,
+    parsed: &Parsed,
+) -> Result<Resolved, Memory>
+    requires indexed { IsIndexed (names_in source.now) definitions.now }
+    requires same { definitions.now.decls.now ≡ parsed.now.decls }
+    ensures { IfOk result (λ found. found ≡ resolved_of (names_in source.now) parsed.now) }
+{
+    let lifetimes = parsed.lifetimes.as_slice();
+    Ok(Resolved {
+        defs: all_definitions(alloc, source, definitions.decls)?,
+        types: all_types(alloc, source, definitions)?,
+        regions: all_regions(alloc, source, lifetimes)?,
+        bounds: all_bounds(alloc, source, lifetimes, parsed.bounds.as_slice())?,
+        asks: all_questions(alloc, source, definitions, parsed)?,
+    })
+}

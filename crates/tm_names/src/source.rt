@@ -1,0 +1,77 @@
+ghost use Rattle.std.specs.Prelude.{◌≡◌, slice_range};
+ghost use Rattle.tm_names.specs.Written.{first_among, is_among, is_reserved, is_same, is_static};
+ghost use Rattle.tm_names.specs.Source.{names_in};
+
+use tm_lex::Token;
+
+/// A text with its tokens.
+#[derive(Clone, Copy)]
+pub struct Source<'a> {
+    pub text: &'a str,
+    pub tokens: &'a [Token],
+}
+
+/// The bytes of a text from one place up to another, as far as there are any.
+fn piece(text: &str, start: u32, end: u32) -> &[u8]
+    ensures { result.now ≡ slice_range text.now start end }
+{
+    let bytes = text.as_bytes();
+    let end = bytes.len().min(end as usize);
+    let start = end.min(start as usize);
+    &bytes[start..end]
+}
+
+/// The bytes of the token at a place; none where there is no token.
+pub fn name<'a>(source: &Source<'a>, place: u32) -> &'a [u8]
+    ensures { result.now ≡ names_in source.now place }
+{
+    match source.tokens.get(place as usize) {
+        None => &[],
+        Some(token) => piece(source.text, token.start, token.end),
+    }
+}
+
+/// Whether the tokens at two places have one name.
+pub fn is_same(source: &Source, place: u32, other: u32) -> bool
+    ensures { result ≡ is_same (names_in source.now) place other }
+{
+    name(source, place) == name(source, other)
+}
+
+/// Whether one of these places has the name of the token at a place.
+pub fn is_among(source: &Source, places: &[u32], place: u32) -> bool
+    ensures { result ≡ is_among (names_in source.now) places.now place }
+{
+    for other in places {
+        if is_same(source, *other, place) {
+            return true;
+        }
+    }
+    false
+}
+
+/// The number of the first of these places that has the name of the token at a place.
+pub fn first_among(source: &Source, places: &[u32], place: u32) -> Option<usize>
+    ensures { result ≡ first_among (names_in source.now) places.now place }
+{
+    for (number, other) in places.iter().enumerate() {
+        if is_same(source, *other, place) {
+            return Some(number);
+        }
+    }
+    None
+}
+
+/// Whether the token at a place is `'static`.
+pub fn is_static(source: &Source, place: u32) -> bool
+    ensures { result ≡ is_static (names_in source.now) place }
+{
+    name(source, place) == "'static".as_bytes()
+}
+
+/// Whether the token at a place is `'static` or `'_`, which can't be declared.
+pub fn is_reserved(source: &Source, place: u32) -> bool
+    ensures { result ≡ is_reserved (names_in source.now) place }
+{
+    is_static(source, place) || name(source, place) == "'_".as_bytes()
+}

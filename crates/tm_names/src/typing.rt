@@ -1,0 +1,106 @@
+ghost use Rattle.std.specs.Prelude.{◌≡◌, IfOk, map};
+ghost use Rattle.tm_names.specs.Resolutions.{def_id, type_of};
+ghost use Rattle.tm_names.specs.Sights.{life_in};
+ghost use Rattle.tm_names.specs.Directories.{IsIndexed};
+ghost use Rattle.tm_names.specs.Source.{names_in};
+
+use crate::adding::{add, number};
+use crate::definitions::first_named;
+use crate::indexed::Definitions;
+use crate::lives::life;
+use crate::resolved::{Life, Open};
+use crate::sight::Sight;
+use crate::source::Source;
+use std::alloc::Global;
+use tm_base::{Boxed, DefId, List, Memory};
+use tm_parse::Expr;
+
+/// The first definition that has the name of the token at a place.
+fn definition(source: &Source, definitions: &Definitions, place: u32) -> Result<DefId, Memory>
+    requires { IsIndexed (names_in source.now) definitions.now }
+    ensures { IfOk result (λ id. id ≡ def_id (names_in source.now) definitions.now.decls.now place) }
+{
+    match first_named(source, definitions, place) {
+        None => Ok(DefId(0)),
+        Some(place) => Ok(DefId(number(place)?)),
+    }
+}
+
+/// What lifetimes mean.
+fn lives(
+    alloc: Global,
+    source: &Source,
+    sight: &Sight,
+    places: &[u32],
+) -> Result<List<Life>, Memory>
+    ensures { IfOk result (λ lives. lives ≡ map (life_in (names_in source.now) sight.now) places.now) }
+{
+    let mut lives = List::new(alloc);
+    for place in places {
+        let life = life(source, sight, *place)?;
+        add(&mut lives, life)?;
+    }
+    Ok(lives)
+}
+
+/// A type with its names and lifetimes resolved.
+#[cycle(typing)]
+#[tactic(auto, unfolding(crate::specs::Resolutions::type_of))]
+pub fn resolve(
+    alloc: Global,
+    source: &Source,
+    definitions: &Definitions,
+    sight: &Sight,
+    ty: &Expr,
+) -> Result<Open, Memory>
+    requires { IsIndexed (names_in source.now) definitions.now }
+    ensures { IfOk result (λ found. found ≡ type_of (names_in source.now) definitions.now.decls.now (life_in (names_in source.now) sight.now) ty.now) }
+{
+    match ty {
+        Expr::Prim(primitive) => Ok(Open::Prim(*primitive)),
+        Expr::Never => Ok(Open::Never),
+        Expr::Tuple(elements) => {
+            let elements = resolve_all(alloc, source, definitions, sight, elements.as_slice())?;
+            Ok(Open::Tuple(elements))
+        }
+        Expr::Array(element, length) => {
+            let element = resolve(alloc, source, definitions, sight, element.get())?;
+            Ok(Open::Array(Boxed::new(alloc, element)?, *length))
+        }
+        Expr::NonZero(primitive) => Ok(Open::NonZero(*primitive)),
+        Expr::Wrap(wrapper, argument) => {
+            let argument = resolve(alloc, source, definitions, sight, argument.get())?;
+            Ok(Open::Wrap(*wrapper, Boxed::new(alloc, argument)?))
+        }
+        Expr::Named(place, lifetimes) => {
+            let definition = definition(source, definitions, *place)?;
+            let lives = lives(alloc, source, sight, lifetimes.as_slice())?;
+            Ok(Open::Named(definition, lives))
+        }
+        Expr::Ref(place, mutable, pointee) => {
+            let life = life(source, sight, *place)?;
+            let pointee = resolve(alloc, source, definitions, sight, pointee.get())?;
+            Ok(Open::Ref(life, *mutable, Boxed::new(alloc, pointee)?))
+        }
+    }
+}
+
+/// Types with their names and lifetimes resolved, in order.
+#[cycle(typing)]
+fn resolve_all(
+    alloc: Global,
+    source: &Source,
+    definitions: &Definitions,
+    sight: &Sight,
+    types: &[Expr],
+) -> Result<List<Open>, Memory>
+    requires { IsIndexed (names_in source.now) definitions.now }
+    ensures { IfOk result (λ found. found ≡ map (type_of (names_in source.now) definitions.now.decls.now (life_in (names_in source.now) sight.now)) types.now) }
+{
+    let mut found = List::new(alloc);
+    for ty in types {
+        let ty = resolve(alloc, source, definitions, sight, ty)?;
+        add(&mut found, ty)?;
+    }
+    Ok(found)
+}
