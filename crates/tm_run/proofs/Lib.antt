@@ -7,3 +7,4 @@ pub mod LeavingLemmas
 pub mod RunLemmas
 pub mod TokenLemmas
 pub mod VerdictLemmas
+mod Worked

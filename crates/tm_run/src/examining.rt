@@ -1,4 +1,4 @@
-ghost use Rattle.std.specs.Prelude.{◌≡◌, ◌≤◌, IfOk, IfErr, length, slice_get, IsUtf8};
+ghost use Rattle.std.specs.Prelude.{◌≡◌, ◌≤◌, IfOk, IfErr, length, slice_get};
 ghost use Rattle.tm_run.specs.Examined.{AreQuestionsOf, AreTokensOf, IsParsedOf, IsStop, fault_at, no_token_at};
 ghost use Rattle.tm_run.specs.declared.examining.Stop.TheVariants as stop_is;
 
@@ -37,7 +37,7 @@ impl From<AllocError> for Stop {
 /// The text of a file.
 fn decoded(file: &[u8]) -> Result<&str, Stop>
     requires { length file.now ≤ 1048576 }
-    ensures text { IfOk result (λ text. (text.now ≡ file.now) × IsUtf8 file.now) }
+    ensures text { IfOk result (λ text. text.now ≡ file.now) }
     ensures stop { IfErr result (IsStop file.now) }
 {
     match str::from_utf8(file) {
