@@ -1,12 +1,16 @@
 -- Each fault by its cause, and that a file has one fault only.
-use Rattle.std.proofs.Common.{◌≡◌, ◌∙◌, ℕ, ◌<◌, inl, inr, refl, sym, ap, subst, Some, None, List, length, arith}
+use Rattle.std.proofs.Common.{◌≡◌, ◌∙◌, ℕ, ◌<◌, inl, inr, refl, sym, ap, subst, Some, None, List, length, slice_get, arith}
 use Rattle.std.proofs.lemmas.Str.{utf8_valid_len-IsValidUpTo}
 use Rattle.tm_base.specs.declared.limit.LimitKind.{LimitKind}
 use Rattle.tm_base.specs.declared.limit.LimitKind.TheVariants.{FileBytes}
+use Rattle.tm_base.specs.declared.limit.NameWhy.{NameWhy}
 use Rattle.tm_lex.specs.Lexes.{IsFault, Tokenizes}
 use Rattle.tm_lex.specs.declared.fault.LexWhy.{LexWhy}
 use Rattle.tm_lex.specs.declared.fault.LexWhy.TheVariants as why
 use Rattle.tm_lex.specs.declared.token.Token.{Token}
+use Rattle.tm_names.specs.Faults.{IsFirstFault}
+use Rattle.tm_names.specs.Written.{name_at}
+use Rattle.tm_names.specs.declared.resolved.Resolved.{Resolved}
 use Rattle.tm_parse.specs.Parsing.{PassesLimitAt, SpellsFile, StopsAt}
 use Rattle.tm_parse.specs.Spelling.{terminals_of}
 use Rattle.tm_parse.specs.declared.parsed.Parsed.{Parsed}
@@ -14,8 +18,8 @@ use Rattle.tm_report.specs.declared.fault.At.{At}
 use Rattle.tm_report.specs.declared.fault.FileFault.{FileFault}
 use Rattle.tm_report.specs.declared.fault.FileFault.TheVariants.{NotUtf8, NoToken, BadNumber, OpenComment, Unexpected, EndOfFile, Passed, Names, NotYet}
 use Rattle.tm_run.specs.Examined.{AreTokensOf, IsOnlyFault, no_token_at}
-use Rattle.tm_run.specs.Faults.{BeginsAt, EndsTooSoon, GoesBeyond, HasFault, HasTextFault, IsNotUtf8, LacksToken, PassesLimit, PassesLimitAtToken, StopsAtToken, status_of_fault}
-use Rattle.tm_run.specs.Files.{IsAccepted, file_bytes}
+use Rattle.tm_run.specs.Faults.{BeginsAt, EndsTooSoon, GoesBeyond, HasFault, HasNameFault, HasNameFaultAt, HasTextFault, IsNotUtf8, LacksToken, PassesLimit, PassesLimitAtToken, StopsAtToken, start_of, status_of_fault}
+use Rattle.tm_run.specs.Files.{HasSoundNames, IsResolved, IsSpelled, file_bytes}
 use Rattle.tm_run.specs.Places.{at_byte}
 use Rattle.tm_run.specs.Questions.{questions_of}
 use Rattle.tm_run.specs.declared.status.Status.TheVariants.{BadText, Limit, IllFormed}
@@ -29,6 +33,7 @@ module _ (file : List ℕ) (P : FileFault → Type 0) where
     pub ends : EndsTooSoon file → P (EndOfFile (at_byte file (length file)))
     pub passes : (kind : LimitKind) (byte : ℕ) → PassesLimitAtToken file kind byte → P (Passed kind (Some (at_byte file byte)))
     pub long : file_bytes < length file → P (Passed FileBytes None)
+    pub names : (why : NameWhy) (byte : ℕ) → HasNameFaultAt file why byte → P (Names why (at_byte file byte))
     pub beyond : GoesBeyond file → P NotYet
 
   pub by_cause : ByCause → (fault : FileFault) → HasFault file fault → P fault
@@ -40,7 +45,7 @@ module _ (file : List ℕ) (P : FileFault → Type 0) where
   by_cause by (EndOfFile at) (place, h) = subst (λ (at : At). P (EndOfFile at)) (sym place) (by.ends h)
   by_cause by (Passed kind None) (k, h) = subst (λ (kind : LimitKind). P (Passed kind None)) (sym k) (by.long h)
   by_cause by (Passed kind (Some at)) (place, h) = subst (λ (at : At). P (Passed kind (Some at))) (sym place) (by.passes kind at.byte h)
-  by_cause by (Names why at) h = absurd h
+  by_cause by (Names why at) (place, h) = subst (λ (at : At). P (Names why at)) (sym place) (by.names why at.byte h)
   by_cause by NotYet h = by.beyond h
 
 -- the fault of each cause is one that the file has
@@ -63,6 +68,7 @@ limit_cause file = by_cause file (λ fault. status_of_fault fault ≡ Limit → 
   ends = λ h e. cc;
   passes = λ kind byte h e. inr (kind, byte, h);
   long = λ h e. inl h;
+  names = λ why byte h e. cc;
   beyond = λ h e. cc;
 })
 
@@ -74,17 +80,19 @@ text_cause file = by_cause file (λ fault. status_of_fault fault ≡ BadText →
   ends = λ h e. inr (inr (inr (inl h)));
   passes = λ kind byte h e. cc;
   long = λ h e. cc;
+  names = λ why byte h e. cc;
   beyond = λ h e. inr (inr (inr (inr h)));
 })
 
-pub never_ill_formed : (file : List ℕ) (fault : FileFault) → HasFault file fault → status_of_fault fault ≡ IllFormed → ⊥
-never_ill_formed file = by_cause file (λ fault. status_of_fault fault ≡ IllFormed → ⊥) (record {
+pub name_cause : (file : List ℕ) (fault : FileFault) → HasFault file fault → status_of_fault fault ≡ IllFormed → HasNameFault file
+name_cause file = by_cause file (λ fault. status_of_fault fault ≡ IllFormed → HasNameFault file) (record {
   not_utf8 = λ byte h e. cc;
   lacks = λ byte why h e. let text = status_of_lacks (at_byte file byte) why in cc;
   stops = λ byte h e. cc;
   ends = λ h e. cc;
   passes = λ kind byte h e. cc;
   long = λ h e. cc;
+  names = λ why byte h e. (why, byte, h);
   beyond = λ h e. cc;
 })
 
@@ -101,6 +109,9 @@ cause_text file (inr (inr (inl (byte, h)))) = (Unexpected (at_byte file byte), (
 cause_text file (inr (inr (inr (inl h)))) = (EndOfFile (at_byte file (length file)), (refl, h), refl)
 cause_text file (inr (inr (inr (inr h)))) = (NotYet, h, refl)
 
+pub cause_name : (file : List ℕ) → HasNameFault file → (fault : FileFault) × HasFault file fault × (status_of_fault fault ≡ IllFormed)
+cause_name file (why, byte, h) = (Names why (at_byte file byte), (refl, h), refl)
+
 -- too many bytes are the one fault
 pub long_only : (file : List ℕ) → file_bytes < length file → IsOnlyFault file (Passed FileBytes None)
 long_only file long = record {
@@ -112,9 +123,10 @@ long_only file long = record {
     ends = λ h. let lexed = h.lexed in absurd (omega arith);
     passes = λ kind byte h. let lexed = h.lexed in absurd (omega arith);
     long = λ h. refl;
-    beyond = λ h. let lexed = h.spelled.lexed in absurd (omega arith);
+    names = λ why byte h. let lexed = h.spelled.lexed in absurd (omega arith);
+    beyond = λ h. let lexed = h.names.spelled.lexed in absurd (omega arith);
   });
-  refused = λ h. let lexed = h.spelled.lexed in absurd (omega arith);
+  refused = λ h. let lexed = h.names.spelled.lexed in absurd (omega arith);
 }
 
 -- bytes that aren't UTF-8 are the one fault
@@ -129,9 +141,10 @@ broken_only file byte broken = record {
     ends = λ h. absurd (broken.broken h.lexed.utf8);
     passes = λ kind byte h. absurd (broken.broken h.lexed.utf8);
     long = λ h. let short = broken.short in absurd (omega arith);
-    beyond = λ h. absurd (broken.broken h.spelled.lexed.utf8);
+    names = λ why found h. absurd (broken.broken h.spelled.lexed.utf8);
+    beyond = λ h. absurd (broken.broken h.names.spelled.lexed.utf8);
   });
-  refused = λ h. broken.broken h.spelled.lexed.utf8;
+  refused = λ h. broken.broken h.names.spelled.lexed.utf8;
 }
 
 -- a byte at which no token begins is the one fault
@@ -147,10 +160,19 @@ lacks_only file byte why lacks no_tokens same = record {
     ends = λ h. absurd (no_tokens h.tokens h.lexed.tokenizes);
     passes = λ kind found h. absurd (no_tokens h.tokens h.lexed.tokenizes);
     long = λ h. let short = lacks.short in absurd (omega arith);
-    beyond = λ h. absurd (no_tokens h.spelled.tokens h.spelled.lexed.tokenizes);
+    names = λ because found h. absurd (no_tokens h.spelled.tokens h.spelled.lexed.tokenizes);
+    beyond = λ h. absurd (no_tokens h.names.spelled.tokens h.names.spelled.lexed.tokenizes);
   });
-  refused = λ h. no_tokens h.spelled.tokens h.spelled.lexed.tokenizes;
+  refused = λ h. no_tokens h.names.spelled.tokens h.names.spelled.lexed.tokenizes;
 }
+
+-- what a file spells, and that no name is at fault, is so by its tokens
+module _ (file : List ℕ) (tokens : List Token) (are : AreTokensOf file tokens) where
+  pub spelled_by : (parsed : Parsed) → IsSpelled file parsed → SpellsFile (terminals_of file tokens) parsed
+  spelled_by parsed h = subst (λ (ts : List Token). SpellsFile (terminals_of file ts) parsed) (are.only h.tokens h.lexed.tokenizes) h.spelled
+
+  pub sound_by : (resolved : Resolved) (h : IsResolved file resolved) → HasSoundNames file tokens h.parsed
+  sound_by resolved h = subst (λ (ts : List Token). HasSoundNames file ts h.parsed) (are.only h.spelled.tokens h.spelled.lexed.tokenizes) h.sound
 
 -- what holds of each fault of a file's tokens holds of each of its faults
 module _ (file : List ℕ) (tokens : List Token) (are : AreTokensOf file tokens) (P : FileFault → Type 0) where
@@ -159,7 +181,9 @@ module _ (file : List ℕ) (tokens : List Token) (are : AreTokensOf file tokens)
     pub ends : StopsAt (terminals_of file tokens) (length tokens) → P (EndOfFile (at_byte file (length file)))
     pub passes : (kind : LimitKind) (byte place : ℕ) → BeginsAt tokens place byte → PassesLimitAt (terminals_of file tokens) kind place
         → P (Passed kind (Some (at_byte file byte)))
-    pub beyond : (parsed : Parsed) → SpellsFile (terminals_of file tokens) parsed → questions_of parsed ≡ None → P NotYet
+    pub names : (why : NameWhy) (place : ℕ) (parsed : Parsed) → SpellsFile (terminals_of file tokens) parsed → IsFirstFault (name_at file tokens) parsed why place
+        → P (Names why (at_byte file (start_of file (slice_get tokens place))))
+    pub beyond : (parsed : Parsed) → SpellsFile (terminals_of file tokens) parsed → HasSoundNames file tokens parsed → questions_of parsed ≡ None → P NotYet
 
   pub by_tokens : ByTokens → (fault : FileFault) → HasFault file fault → P fault
   by_tokens by = by_cause file P (record {
@@ -173,10 +197,10 @@ module _ (file : List ℕ) (tokens : List Token) (are : AreTokensOf file tokens)
         by.passes kind byte h.place (subst (λ (ts : List Token). BeginsAt ts h.place byte) e h.begins)
         (subst (λ (ts : List Token). PassesLimitAt (terminals_of file ts) kind h.place) e h.passes);
     long = λ h. let short = are.lexed.short in absurd (omega arith);
-    beyond = λ h. by.beyond h.parsed
-        (subst (λ (ts : List Token). SpellsFile (terminals_of file ts) h.parsed) (are.only h.spelled.tokens h.spelled.lexed.tokenizes) h.spelled.spelled) h.beyond;
+    names = λ why byte h. let e = are.only h.spelled.tokens h.spelled.lexed.tokenizes in
+        subst (λ (b : ℕ). P (Names why (at_byte file b))) h.begins
+        (subst (λ (ts : List Token). P (Names why (at_byte file (start_of file (slice_get ts h.place))))) (sym e)
+        (by.names why h.place h.parsed (spelled_by file tokens are h.parsed h.spelled)
+        (subst (λ (ts : List Token). IsFirstFault (name_at file ts) h.parsed why h.place) e h.first)));
+    beyond = λ h. by.beyond h.names.parsed (spelled_by file tokens are h.names.parsed h.names.spelled) (sound_by file tokens are h.resolved h.names) h.beyond;
   })
-
-  -- a file that is accepted is spelled by these tokens
-  pub spelled_by : (h : IsAccepted file) → SpellsFile (terminals_of file tokens) h.parsed
-  spelled_by h = subst (λ (ts : List Token). SpellsFile (terminals_of file ts) h.parsed) (are.only h.spelled.tokens h.spelled.lexed.tokenizes) h.spelled.spelled

@@ -2,21 +2,23 @@
 use Rattle.std.proofs.Common.{◌≡◌, ◌≢◌, ◌∙◌, ℕ, ◌<◌, ◌≤◌, ◌⊎◌, inl, inr, ◌↔◌, refl, sym, ap, subst, Bool, true, false, if◌then◌else◌, Option, Some, None, List, [], length, drop, arith, length-drop}
 use Rattle.std.specs.List.{list_all}
 use Rattle.std.proofs.lemmas.List.{nil_from_length}
+use Rattle.tm_base.specs.declared.ask.Ask.{Ask}
 use Rattle.tm_base.specs.declared.limit.LimitKind.TheVariants.{FileBytes}
 use Rattle.tm_io.specs.Faults.{Rose}
 use Rattle.tm_io.specs.Told.{TakesAll, TakesPast, AddsAll, AddsPrefix}
 use Rattle.tm_report.specs.FaultLines.{line_of}
 use Rattle.tm_report.specs.declared.fault.FileFault.{FileFault}
 use Rattle.tm_report.specs.declared.fault.FileFault.TheVariants.{NotUtf8, NoToken, BadNumber, OpenComment, Unexpected, EndOfFile, Passed, Names, NotYet}
-use Rattle.tm_run.specs.Examined.{IsOnlyFault}
-use Rattle.tm_run.specs.Faults.{HasTextFault, PassesLimit, status_of_fault}
+use Rattle.tm_run.specs.Examined.{AreQuestionsOf, IsOnlyFault}
+use Rattle.tm_run.specs.Faults.{HasNameFault, HasTextFault, PassesLimit, status_of_fault}
 use Rattle.tm_run.specs.Outcomes.{usage_line, IsReport, IsFileOutcome, IsOutcome, IsSettled, IsTold}
-use Rattle.tm_run.specs.Report.{is_yes, status_of}
+use Rattle.tm_run.specs.Report.{is_yes, report_of, status_of}
 use Rattle.tm_run.specs.Runs.{Finishes, Answers, Decides, Declines, Runs}
+use Rattle.tm_run.specs.Verdicts.{AreTrueVerdicts}
 use Rattle.tm_run.specs.declared.status.Status.{Status}
 use Rattle.tm_run.specs.declared.status.Status.TheVariants.{AllYes, Mixed, Usage, BadText, Limit, ReadFault, WriteFault, Memory, IllFormed}
 use Rattle.tm_run.specs.declared.verdict.Verdict.{Verdict}
-use Rattle.tm_run.proofs.FaultLemmas.{cause_limit, cause_text, limit_cause, long_only, never_ill_formed, text_cause}
+use Rattle.tm_run.proofs.FaultLemmas.{cause_limit, cause_name, cause_text, limit_cause, long_only, name_cause, text_cause}
 
 -- the statuses of reports and of faults
 report_status : (verdicts : List Verdict) → (status_of verdicts ≡ AllYes) ⊎ (status_of verdicts ≡ Mixed)
@@ -53,6 +55,27 @@ fault_decides file fault one = record {
   faulted = λ other h. sym (ap status_of_fault (one.only other h));
 }
 
+-- answers to the questions of a file decide it
+pub report_decides : (file : List ℕ) (asks : List Ask) (verdicts : List Verdict) (status : Status) (text : List ℕ) → AreQuestionsOf file asks → AreTrueVerdicts asks verdicts
+    → status ≡ status_of verdicts → text ≡ report_of verdicts → Decides file status text
+report_decides file asks verdicts status text are answered status_is text_is = record {
+  outcome = inl report;
+  accepted = λ a. report;
+  faulted = λ fault has. absurd (are.faultless fault has);
+}
+  where
+    report : IsReport file status text
+    report = record {
+      resolved = are.resolved;
+      names = are.names;
+      asks = asks;
+      questions = are.questions;
+      verdicts = verdicts;
+      answered = answered;
+      status_is = status_is;
+      text_is = text_is;
+    }
+
 -- a file with one fault is answered by its line
 pub refused : (file : List ℕ) (fault : FileFault) (written written' : Option (List ℕ)) (faults faults' : ℕ) (result : Status) → IsOnlyFault file fault
     → Declines fault written written' faults faults' result → Answers file written written' faults faults' result
@@ -84,12 +107,12 @@ module _ (file : List ℕ) (status : Status) (text : List ℕ) (d : Decides file
       by e (inl report) = absurd ((not_of_report file status text report).2 e)
       by e (inr refusal) = text_cause file refusal.fault refusal.has (sym refusal.status_is ∙ e)
 
-  decides_formed : status ≢ IllFormed
-  decides_formed e = by d.outcome
+  decides_formed : status ≡ IllFormed ↔ HasNameFault file
+  decides_formed = (λ e. by e d.outcome, λ h. let (fault, has, is) = cause_name file h in d.faulted fault has ∙ is)
     where
-      by : IsFileOutcome file status text → ⊥
-      by (inl report) = (not_of_report file status text report).3 e
-      by (inr refusal) = never_ill_formed file refusal.fault refusal.has (sym refusal.status_is ∙ e)
+      by : status ≡ IllFormed → IsFileOutcome file status text → HasNameFault file
+      by e (inl report) = absurd ((not_of_report file status text report).3 e)
+      by e (inr refusal) = name_cause file refusal.fault refusal.has (sym refusal.status_is ∙ e)
 
   decides_used : status ≢ Usage
   decides_used e = by d.outcome
@@ -119,7 +142,6 @@ module _ {W : Type 0} (words : List W) (left left' : Option (List ℕ)) (reads r
   pub record Writes (status : Status) (text : List ℕ) : Type 0 where
     pub settled : IsSettled status
     pub usage : status ≡ Usage ↔ (0 < length words)
-    pub ill_formed : status ≢ IllFormed
     pub outcome : (file : List ℕ) → IsTold words left file → IsOutcome words file status text
     pub decides : (file : List ℕ) → length words ≡ 0 → left ≡ Some file → Decides file status text
     pub unrisen : reads' ≡ reads
@@ -135,7 +157,7 @@ module _ {W : Type 0} (words : List W) (left left' : Option (List ℕ)) (reads r
         usage = λ s. w.usage;
         limit = λ file r. decides_limit file status text (w.decides file r.in_form r.told);
         bad_text = λ file r. decides_text file status text (w.decides file r.in_form r.told);
-        ill_formed = w.ill_formed;
+        ill_formed = λ file r. decides_formed file status text (w.decides file r.in_form r.told);
         read_fault = λ e. absurd (no_read e);
         read_risen = λ r. let same = w.unrisen in absurd (omega arith);
         write_fault = λ e. absurd (no_write e);
@@ -154,7 +176,7 @@ module _ {W : Type 0} (words : List W) (left left' : Option (List ℕ)) (reads r
     usage = λ s. absurd s;
     limit = λ file r. absurd r.settled;
     bad_text = λ file r. absurd r.settled;
-    ill_formed = λ e. cc;
+    ill_formed = λ file r. absurd r.settled;
     read_fault = λ e. cc;
     read_risen = λ r. let same = w.unrisen in absurd (omega arith);
     write_fault = λ e. rose;
@@ -186,7 +208,7 @@ module _ {W : Type 0} (words : List W) (left left' : Option (List ℕ)) (reads r
     usage = λ s. absurd s;
     limit = λ file r. absurd r.settled;
     bad_text = λ file r. absurd r.settled;
-    ill_formed = λ e. cc;
+    ill_formed = λ file r. absurd r.settled;
     read_fault = λ e. rose;
     read_risen = λ r. refl;
     write_fault = λ e. cc;
@@ -206,7 +228,7 @@ module _ {W : Type 0} (words : List W) (left left' : Option (List ℕ)) (reads r
     usage = λ s. absurd s;
     limit = λ file r. absurd r.settled;
     bad_text = λ file r. absurd r.settled;
-    ill_formed = λ e. cc;
+    ill_formed = λ file r. absurd r.settled;
     read_fault = λ e. cc;
     read_risen = λ r. absurd (omega arith);
     write_fault = λ e. cc;
@@ -229,7 +251,6 @@ module _ {W : Type 0} (words : List W) (left left' : Option (List ℕ)) (reads r
       (record {
         settled = tt;
         usage = (λ e. some, λ h. refl);
-        ill_formed = λ e. cc;
         outcome = λ file told. inl (some, refl, refl);
         decides = λ file none told. absurd (omega arith);
         unrisen = count;
@@ -245,7 +266,6 @@ module _ {W : Type 0} (words : List W) (left left' : Option (List ℕ)) (reads r
       (record {
         settled = tt;
         usage = (λ e. cc, λ h. absurd (omega arith));
-        ill_formed = λ e. cc;
         outcome = λ file told. by file told;
         decides = λ file none told. decided file told;
         unrisen = count;
@@ -278,7 +298,6 @@ module _ {W : Type 0} (words : List W) (left left' : Option (List ℕ)) (reads r
       (record {
         settled = settled;
         usage = (λ e. absurd (decides_used bytes status text decides e), λ h. absurd (omega arith));
-        ill_formed = decides_formed bytes status text decides;
         outcome = by;
         decides = λ file none told. decided file told;
         unrisen = count;

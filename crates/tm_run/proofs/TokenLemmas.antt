@@ -4,22 +4,28 @@ use Rattle.std.proofs.lemmas.List.{length-map}
 use Rattle.std.proofs.lemmas.List.FromFn.{length-enumerate_from}
 use Rattle.std.proofs.lemmas.Option.{slice_get_cases, slice_get_past, slice_get-get_or}
 use Rattle.tm_base.specs.declared.limit.LimitKind.{LimitKind}
+use Rattle.tm_base.specs.declared.limit.NameWhy.{NameWhy}
 use Rattle.tm_lex.specs.Lexes.{IsFault, Tokenizes}
 use Rattle.tm_lex.specs.declared.fault.LexErr.TheVariants as lex_err
 use Rattle.tm_lex.specs.declared.fault.LexWhy.{LexWhy}
 use Rattle.tm_lex.specs.declared.token.Token.{Token}
+use Rattle.tm_names.specs.Faults.{IsFirstFault}
+use Rattle.tm_names.specs.Written.{name_at}
+use Rattle.tm_names.specs.declared.fault.NameErr.TheVariants as name_err
+use Rattle.tm_names.specs.declared.resolved.Resolved.{Resolved}
 use Rattle.tm_parse.specs.Parsing.{PassesLimitAt, SpellsFile, StopsAt}
 use Rattle.tm_parse.specs.Spelling.{terminals_of}
 use Rattle.tm_parse.specs.declared.parsed.Parsed.{Parsed}
 use Rattle.tm_parse.specs.declared.parsing.ParseErr.TheVariants as parse_err
 use Rattle.tm_base.specs.declared.ask.Ask.{Ask}
 use Rattle.tm_report.specs.declared.fault.At.{At}
-use Rattle.tm_report.specs.declared.fault.FileFault.TheVariants.{Unexpected, EndOfFile, Passed, NotYet}
-use Rattle.tm_run.specs.Examined.{AreQuestionsOf, AreTokensOf, IsOnlyFault, IsParsedOf, fault_at, no_token_at}
-use Rattle.tm_run.specs.Faults.{BeginsAt, HasFault, LacksToken}
+use Rattle.tm_report.specs.declared.fault.FileFault.TheVariants.{Unexpected, EndOfFile, Passed, Names, NotYet}
+use Rattle.tm_run.specs.Examined.{AreQuestionsOf, AreTokensOf, IsOnlyFault, IsParsedOf, IsResolvedOf, fault_at, no_token_at}
+use Rattle.tm_run.specs.Faults.{BeginsAt, HasFault, LacksToken, start_of}
+use Rattle.tm_run.specs.Files.{HasSoundNames, IsAccepted}
 use Rattle.tm_run.specs.Places.{at_byte}
 use Rattle.tm_run.specs.Questions.{questions_of}
-use Rattle.tm_run.proofs.FaultLemmas.{by_tokens, lacks_only, spelled_by}
+use Rattle.tm_run.proofs.FaultLemmas.{by_tokens, lacks_only, sound_by, spelled_by}
 
 -- the lexer's fault
 pub lexer_fault : (file : List ℕ) (byte : ℕ) (why : LexWhy) → LacksToken file byte why
@@ -49,6 +55,10 @@ stopping_end file tokens place h past =
     omega (arith, length-append h.front h.rest)
 
 module _ (file : List ℕ) (tokens : List Token) (are : AreTokensOf file tokens) where
+  -- a file that is accepted is spelled by these tokens
+  accepted_by : (h : IsAccepted file) → SpellsFile (terminals_of file tokens) h.names.parsed
+  accepted_by h = spelled_by file tokens are h.names.parsed h.names.spelled
+
   has_stop : (place : ℕ) → StopsAt (terminals_of file tokens) place → HasFault file (fault_at file (slice_get tokens place))
   has_stop place stops = by (slice_get_cases tokens place).1
     where
@@ -71,9 +81,10 @@ module _ (file : List ℕ) (tokens : List Token) (are : AreTokensOf file tokens)
       stops = λ byte p begins h. at_token byte p begins (same p (faults p h));
       ends = λ h. at_end (same (length tokens) (faults (length tokens) h));
       passes = λ kind byte p begins h. absurd (neither kind p (limits kind p h));
-      beyond = λ v h e. let m = files v h in cc;
+      names = λ why p v h first. let m = files v h in cc;
+      beyond = λ v h sound e. let m = files v h in cc;
     });
-    refused = λ h. let m = files h.parsed (spelled_by file tokens are (λ fault. ⊥) h) in cc;
+    refused = λ h. let m = files h.names.parsed (accepted_by h) in cc;
   }
     where
       same : (p : ℕ) → (parse_err.At place ≡ parse_err.At p) ⊎ (parse_err.At place ≡ parse_err.Memory) → place ≡ p
@@ -103,9 +114,10 @@ module _ (file : List ℕ) (tokens : List Token) (are : AreTokensOf file tokens)
       stops = λ byte p begins h. absurd (neither p (faults p h));
       ends = λ h. absurd (neither (length tokens) (faults (length tokens) h));
       passes = λ k byte p begins h. at_token k byte p begins (limits k p h);
-      beyond = λ v h e. let m = files v h in cc;
+      names = λ why p v h first. let m = files v h in cc;
+      beyond = λ v h sound e. let m = files v h in cc;
     });
-    refused = λ h. let m = files h.parsed (spelled_by file tokens are (λ fault. ⊥) h) in cc;
+    refused = λ h. let m = files h.names.parsed (accepted_by h) in cc;
   }
     where
       neither : (p : ℕ) → (parse_err.Limit kind place ≡ parse_err.At p) ⊎ (parse_err.Limit kind place ≡ parse_err.Memory) → ⊥
@@ -136,30 +148,64 @@ module _ (file : List ℕ) (tokens : List Token) (are : AreTokensOf file tokens)
       subst (λ (at : At). IsOnlyFault file (Passed kind (Some at))) (sym here)
       (parser_limit kind place (get_or tokens place default) (slice_get-get_or tokens place default (passing_within file tokens kind place passes)) passes files faults limits)
 
-  -- what goes beyond today's questions
-  pub beyond_only : (parsed : Parsed) → IsParsedOf file tokens parsed → questions_of parsed ≡ None → IsOnlyFault file NotYet
-  beyond_only parsed is none = record {
-    has = record { parsed = parsed; spelled = record { tokens = tokens; lexed = are.lexed; spelled = is.spelled }; beyond = none };
-    only = by_tokens file tokens are (λ other. other ≡ NotYet) (record {
-      stops = λ byte p begins h. absurd (is.goes_on p h);
-      ends = λ h. absurd (is.goes_on (length tokens) h);
-      passes = λ kind byte p begins h. absurd (is.within kind p h);
-      beyond = λ v h e. refl;
-    });
-    refused = λ h. let same = is.only h.parsed (spelled_by file tokens are (λ fault. ⊥) h) in
-        let some = h.questions in let e = ap questions_of same in cc;
-  }
+  module _ (parsed : Parsed) (is : IsParsedOf file tokens parsed) where
+    -- the first name fault
+    pub name_fault : (why : NameWhy) (place : ℕ) → IsFirstFault (name_at file tokens) parsed why place
+        → ((other : NameWhy) (there : ℕ) → IsFirstFault (name_at file tokens) parsed other there
+        → (name_err.Fault why place ≡ name_err.Fault other there) ⊎ (name_err.Fault why place ≡ name_err.Memory))
+        → IsOnlyFault file (Names why (at_byte file (start_of file (slice_get tokens place))))
+    name_fault why place first faults = record {
+      has = (refl, record { parsed = parsed; spelled = record { tokens = tokens; lexed = are.lexed; spelled = is.spelled }; place = place; first = first; begins = refl });
+      only = by_tokens file tokens are (λ other. other ≡ Names why (here place)) (record {
+        stops = λ byte p begins h. absurd (is.goes_on p h);
+        ends = λ h. absurd (is.goes_on (length tokens) h);
+        passes = λ kind byte p begins h. absurd (is.within kind p h);
+        names = λ other there v h f. same other there (faults other there (subst (λ (v : Parsed). IsFirstFault (name_at file tokens) v other there) (is.only v h) f));
+        beyond = λ v h sound e. absurd (subst (λ (v : Parsed). HasSoundNames file tokens v) (is.only v h) sound why place first.fault);
+      });
+      refused = λ h. subst (λ (v : Parsed). HasSoundNames file tokens v) (is.only h.names.parsed (accepted_by h)) (sound_by file tokens are h.resolved h.names) why place first.fault;
+    }
+      where
+        here : ℕ → At
+        here place = at_byte file (start_of file (slice_get tokens place))
 
-  -- the questions of a file that goes nowhere beyond
-  pub questions_only : (parsed : Parsed) (asks : List Ask) → IsParsedOf file tokens parsed → questions_of parsed ≡ Some asks → AreQuestionsOf file asks
-  questions_only parsed asks is some = record {
-    parsed = parsed;
-    spelled = record { tokens = tokens; lexed = are.lexed; spelled = is.spelled };
-    questions = some;
-    faultless = by_tokens file tokens are (λ fault. ⊥) (record {
-      stops = λ byte p begins h. is.goes_on p h;
-      ends = λ h. is.goes_on (length tokens) h;
-      passes = λ kind byte p begins h. is.within kind p h;
-      beyond = λ v h none. let e = ap questions_of (is.only v h) in cc;
-    });
-  }
+        same : (other : NameWhy) (there : ℕ) → (name_err.Fault why place ≡ name_err.Fault other there) ⊎ (name_err.Fault why place ≡ name_err.Memory)
+            → Names other (here there) ≡ Names why (here place)
+        same other there (inl e) =
+            let why_is : other ≡ why = cc in let place_is : there ≡ place = cc in
+            ap (λ w. Names w (here there)) why_is ∙ ap (λ p. Names why (here p)) place_is
+        same other there (inr e) = cc
+
+    module _ (resolved : Resolved) (names : IsResolvedOf file tokens parsed resolved) where
+      -- what goes beyond today's questions
+      pub beyond_only : questions_of parsed ≡ None → IsOnlyFault file NotYet
+      beyond_only none = record {
+        has = record { resolved = resolved; names = record { parsed = parsed; spelled = record { tokens = tokens; lexed = are.lexed; spelled = is.spelled }; sound = names.sound; means = names.means }; beyond = none };
+        only = by_tokens file tokens are (λ other. other ≡ NotYet) (record {
+          stops = λ byte p begins h. absurd (is.goes_on p h);
+          ends = λ h. absurd (is.goes_on (length tokens) h);
+          passes = λ kind byte p begins h. absurd (is.within kind p h);
+          names = λ why p v h f. absurd (no_fault why p v h f);
+          beyond = λ v h sound e. refl;
+        });
+        refused = λ h. let same = is.only h.names.parsed (accepted_by h) in
+            let some = h.questions in let e = ap questions_of same in cc;
+      }
+        where
+          no_fault : (why : NameWhy) (p : ℕ) (v : Parsed) → SpellsFile (terminals_of file tokens) v → IsFirstFault (name_at file tokens) v why p → ⊥
+          no_fault why p v h f = names.sound why p (subst (λ (v : Parsed). IsFirstFault (name_at file tokens) v why p) (is.only v h) f).fault
+
+      -- the questions of a file that goes nowhere beyond
+      pub questions_only : (asks : List Ask) → questions_of parsed ≡ Some asks → AreQuestionsOf file asks
+      questions_only asks some = record {
+        resolved = resolved;
+        names = record { parsed = parsed; spelled = record { tokens = tokens; lexed = are.lexed; spelled = is.spelled }; sound = names.sound; means = names.means };
+        questions = some;
+        faultless = by_tokens file tokens are (λ fault. ⊥) (record {
+          stops = λ byte p begins h. is.goes_on p h;
+          ends = λ h. is.goes_on (length tokens) h;
+          passes = λ kind byte p begins h. is.within kind p h;
+          names = λ why p v h f. names.sound why p (subst (λ (v : Parsed). IsFirstFault (name_at file tokens) v why p) (is.only v h) f).fault;
+          beyond = λ v h sound none. let e = ap questions_of (is.only v h) in cc;
+        });
+      }

@@ -6,6 +6,9 @@ use Rattle.tm_lex.specs.Lexes.{IsFault, Tokenizes, IsPieceOf}
 use Rattle.tm_lex.specs.declared.fault.LexWhy.{LexWhy}
 use Rattle.tm_lex.specs.declared.fault.LexWhy.TheVariants as why
 use Rattle.tm_lex.specs.declared.token.Token.{Token}
+use Rattle.tm_names.specs.Resolutions.{resolved_of}
+use Rattle.tm_names.specs.Written.{name_at}
+use Rattle.tm_names.specs.declared.resolved.Resolved.{Resolved}
 use Rattle.tm_parse.specs.Parsing.{PassesLimitAt, SpellsFile, StopsAt}
 use Rattle.tm_parse.specs.Spelling.{terminals_of}
 use Rattle.tm_parse.specs.declared.parsed.Parsed.{Parsed}
@@ -13,7 +16,7 @@ use Rattle.tm_report.specs.declared.fault.At.{At}
 use Rattle.tm_report.specs.declared.fault.FileFault.{FileFault}
 use Rattle.tm_report.specs.declared.fault.FileFault.TheVariants as fault
 use Rattle.tm_run.specs.Faults.{HasFault}
-use Rattle.tm_run.specs.Files.{IsAccepted, IsLexed, IsSpelled}
+use Rattle.tm_run.specs.Files.{HasSoundNames, IsAccepted, IsLexed, IsResolved}
 use Rattle.tm_run.specs.Places.{at_byte}
 use Rattle.tm_run.specs.Questions.{questions_of}
 use Rattle.tm_run.specs.declared.examining.Stop.{Stop}
@@ -56,9 +59,14 @@ pub record IsParsedOf (file : List ℕ) (tokens : List Token) (parsed : Parsed) 
   pub goes_on : (place : ℕ) → StopsAt (terminals_of file tokens) place → ⊥
   pub within : (kind : LimitKind) (place : ℕ) → PassesLimitAt (terminals_of file tokens) kind place → ⊥
 
+-- what the file's names mean, where none is at fault
+pub record IsResolvedOf (file : List ℕ) (tokens : List Token) (parsed : Parsed) (resolved : Resolved) : Type 0 where
+  pub sound : HasSoundNames file tokens parsed
+  pub means : resolved ≡ resolved_of (name_at file tokens) parsed
+
 -- the file's questions, beside which it has no fault
 pub record AreQuestionsOf (file : List ℕ) (asks : List Ask) : Type 0 where
-  pub parsed : Parsed
-  pub spelled : IsSpelled file parsed
-  pub questions : questions_of parsed ≡ Some asks
+  pub resolved : Resolved
+  pub names : IsResolved file resolved
+  pub questions : questions_of names.parsed ≡ Some asks
   pub faultless : (fault : FileFault) → HasFault file fault → ⊥

@@ -1,18 +1,22 @@
 -- Why a file gets no report.
-use Rattle.std.specs.Prelude.{◌≡◌, ℕ, ◌<◌, ◌≤◌, ◌⊎◌, Some, None, List, length, slice_get, IsUtf8}
+use Rattle.std.specs.Prelude.{◌≡◌, ℕ, ◌<◌, ◌≤◌, ◌⊎◌, Option, Some, None, List, length, slice_get, IsUtf8}
 use Rattle.std.specs.Str.{IsValidUpTo}
 use Rattle.tm_base.specs.declared.limit.LimitKind.{LimitKind}
 use Rattle.tm_base.specs.declared.limit.LimitKind.TheVariants.{FileBytes}
+use Rattle.tm_base.specs.declared.limit.NameWhy.{NameWhy}
 use Rattle.tm_lex.specs.Lexes.{IsFault}
 use Rattle.tm_lex.specs.declared.fault.LexWhy.{LexWhy}
 use Rattle.tm_lex.specs.declared.fault.LexWhy.TheVariants as why
 use Rattle.tm_lex.specs.declared.token.Token.{Token}
+use Rattle.tm_names.specs.Faults.{IsFirstFault}
+use Rattle.tm_names.specs.Written.{name_at}
+use Rattle.tm_names.specs.declared.resolved.Resolved.{Resolved}
 use Rattle.tm_parse.specs.Parsing.{PassesLimitAt, StopsAt}
 use Rattle.tm_parse.specs.Spelling.{terminals_of}
 use Rattle.tm_parse.specs.declared.parsed.Parsed.{Parsed}
 use Rattle.tm_report.specs.declared.fault.FileFault.{FileFault}
 use Rattle.tm_report.specs.declared.fault.FileFault.TheVariants.{NotUtf8, NoToken, BadNumber, OpenComment, Unexpected, EndOfFile, Passed, Names, NotYet}
-use Rattle.tm_run.specs.Files.{file_bytes, IsLexed, IsSpelled}
+use Rattle.tm_run.specs.Files.{file_bytes, IsLexed, IsResolved, IsSpelled}
 use Rattle.tm_run.specs.Places.{IsPlaceIn, at_byte}
 use Rattle.tm_run.specs.Questions.{questions_of}
 use Rattle.tm_run.specs.declared.status.Status.{Status}
@@ -58,11 +62,24 @@ pub record PassesLimitAtToken (file : List ℕ) (kind : LimitKind) (byte : ℕ) 
   pub begins : BeginsAt tokens place byte
   pub passes : PassesLimitAt (terminals_of file tokens) kind place
 
--- the file is spelled, and has what isn't answered today
-pub record GoesBeyond (file : List ℕ) : Type 0 where
+-- where a token begins, and the end of the file where there is none
+abbrev pub start_of : List ℕ → Option Token → ℕ
+start_of file None = length file
+start_of file (Some token) = token.start
+
+-- the file is spelled, and its first name fault is of the kind and stands at the token that begins at the byte
+pub record HasNameFaultAt (file : List ℕ) (why : NameWhy) (byte : ℕ) : Type 0 where
   pub parsed : Parsed
   pub spelled : IsSpelled file parsed
-  pub beyond : questions_of parsed ≡ None
+  pub place : ℕ
+  pub first : IsFirstFault (name_at file spelled.tokens) parsed why place
+  pub begins : start_of file (slice_get spelled.tokens place) ≡ byte
+
+-- the file is resolved, and has what isn't answered today
+pub record GoesBeyond (file : List ℕ) : Type 0 where
+  pub resolved : Resolved
+  pub names : IsResolved file resolved
+  pub beyond : questions_of names.parsed ≡ None
 
 -- the file has the fault, at its place
 abbrev pub HasFault : List ℕ → FileFault → Type 0
@@ -74,7 +91,7 @@ HasFault file (Unexpected at) = IsPlaceIn file at × StopsAtToken file at.byte
 HasFault file (EndOfFile at) = (at ≡ at_byte file (length file)) × EndsTooSoon file
 HasFault file (Passed kind None) = (kind ≡ FileBytes) × (file_bytes < length file)
 HasFault file (Passed kind (Some at)) = IsPlaceIn file at × PassesLimitAtToken file kind at.byte
-HasFault file (Names why at) = ⊥
+HasFault file (Names why at) = IsPlaceIn file at × HasNameFaultAt file why at.byte
 HasFault file NotYet = GoesBeyond file
 
 abbrev pub status_of_fault : FileFault → Status
@@ -98,3 +115,7 @@ HasTextFault file =
 -- the file has too many bytes, or one of its tokens is the first that passes a limit
 abbrev pub PassesLimit : List ℕ → Type 0
 PassesLimit file = (file_bytes < length file) ⊎ ((kind : LimitKind) × (byte : ℕ) × PassesLimitAtToken file kind byte)
+
+-- the file is spelled, and has a name fault
+abbrev pub HasNameFault : List ℕ → Type 0
+HasNameFault file = (why : NameWhy) × (byte : ℕ) × HasNameFaultAt file why byte

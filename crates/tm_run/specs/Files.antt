@@ -1,8 +1,13 @@
--- Question files: the bytes that are UTF-8, lex, and spell a file of the grammar.
+-- Question files: the bytes that are UTF-8, lex, spell a file of the grammar, and have no name at fault.
 use Rattle.std.specs.Prelude.{◌≡◌, ℕ, ◌≤◌, Some, List, length, IsUtf8}
 use Rattle.tm_base.specs.declared.ask.Ask.{Ask}
+use Rattle.tm_base.specs.declared.limit.NameWhy.{NameWhy}
 use Rattle.tm_lex.specs.Lexes.{Tokenizes}
 use Rattle.tm_lex.specs.declared.token.Token.{Token}
+use Rattle.tm_names.specs.Faults.{IsNameFault}
+use Rattle.tm_names.specs.Resolutions.{resolved_of}
+use Rattle.tm_names.specs.Written.{name_at}
+use Rattle.tm_names.specs.declared.resolved.Resolved.{Resolved}
 use Rattle.tm_parse.specs.Parsing.{SpellsFile}
 use Rattle.tm_parse.specs.Spelling.{terminals_of}
 use Rattle.tm_parse.specs.declared.parsed.Parsed.{Parsed}
@@ -24,9 +29,20 @@ pub record IsSpelled (file : List ℕ) (parsed : Parsed) : Type 0 where
   pub lexed : IsLexed file tokens
   pub spelled : SpellsFile (terminals_of file tokens) parsed
 
--- the file is spelled, and has nothing but questions that are answered today
-pub record IsAccepted (file : List ℕ) : Type 0 where
+-- no name in what the file's tokens spell is at fault
+abbrev pub HasSoundNames : List ℕ → List Token → Parsed → Type 0
+HasSoundNames file tokens parsed = (why : NameWhy) (place : ℕ) → IsNameFault (name_at file tokens) parsed why place → ⊥
+
+-- the file is spelled, none of its names is at fault, and this is what its names mean
+pub record IsResolved (file : List ℕ) (resolved : Resolved) : Type 0 where
   pub parsed : Parsed
   pub spelled : IsSpelled file parsed
+  pub sound : HasSoundNames file spelled.tokens parsed
+  pub means : resolved ≡ resolved_of (name_at file spelled.tokens) parsed
+
+-- the file is resolved, and has nothing but questions that are answered today
+pub record IsAccepted (file : List ℕ) : Type 0 where
+  pub resolved : Resolved
+  pub names : IsResolved file resolved
   pub asks : List Ask
-  pub questions : questions_of parsed ≡ Some asks
+  pub questions : questions_of names.parsed ≡ Some asks

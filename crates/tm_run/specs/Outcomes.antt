@@ -2,11 +2,11 @@
 use Rattle.std.specs.Prelude.{◌≡◌, ℕ, ◌<◌, ◌⊎◌, Option, Some, List, ◌++◌, length, codes}
 use Rattle.tm_base.specs.declared.ask.Ask.{Ask}
 use Rattle.tm_io.specs.Told.{AddsAll, AddsPrefix}
-use Rattle.tm_parse.specs.declared.parsed.Parsed.{Parsed}
+use Rattle.tm_names.specs.declared.resolved.Resolved.{Resolved}
 use Rattle.tm_report.specs.FaultLines.{line_of}
 use Rattle.tm_report.specs.declared.fault.FileFault.{FileFault}
 use Rattle.tm_run.specs.Faults.{HasFault, status_of_fault}
-use Rattle.tm_run.specs.Files.{IsSpelled}
+use Rattle.tm_run.specs.Files.{IsResolved}
 use Rattle.tm_run.specs.Questions.{questions_of}
 use Rattle.tm_run.specs.Report.{line_end, report_of, status_of}
 use Rattle.tm_run.specs.Verdicts.{AreTrueVerdicts}
@@ -17,14 +17,14 @@ use Rattle.tm_run.specs.declared.verdict.Verdict.{Verdict}
 abbrev pub usage_line : List ℕ
 usage_line = codes "usage: transmute_report" ++ line_end
 
--- The headline: the file is spelled and has nothing but these questions; each is answered yes exactly where
+-- The headline: the file is resolved and has nothing but these questions; each is answered yes exactly where
 -- every valid word of its source, fitted, is a valid word of its target; and the text is the report on these
 -- answers.
 pub record IsReport (file : List ℕ) (status : Status) (text : List ℕ) : Type 0 where
-  pub parsed : Parsed
-  pub spelled : IsSpelled file parsed
+  pub resolved : Resolved
+  pub names : IsResolved file resolved
   pub asks : List Ask
-  pub questions : questions_of parsed ≡ Some asks
+  pub questions : questions_of names.parsed ≡ Some asks
   pub verdicts : List Verdict
   pub answered : AreTrueVerdicts asks verdicts
   pub status_is : status ≡ status_of verdicts

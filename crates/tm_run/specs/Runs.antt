@@ -4,7 +4,7 @@ use Rattle.tm_io.specs.Faults.{Rose}
 use Rattle.tm_io.specs.Told.{AddsAll, AddsPrefix}
 use Rattle.tm_report.specs.FaultLines.{line_of}
 use Rattle.tm_report.specs.declared.fault.FileFault.{FileFault}
-use Rattle.tm_run.specs.Faults.{HasFault, HasTextFault, PassesLimit, status_of_fault}
+use Rattle.tm_run.specs.Faults.{HasFault, HasNameFault, HasTextFault, PassesLimit, status_of_fault}
 use Rattle.tm_run.specs.Files.{IsAccepted}
 use Rattle.tm_run.specs.Outcomes.{IsFileOutcome, IsReport, IsSettled, IsTold, IsRead, WritesOutcome, WritesPrefix, WritesReport}
 use Rattle.tm_run.specs.declared.status.Status.{Status}
@@ -45,7 +45,7 @@ module _ {W : Type 0} (words : List W) (left left' : Option (List ℕ)) (reads r
     pub usage : IsSettled status → (status ≡ Usage ↔ (0 < length words))
     pub limit : (file : List ℕ) → IsRead words left file status → (status ≡ Limit ↔ PassesLimit file)
     pub bad_text : (file : List ℕ) → IsRead words left file status → (status ≡ BadText ↔ HasTextFault file)
-    pub ill_formed : status ≢ IllFormed
+    pub ill_formed : (file : List ℕ) → IsRead words left file status → (status ≡ IllFormed ↔ HasNameFault file)
     pub read_fault : status ≡ ReadFault → Rose reads reads'
     pub read_risen : reads < reads' → status ≡ ReadFault
     pub write_fault : status ≡ WriteFault → Rose writes writes'

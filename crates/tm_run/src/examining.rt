@@ -1,5 +1,7 @@
 ghost use Rattle.std.specs.Prelude.{◌≡◌, ◌≤◌, IfOk, IfErr, length, slice_get};
-ghost use Rattle.tm_run.specs.Examined.{AreQuestionsOf, AreTokensOf, IsParsedOf, IsStop, fault_at, no_token_at};
+ghost use Rattle.tm_run.specs.Examined.{AreQuestionsOf, AreTokensOf, IsParsedOf, IsResolvedOf, IsStop, fault_at, no_token_at};
+ghost use Rattle.tm_run.specs.Faults.{start_of};
+ghost use Rattle.tm_run.specs.Places.{at_byte};
 ghost use Rattle.tm_run.specs.declared.examining.Stop.TheVariants as stop_is;
 
 use crate::places::at;
@@ -8,6 +10,7 @@ use std::alloc::{AllocError, Global};
 use std::str;
 use tm_base::{Ask, List, Memory};
 use tm_lex::{LexErr, LexWhy, Token, lex};
+use tm_names::{NameErr, Resolved, check};
 use tm_parse::{ParseErr, Parsed, parse};
 use tm_report::{At, FileFault};
 
@@ -73,16 +76,30 @@ fn tokens(alloc: Global, text: &str) -> Result<Vec<Token>, Stop>
     }
 }
 
+/// The place where a token of a text begins, or the end of the text where there is none.
+fn start(text: &str, tokens: &[Token], place: usize) -> At
+    requires short { length text.now ≤ 1048576 }
+    requires tokens { AreTokensOf text.now tokens.now }
+    ensures { result ≡ at_byte text.now (start_of text.now (slice_get tokens.now place)) }
+{
+    let bytes = text.as_bytes();
+    match tokens.get(place) {
+        Some(token) => at(bytes, token.start as usize),
+        None => at(bytes, bytes.len()),
+    }
+}
+
 /// The fault of a text whose tokens stop at a place in their list, or at its end.
 fn fault(text: &str, tokens: &[Token], place: usize) -> FileFault
     requires short { length text.now ≤ 1048576 }
     requires tokens { AreTokensOf text.now tokens.now }
     ensures { result ≡ fault_at text.now (slice_get tokens.now place) }
 {
-    let bytes = text.as_bytes();
-    match tokens.get(place) {
-        Some(token) => FileFault::Unexpected(at(bytes, token.start as usize)),
-        None => FileFault::EndOfFile(at(bytes, bytes.len())),
+    let at = start(text, tokens, place);
+    if place < tokens.len() {
+        FileFault::Unexpected(at)
+    } else {
+        FileFault::EndOfFile(at)
     }
 }
 
@@ -105,6 +122,23 @@ fn parsed(alloc: Global, text: &str, tokens: &[Token]) -> Result<Parsed, Stop>
     }
 }
 
+/// What the names of a text mean.
+fn resolved(alloc: Global, text: &str, tokens: &[Token], parsed: &Parsed) -> Result<Resolved, Stop>
+    requires short { length text.now ≤ 1048576 }
+    requires parsed { IsParsedOf text.now tokens.now parsed.now }
+    ensures resolved { IfOk result (IsResolvedOf text.now tokens.now parsed.now) }
+    ensures stop { IfErr result (IsStop text.now) }
+{
+    match check(alloc, text, tokens, parsed) {
+        Ok(resolved) => Ok(resolved),
+        Err(NameErr::Fault(why, place)) => {
+            let names = FileFault::Names(why, start(text, tokens, place as usize));
+            Err(Stop::Fault(names))
+        }
+        Err(NameErr::Memory) => Err(Stop::Memory),
+    }
+}
+
 /// The questions of a text.
 fn asks(alloc: Global, text: &str) -> Result<List<Ask>, Stop>
     requires { length text.now ≤ 1048576 }
@@ -113,6 +147,7 @@ fn asks(alloc: Global, text: &str) -> Result<List<Ask>, Stop>
 {
     let tokens = tokens(alloc, text)?;
     let parsed = parsed(alloc, text, &tokens)?;
+    let _resolved = resolved(alloc, text, &tokens, &parsed)?;
     match questions(alloc, &parsed)? {
         Some(asks) => Ok(asks),
         None => Err(Stop::Fault(FileFault::NotYet)),

@@ -2,7 +2,7 @@ ghost use Rattle.std.specs.Prelude.{◌≡◌, ◌≢◌, ℕ, ◌<◌, ◌≤�
 ghost use Rattle.tm_io.specs.Faults.{Rose};
 ghost use Rattle.tm_io.specs.Told.{AddsAll};
 ghost use Rattle.tm_run.specs.Examined.{IsStop};
-ghost use Rattle.tm_run.specs.Faults.{HasTextFault, PassesLimit};
+ghost use Rattle.tm_run.specs.Faults.{HasNameFault, HasTextFault, PassesLimit};
 ghost use Rattle.tm_run.specs.Files.{IsAccepted};
 ghost use Rattle.tm_run.specs.Outcomes.{IsSettled, IsTold, IsRead, WritesOutcome, WritesPrefix, WritesReport};
 ghost use Rattle.tm_run.specs.Runs.{Answers, Decides, Declines, Finishes, Runs};
@@ -44,7 +44,7 @@ pub fn run<S: Source, K: Sink>(alloc: Global, words: &[String], src: &mut S, out
     ensures usage { IsSettled result → (result ≡ Status.Usage ↔ (0 < length words.now)) }
     ensures limit { (file : List ℕ) → IsRead words.now (S.left src.old) file result → (result ≡ Status.Limit ↔ PassesLimit file) }
     ensures bad_text { (file : List ℕ) → IsRead words.now (S.left src.old) file result → (result ≡ Status.BadText ↔ HasTextFault file) }
-    ensures ill_formed { result ≢ Status.IllFormed }
+    ensures ill_formed { (file : List ℕ) → IsRead words.now (S.left src.old) file result → (result ≡ Status.IllFormed ↔ HasNameFault file) }
     ensures read_fault { result ≡ Status.ReadFault → Rose (S.faults src.old) (S.faults src.new) }
     ensures read_risen { S.faults src.old < S.faults src.new → result ≡ Status.ReadFault }
     ensures write_fault { result ≡ Status.WriteFault → Rose (K.faults out.old) (K.faults out.new) }

@@ -1,0 +1,25 @@
+use Rattle.std.proofs.Common.{◌≡◌, ℕ, ◌⊎◌, sym, subst}
+use Rattle.tm_base.specs.declared.limit.NameWhy.{NameWhy}
+use Rattle.tm_names.specs.Checked.{HasCause}
+use Rattle.tm_names.specs.Faults.{IsFirstFault}
+use Rattle.tm_names.specs.Written.{name_at}
+use Rattle.tm_names.specs.declared.fault.NameErr.{NameErr}
+use Rattle.tm_names.specs.declared.fault.NameErr.TheVariants.{Fault, Memory}
+use Rattle.tm_report.specs.declared.fault.At.{At}
+use Rattle.tm_report.specs.declared.fault.FileFault.TheVariants.{Names}
+use Rattle.tm_run.specs.Examined.{IsOnlyFault}
+use Rattle.tm_run.proofs.TokenLemmas.{name_fault}
+use Rattle.tm_run.proofs.examining.resolved.Goals as goal
+
+pub returns-in-Err-Fault-clause-stop : goal.returns-in-Err-Fault-clause-stop
+returns-in-Err-Fault-clause-stop c =
+    let text = c.args.text.now in
+    let tokens = c.args.tokens.now in
+    let parsed = c.args.parsed.now in
+    let name = name_at text tokens in
+    let why = c.in-Err-Fault.why in
+    let is = c.in-Err-Fault.field-0-is in
+    let first = subst (λ (err : NameErr). HasCause name parsed err) is c.in-Err-Fault.ensures.cause in
+    let faults = subst (λ (err : NameErr). (w : NameWhy) (p : ℕ) → IsFirstFault name parsed w p → (err ≡ Fault w p) ⊎ (err ≡ Memory)) is c.in-Err-Fault.ensures.faults in
+    subst (λ (at : At). IsOnlyFault text (Names why at)) (sym c.start.ensures)
+    (name_fault text tokens c.requires.parsed.tokens_are parsed c.requires.parsed why c.in-Err-Fault.place first faults)
