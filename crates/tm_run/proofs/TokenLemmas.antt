@@ -161,9 +161,9 @@ module _ (file : List ℕ) (tokens : List Token) (are : AreTokensOf file tokens)
         ends = λ h. absurd (is.goes_on (length tokens) h);
         passes = λ kind byte p begins h. absurd (is.within kind p h);
         names = λ other there v h f. same other there (faults other there (subst (λ (v : Parsed). IsFirstFault (name_at file tokens) v other there) (is.only v h) f));
-        beyond = λ v h sound e. absurd (subst (λ (v : Parsed). HasSoundNames file tokens v) (is.only v h) sound why place first.fault);
+        beyond = λ v h sound e. absurd ((subst (λ (v : Parsed). HasSoundNames file tokens v) (is.only v h) sound).none why place first.fault);
       });
-      refused = λ h. subst (λ (v : Parsed). HasSoundNames file tokens v) (is.only h.names.parsed (accepted_by h)) (sound_by file tokens are h.resolved h.names) why place first.fault;
+      refused = λ h. (subst (λ (v : Parsed). HasSoundNames file tokens v) (is.only h.names.parsed (accepted_by h)) (sound_by file tokens are h.resolved h.names)).none why place first.fault;
     }
       where
         here : ℕ → At
@@ -193,7 +193,7 @@ module _ (file : List ℕ) (tokens : List Token) (are : AreTokensOf file tokens)
       }
         where
           no_fault : (why : NameWhy) (p : ℕ) (v : Parsed) → SpellsFile (terminals_of file tokens) v → IsFirstFault (name_at file tokens) v why p → ⊥
-          no_fault why p v h f = names.sound why p (subst (λ (v : Parsed). IsFirstFault (name_at file tokens) v why p) (is.only v h) f).fault
+          no_fault why p v h f = names.sound.none why p (subst (λ (v : Parsed). IsFirstFault (name_at file tokens) v why p) (is.only v h) f).fault
 
       -- the questions of a file that goes nowhere beyond
       pub questions_only : (asks : List Ask) → questions_of parsed ≡ Some asks → AreQuestionsOf file asks
@@ -205,7 +205,7 @@ module _ (file : List ℕ) (tokens : List Token) (are : AreTokensOf file tokens)
           stops = λ byte p begins h. is.goes_on p h;
           ends = λ h. is.goes_on (length tokens) h;
           passes = λ kind byte p begins h. is.within kind p h;
-          names = λ why p v h f. names.sound why p (subst (λ (v : Parsed). IsFirstFault (name_at file tokens) v why p) (is.only v h) f).fault;
+          names = λ why p v h f. names.sound.none why p (subst (λ (v : Parsed). IsFirstFault (name_at file tokens) v why p) (is.only v h) f).fault;
           beyond = λ v h sound none. let e = ap questions_of (is.only v h) in cc;
         });
       }

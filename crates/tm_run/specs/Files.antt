@@ -1,10 +1,9 @@
 -- Question files: the bytes that are UTF-8, lex, spell a file of the grammar, and have no name at fault.
 use Rattle.std.specs.Prelude.{◌≡◌, ℕ, ◌≤◌, Some, List, length, IsUtf8}
 use Rattle.tm_base.specs.declared.ask.Ask.{Ask}
-use Rattle.tm_base.specs.declared.limit.NameWhy.{NameWhy}
 use Rattle.tm_lex.specs.Lexes.{Tokenizes}
 use Rattle.tm_lex.specs.declared.token.Token.{Token}
-use Rattle.tm_names.specs.Faults.{IsNameFault}
+use Rattle.tm_names.specs.Faults.{HasNoFault}
 use Rattle.tm_names.specs.Resolutions.{resolved_of}
 use Rattle.tm_names.specs.Written.{name_at}
 use Rattle.tm_names.specs.declared.resolved.Resolved.{Resolved}
@@ -31,7 +30,7 @@ pub record IsSpelled (file : List ℕ) (parsed : Parsed) : Type 0 where
 
 -- no name in what the file's tokens spell is at fault
 abbrev pub HasSoundNames : List ℕ → List Token → Parsed → Type 0
-HasSoundNames file tokens parsed = (why : NameWhy) (place : ℕ) → IsNameFault (name_at file tokens) parsed why place → ⊥
+HasSoundNames file tokens parsed = HasNoFault (name_at file tokens) parsed
 
 -- the file is spelled, none of its names is at fault, and this is what its names mean
 pub record IsResolved (file : List ℕ) (resolved : Resolved) : Type 0 where

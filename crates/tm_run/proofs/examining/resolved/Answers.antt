@@ -1,6 +1,6 @@
 use Rattle.std.proofs.Common.{◌≡◌, ℕ, ◌⊎◌, sym, subst}
 use Rattle.tm_base.specs.declared.limit.NameWhy.{NameWhy}
-use Rattle.tm_names.specs.Checked.{HasCause}
+use Rattle.tm_names.specs.Checking.{HasCause}
 use Rattle.tm_names.specs.Faults.{IsFirstFault}
 use Rattle.tm_names.specs.Written.{name_at}
 use Rattle.tm_names.specs.declared.fault.NameErr.{NameErr}
@@ -19,7 +19,7 @@ returns-in-Err-Fault-clause-stop c =
     let name = name_at text tokens in
     let why = c.in-Err-Fault.why in
     let is = c.in-Err-Fault.field-0-is in
-    let first = subst (λ (err : NameErr). HasCause name parsed err) is c.in-Err-Fault.ensures.cause in
+    let first = subst (λ (err : NameErr). HasCause name parsed err) is c.in-Err-Fault.ensures.fault in
     let faults = subst (λ (err : NameErr). (w : NameWhy) (p : ℕ) → IsFirstFault name parsed w p → (err ≡ Fault w p) ⊎ (err ≡ Memory)) is c.in-Err-Fault.ensures.faults in
     subst (λ (at : At). IsOnlyFault text (Names why at)) (sym c.start.ensures)
     (name_fault text tokens c.requires.parsed.tokens_are parsed c.requires.parsed why c.in-Err-Fault.place first faults)
