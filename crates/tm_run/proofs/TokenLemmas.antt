@@ -2,7 +2,7 @@
 use Rattle.std.proofs.Common.{◌≡◌, ◌∙◌, ℕ, ◌<◌, ◌≤◌, ◌⊎◌, inl, inr, refl, sym, ap, subst, Some, None, Option, List, ◌∷◌, length, arith, slice_get, get_or, length-append}
 use Rattle.std.proofs.lemmas.List.{length-map}
 use Rattle.std.proofs.lemmas.List.FromFn.{length-enumerate_from}
-use Rattle.std.proofs.lemmas.Option.{slice_get_cases, slice_get_past, slice_get-get_or}
+use Rattle.std.proofs.lemmas.Option.{slice_get_cases, slice_get_past}
 use Rattle.tm_base.specs.declared.limit.LimitKind.{LimitKind}
 use Rattle.tm_base.specs.declared.limit.NameWhy.{NameWhy}
 use Rattle.tm_lex.specs.Lexes.{IsFault, Tokenizes}
@@ -59,6 +59,18 @@ module _ (file : List ℕ) (tokens : List Token) (are : AreTokensOf file tokens)
   accepted_by : (h : IsAccepted file) → SpellsFile (terminals_of file tokens) h.names.parsed
   accepted_by h = spelled_by file tokens are h.names.parsed h.names.spelled
 
+  -- a token begins at its start
+  begins_at : (place byte : ℕ) → BeginsAt tokens place byte → byte ≡ start_of file (slice_get tokens place)
+  begins_at place byte begins = sym begins.start ∙ ap (start_of file) (sym begins.is)
+
+  begins_within : (place : ℕ) → place < length tokens → BeginsAt tokens place (start_of file (slice_get tokens place))
+  begins_within place within = by (slice_get_cases tokens place).1
+    where
+      by : ((token : Token) × (place < length tokens) × (slice_get tokens place ≡ Some token) × (get_or tokens place token ≡ token)) ⊎ ((length tokens ≤ place) × (slice_get tokens place ≡ None))
+          → BeginsAt tokens place (start_of file (slice_get tokens place))
+      by (inl (token, less, e, same)) = record { token = token; is = e; start = ap (start_of file) (sym e) }
+      by (inr (past, e)) = absurd (omega arith)
+
   has_stop : (place : ℕ) → StopsAt (terminals_of file tokens) place → HasFault file (fault_at file (slice_get tokens place))
   has_stop place stops = by (slice_get_cases tokens place).1
     where
@@ -103,14 +115,14 @@ module _ (file : List ℕ) (tokens : List Token) (are : AreTokensOf file tokens)
       at_end e = ap (fault_at file) (sym (slice_get_past tokens place (omega arith)))
 
   -- the parser's limit
-  pub parser_limit : (kind : LimitKind) (place : ℕ) (token : Token) → slice_get tokens place ≡ Some token → PassesLimitAt (terminals_of file tokens) kind place
+  pub parser_limit : (kind : LimitKind) (place : ℕ) → PassesLimitAt (terminals_of file tokens) kind place
       → ((v : Parsed) → SpellsFile (terminals_of file tokens) v → parse_err.Limit kind place ≡ parse_err.Memory)
       → ((p : ℕ) → StopsAt (terminals_of file tokens) p → (parse_err.Limit kind place ≡ parse_err.At p) ⊎ (parse_err.Limit kind place ≡ parse_err.Memory))
       → ((k : LimitKind) (p : ℕ) → PassesLimitAt (terminals_of file tokens) k p → (parse_err.Limit kind place ≡ parse_err.Limit k p) ⊎ (parse_err.Limit kind place ≡ parse_err.Memory))
-      → IsOnlyFault file (Passed kind (Some (at_byte file token.start)))
-  parser_limit kind place token is passes files faults limits = record {
-    has = (refl, record { tokens = tokens; lexed = are.lexed; place = place; begins = record { token = token; is = is; start = refl }; passes = passes });
-    only = by_tokens file tokens are (λ other. other ≡ Passed kind (Some (at_byte file token.start))) (record {
+      → IsOnlyFault file (Passed kind (Some (at_byte file (start_of file (slice_get tokens place)))))
+  parser_limit kind place passes files faults limits = record {
+    has = (refl, record { tokens = tokens; lexed = are.lexed; place = place; begins = begins_within place (passing_within file tokens kind place passes); passes = passes });
+    only = by_tokens file tokens are (λ other. other ≡ Passed kind (Some (here place))) (record {
       stops = λ byte p begins h. absurd (neither p (faults p h));
       ends = λ h. absurd (neither (length tokens) (faults (length tokens) h));
       passes = λ k byte p begins h. at_token k byte p begins (limits k p h);
@@ -120,33 +132,19 @@ module _ (file : List ℕ) (tokens : List Token) (are : AreTokensOf file tokens)
     refused = λ h. let m = files h.names.parsed (accepted_by h) in cc;
   }
     where
+      here : ℕ → At
+      here p = at_byte file (start_of file (slice_get tokens p))
+
       neither : (p : ℕ) → (parse_err.Limit kind place ≡ parse_err.At p) ⊎ (parse_err.Limit kind place ≡ parse_err.Memory) → ⊥
       neither p (inl e) = cc
       neither p (inr e) = cc
 
-      one : (byte p : ℕ) → BeginsAt tokens p byte → place ≡ p → byte ≡ token.start
-      one byte p begins e =
-          let t : Some begins.token ≡ Some token = sym begins.is ∙ ap (slice_get tokens) (sym e) ∙ is in
-          let same : begins.token ≡ token = cc in sym begins.start ∙ ap (λ t. t.start) same
-
       at_token : (k : LimitKind) (byte p : ℕ) → BeginsAt tokens p byte → (parse_err.Limit kind place ≡ parse_err.Limit k p) ⊎ (parse_err.Limit kind place ≡ parse_err.Memory)
-          → Passed k (Some (at_byte file byte)) ≡ Passed kind (Some (at_byte file token.start))
+          → Passed k (Some (at_byte file byte)) ≡ Passed kind (Some (here place))
       at_token k byte p begins (inl e) =
-          let place_is : place ≡ p = cc in let kind_is : k ≡ kind = cc in
-          ap (λ x. Passed x (Some (at_byte file byte))) kind_is ∙ ap (λ b. Passed kind (Some (at_byte file b))) (one byte p begins place_is)
+          let place_is : p ≡ place = cc in let kind_is : k ≡ kind = cc in
+          ap (λ x. Passed x (Some (at_byte file byte))) kind_is ∙ ap (λ b. Passed kind (Some (at_byte file b))) (begins_at p byte begins) ∙ ap (λ q. Passed kind (Some (here q))) place_is
       at_token k byte p begins (inr e) = cc
-
-  pub parser_limit_at : (kind : LimitKind) (place : ℕ) (default : Token) (bytes : List ℕ) (at : At) → bytes ≡ file → at ≡ at_byte bytes (get_or tokens place default).start
-      → PassesLimitAt (terminals_of file tokens) kind place
-      → ((v : Parsed) → SpellsFile (terminals_of file tokens) v → parse_err.Limit kind place ≡ parse_err.Memory)
-      → ((p : ℕ) → StopsAt (terminals_of file tokens) p → (parse_err.Limit kind place ≡ parse_err.At p) ⊎ (parse_err.Limit kind place ≡ parse_err.Memory))
-      → ((k : LimitKind) (p : ℕ) → PassesLimitAt (terminals_of file tokens) k p → (parse_err.Limit kind place ≡ parse_err.Limit k p) ⊎ (parse_err.Limit kind place ≡ parse_err.Memory))
-      → IsOnlyFault file (Passed kind (Some at))
-  parser_limit_at kind place default bytes at same is passes files faults limits =
-      let start = (get_or tokens place default).start in
-      let here : at ≡ at_byte file start = is ∙ ap (λ b. at_byte b start) same in
-      subst (λ (at : At). IsOnlyFault file (Passed kind (Some at))) (sym here)
-      (parser_limit kind place (get_or tokens place default) (slice_get-get_or tokens place default (passing_within file tokens kind place passes)) passes files faults limits)
 
   module _ (parsed : Parsed) (is : IsParsedOf file tokens parsed) where
     -- the first name fault

@@ -114,8 +114,7 @@ fn parsed(alloc: Global, text: &str, tokens: &[Token]) -> Result<Parsed, Stop>
         Ok(parsed) => Ok(parsed),
         Err(ParseErr::At(place)) => Err(Stop::Fault(fault(text, tokens, place as usize))),
         Err(ParseErr::Limit(kind, place)) => {
-            let start = tokens[place as usize].start as usize;
-            let passed = FileFault::Passed(kind, Some(at(text.as_bytes(), start)));
+            let passed = FileFault::Passed(kind, Some(start(text, tokens, place as usize)));
             Err(Stop::Fault(passed))
         }
         Err(ParseErr::Memory) => Err(Stop::Memory),

@@ -88,6 +88,31 @@ fn says_where_a_file_is_wrong(rt: HostRuntime) -> Result<(), Fail> {
 }
 
 #[test]
+fn says_where_a_name_is_wrong(rt: HostRuntime) -> Result<(), Fail> {
+    for (file, line) in [
+        ("ask Foo => u8;", "ill-formed unknown at byte 4, line 1\n"),
+        (
+            "#[repr(C)] struct A { pub a: A }",
+            "ill-formed infinite at byte 18, line 1\n",
+        ),
+        (
+            "ask u8 => u8;\nask u8 => Foo;",
+            "ill-formed unknown at byte 24, line 2\n",
+        ),
+        (
+            "ask char => Foo;",
+            "ill-formed unknown at byte 12, line 1\n",
+        ),
+    ] {
+        assert!(rt;
+            ends(&rt, file.as_bytes(), Status::IllFormed, line)?,
+            "{file}"
+        );
+    }
+    Ok(())
+}
+
+#[test]
 fn a_byte_outside_of_text_is_named(rt: HostRuntime) -> Result<(), Fail> {
     let line = "not utf-8 at byte 0, line 1\n";
     assert!(rt; ends(&rt, &[0xFF], Status::BadText, line)?);

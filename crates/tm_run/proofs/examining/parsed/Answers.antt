@@ -1,19 +1,16 @@
-use Rattle.std.proofs.Common.{◌≡◌, ℕ, ◌⊎◌, sym, subst}
+use Rattle.std.proofs.Common.{◌≡◌, ℕ, ◌⊎◌, Some, sym, subst}
 use Rattle.tm_base.specs.declared.limit.LimitKind.{LimitKind}
 use Rattle.tm_parse.specs.Parsing.{HasCause, PassesLimitAt, SpellsFile, StopsAt}
 use Rattle.tm_parse.specs.Spelling.{terminals_of}
 use Rattle.tm_parse.specs.declared.parsed.Parsed.{Parsed}
 use Rattle.tm_parse.specs.declared.parsing.ParseErr.{ParseErr}
-use Rattle.tm_parse.specs.declared.parsing.ParseErr.TheVariants.{At, Limit, Memory}
+use Rattle.tm_parse.specs.declared.parsing.ParseErr.TheVariants as parse_err
+use Rattle.tm_report.specs.declared.fault.At.{At}
 use Rattle.tm_report.specs.declared.fault.FileFault.{FileFault}
+use Rattle.tm_report.specs.declared.fault.FileFault.TheVariants.{Passed}
 use Rattle.tm_run.specs.Examined.{IsOnlyFault}
-use Rattle.tm_run.proofs.TokenLemmas.{parser_fault, parser_limit_at, passing_within}
+use Rattle.tm_run.proofs.TokenLemmas.{parser_fault, parser_limit}
 use Rattle.tm_run.proofs.examining.parsed.Goals as goal
-
-pub bounds-tokens-place : goal.bounds-tokens-place
-bounds-tokens-place c =
-    let cause = subst (λ (err : ParseErr). HasCause (terminals_of c.args.text.now c.args.tokens.now) err) c.in-Err-Limit.field-0-is c.in-Err-Limit.ensures.cause in
-    passing_within c.args.text.now c.args.tokens.now c.in-Err-Limit.kind c.in-Err-Limit.place cause
 
 pub returns-in-Ok-clause-parsed : goal.returns-in-Ok-clause-parsed
 returns-in-Ok-clause-parsed c = record {
@@ -30,9 +27,9 @@ returns-in-Err-At-clause-stop c =
     let terminals = terminals_of text c.args.tokens.now in
     let is = c.in-Err-At.field-0-is in
     let cause = subst (λ (err : ParseErr). HasCause terminals err) is c.in-Err-At.ensures.cause in
-    let files = subst (λ (err : ParseErr). (v : Parsed) → SpellsFile terminals v → err ≡ Memory) is c.in-Err-At.ensures.files in
-    let faults = subst (λ (err : ParseErr). (p : ℕ) → StopsAt terminals p → (err ≡ At p) ⊎ (err ≡ Memory)) is c.in-Err-At.ensures.faults in
-    let limits = subst (λ (err : ParseErr). (k : LimitKind) (p : ℕ) → PassesLimitAt terminals k p → (err ≡ Limit k p) ⊎ (err ≡ Memory)) is c.in-Err-At.ensures.limits in
+    let files = subst (λ (err : ParseErr). (v : Parsed) → SpellsFile terminals v → err ≡ parse_err.Memory) is c.in-Err-At.ensures.files in
+    let faults = subst (λ (err : ParseErr). (p : ℕ) → StopsAt terminals p → (err ≡ parse_err.At p) ⊎ (err ≡ parse_err.Memory)) is c.in-Err-At.ensures.faults in
+    let limits = subst (λ (err : ParseErr). (k : LimitKind) (p : ℕ) → PassesLimitAt terminals k p → (err ≡ parse_err.Limit k p) ⊎ (err ≡ parse_err.Memory)) is c.in-Err-At.ensures.limits in
     subst (λ (f : FileFault). IsOnlyFault text f) (sym c.fault.ensures)
     (parser_fault text c.args.tokens.now c.requires.tokens c.in-Err-At.place cause files faults limits)
 
@@ -45,7 +42,8 @@ returns-in-Err-Limit-clause-stop c =
     let place = c.in-Err-Limit.place in
     let is = c.in-Err-Limit.field-0-is in
     let cause = subst (λ (err : ParseErr). HasCause terminals err) is c.in-Err-Limit.ensures.cause in
-    let files = subst (λ (err : ParseErr). (v : Parsed) → SpellsFile terminals v → err ≡ Memory) is c.in-Err-Limit.ensures.files in
-    let faults = subst (λ (err : ParseErr). (p : ℕ) → StopsAt terminals p → (err ≡ At p) ⊎ (err ≡ Memory)) is c.in-Err-Limit.ensures.faults in
-    let limits = subst (λ (err : ParseErr). (k : LimitKind) (p : ℕ) → PassesLimitAt terminals k p → (err ≡ Limit k p) ⊎ (err ≡ Memory)) is c.in-Err-Limit.ensures.limits in
-    parser_limit_at text tokens c.requires.tokens kind place _ _ _ c.as_bytes.ensures.value c.at.ensures cause files faults limits
+    let files = subst (λ (err : ParseErr). (v : Parsed) → SpellsFile terminals v → err ≡ parse_err.Memory) is c.in-Err-Limit.ensures.files in
+    let faults = subst (λ (err : ParseErr). (p : ℕ) → StopsAt terminals p → (err ≡ parse_err.At p) ⊎ (err ≡ parse_err.Memory)) is c.in-Err-Limit.ensures.faults in
+    let limits = subst (λ (err : ParseErr). (k : LimitKind) (p : ℕ) → PassesLimitAt terminals k p → (err ≡ parse_err.Limit k p) ⊎ (err ≡ parse_err.Memory)) is c.in-Err-Limit.ensures.limits in
+    subst (λ (at : At). IsOnlyFault text (Passed kind (Some at))) (sym c.start.ensures)
+    (parser_limit text tokens c.requires.tokens kind place cause files faults limits)
