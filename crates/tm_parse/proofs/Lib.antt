@@ -23,6 +23,10 @@ pub mod Answering
 pub mod Prefixes
 pub mod Exactness
 pub mod Returning
+pub mod Weights
+pub mod Counters
+pub mod Least
+pub mod FileBounds
 pub mod Worked
 pub mod WorkedLimits
 mod Spans

@@ -10,5 +10,6 @@ pub mod Types
 pub mod Definitions
 pub mod Files
 pub mod Accepted
+pub mod Bounds
 pub mod Read
 pub mod Parsing

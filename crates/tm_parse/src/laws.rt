@@ -1,5 +1,6 @@
 ghost use Rattle.std.specs.Prelude.{◌≡◌, ◌↔◌, ◌++◌, ◌∷◌, [], List};
 ghost use Rattle.tm_parse.specs.Accepted.{IsAnswer, IsFaultAt, IsFile, PassesAt, SpelledBy, answer_of};
+ghost use Rattle.tm_parse.specs.Bounds.{HasFewItems};
 ghost use Rattle.tm_parse.specs.Events.{Event, terminals};
 ghost use Rattle.tm_parse.specs.Parts.{Done, Passed, Stuck};
 ghost use Rattle.tm_parse.specs.declared.counts.Counts.{Counts as CountsValue};
@@ -19,4 +20,9 @@ pub fn grammar_is_exact()
     ensures fault { (front rest : List Sign) → (answer_of (front ++ rest) ≡ Stuck rest) ↔ IsFaultAt front rest }
     ensures limit { (kind : Limit) (front : List Sign) (t : Sign) (rest : List Sign) → (answer_of (front ++ (t ∷ rest)) ≡ Passed kind (t ∷ rest)) ↔ PassesAt kind front t }
     ensures every { (ts : List Sign) → IsAnswer ts (answer_of ts) }
+{}
+
+/// What each file keeps that is spelled within the limits.
+pub fn files_keep_limits()
+    ensures items { (v : File) (ts : List Sign) (after : CountsValue) → IsFile v ts after → HasFewItems v }
 {}
