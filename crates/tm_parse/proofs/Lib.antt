@@ -27,6 +27,9 @@ pub mod Weights
 pub mod Counters
 pub mod Least
 pub mod FileBounds
+pub mod Keeping
+pub mod FileKeeping
+pub mod VariantBounds
 pub mod Worked
 pub mod WorkedLimits
 mod Spans

@@ -1,7 +1,13 @@
 -- What every file keeps that is spelled within the limits.
-use Rattle.std.specs.Prelude.{◌≤◌, length}
+use Rattle.std.specs.Prelude.{◌≡◌, ℕ, ◌≤◌, ◌<◌, IsSome, List, length, All}
+use Rattle.tm_base.specs.declared.definition.Kind.{Kind}
+use Rattle.tm_base.specs.declared.definition.Kind.TheVariants as kind
 use Rattle.tm_base.specs.declared.limit.LimitKind.TheVariants as limit
+use Rattle.tm_parse.specs.Definitions.{single}
 use Rattle.tm_parse.specs.Limits.{most}
+use Rattle.tm_parse.specs.declared.parsed.Decl.{Decl}
+use Rattle.tm_parse.specs.declared.parsed.DeclField.{DeclField}
+use Rattle.tm_parse.specs.declared.parsed.DeclVariant.{DeclVariant}
 use Rattle.tm_parse.specs.declared.parsed.Parsed.{Parsed}
 
 -- there are no more items of each sort than the limits allow
@@ -9,3 +15,13 @@ pub record HasFewItems (file : Parsed) : Type 0 where
   pub lifetimes : length file.lifetimes ≤ most limit.Lifetimes
   pub definitions : length file.decls ≤ most limit.Definitions
   pub questions : length file.questions ≤ most limit.Questions
+
+-- The variants that a definition of the kind may have: a struct is one variant, with neither name nor
+-- written discriminant; so is a union, which has a field; each variant of an enum has a name.
+abbrev pub AreVariantsOf : Kind → List DeclVariant → Type 0
+AreVariantsOf kind.Struct variants = (fields : List DeclField) × (variants ≡ single fields)
+AreVariantsOf kind.Union variants = (fields : List DeclField) × (variants ≡ single fields) × (0 < length fields)
+AreVariantsOf kind.Enum variants = All (λ v. IsSome v.name) variants
+
+pub record HasItsVariants (definition : Decl) : Type 0 where
+  pub variants : AreVariantsOf definition.kind definition.variants

@@ -1,5 +1,10 @@
 use Rattle.tm_parse.proofs.FileBounds.{has_few_items}
+use Rattle.tm_parse.proofs.FileKeeping.{kept_definitions}
+use Rattle.tm_parse.proofs.VariantBounds.{definition_variants}
 use Rattle.tm_parse.proofs.laws.files_keep_limits.Goals as goal
 
-pub returns : goal.returns
-returns c = record { items = has_few_items }
+pub returns-clause-items : goal.returns-clause-items
+returns-clause-items c = has_few_items
+
+pub returns-clause-variants : goal.returns-clause-variants
+returns-clause-variants c = kept_definitions _ (definition_variants _)
