@@ -19,6 +19,18 @@ abbrev pub lifetimes : Mark → ℕ
 lifetimes a_lifetime = 1
 lifetimes m = 0
 
+abbrev pub parameters : Mark → ℕ
+parameters a_parameter = 1
+parameters m = 0
+
+abbrev pub fields : Mark → ℕ
+fields a_field = 1
+fields m = 0
+
+abbrev pub variants : Mark → ℕ
+variants a_variant = 1
+variants m = 0
+
 abbrev pub never : Mark → ℕ
 never m = 0
 
@@ -83,4 +95,67 @@ lifetime_counter = record { adds = adds; holds = holds }
     holds c a_parameter r h l = l
     holds c a_field r h l = l
     holds c a_variant r h l = l
+    holds c (a_type depth) r h l = l
+
+pub parameter_counter : Counter limit.Parameters (λ n. n.parameters) parameters definitions
+parameter_counter = record { adds = adds; holds = holds }
+  where
+    adds : (c : Counts) (m : Mark) → definitions m ≡ 0 → (marked c m).parameters ≡ c.parameters + parameters m
+    adds c a_definition r = absurd (omega (arith, r))
+    adds c a_question r = omega arith
+    adds c a_lifetime r = omega arith
+    adds c a_parameter r = refl
+    adds c a_field r = omega arith
+    adds c a_variant r = omega arith
+    adds c (a_type depth) r = omega arith
+
+    holds : (c : Counts) (m : Mark) → definitions m ≡ 0 → Holds (marked c m) m → c.parameters ≤ 4 → (marked c m).parameters ≤ 4
+    holds c a_definition r h l = absurd (omega (arith, r))
+    holds c a_question r h l = l
+    holds c a_lifetime r h l = l
+    holds c a_parameter r h l = h
+    holds c a_field r h l = l
+    holds c a_variant r h l = l
+    holds c (a_type depth) r h l = l
+
+pub field_counter : Counter limit.Fields (λ n. n.fields) fields definitions
+field_counter = record { adds = adds; holds = holds }
+  where
+    adds : (c : Counts) (m : Mark) → definitions m ≡ 0 → (marked c m).fields ≡ c.fields + fields m
+    adds c a_definition r = absurd (omega (arith, r))
+    adds c a_question r = omega arith
+    adds c a_lifetime r = omega arith
+    adds c a_parameter r = omega arith
+    adds c a_field r = refl
+    adds c a_variant r = omega arith
+    adds c (a_type depth) r = omega arith
+
+    holds : (c : Counts) (m : Mark) → definitions m ≡ 0 → Holds (marked c m) m → c.fields ≤ 256 → (marked c m).fields ≤ 256
+    holds c a_definition r h l = absurd (omega (arith, r))
+    holds c a_question r h l = l
+    holds c a_lifetime r h l = l
+    holds c a_parameter r h l = l
+    holds c a_field r h l = h
+    holds c a_variant r h l = l
+    holds c (a_type depth) r h l = l
+
+pub variant_counter : Counter limit.Variants (λ n. n.variants) variants definitions
+variant_counter = record { adds = adds; holds = holds }
+  where
+    adds : (c : Counts) (m : Mark) → definitions m ≡ 0 → (marked c m).variants ≡ c.variants + variants m
+    adds c a_definition r = absurd (omega (arith, r))
+    adds c a_question r = omega arith
+    adds c a_lifetime r = omega arith
+    adds c a_parameter r = omega arith
+    adds c a_field r = omega arith
+    adds c a_variant r = refl
+    adds c (a_type depth) r = omega arith
+
+    holds : (c : Counts) (m : Mark) → definitions m ≡ 0 → Holds (marked c m) m → c.variants ≤ 256 → (marked c m).variants ≤ 256
+    holds c a_definition r h l = absurd (omega (arith, r))
+    holds c a_question r h l = l
+    holds c a_lifetime r h l = l
+    holds c a_parameter r h l = l
+    holds c a_field r h l = l
+    holds c a_variant r h l = h
     holds c (a_type depth) r h l = l

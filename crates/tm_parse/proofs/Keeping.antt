@@ -2,12 +2,12 @@
 -- are counted within the limits, from some counts on, and each terminal is as it is asked.
 use Rattle.std.proofs.Common.{◌≡◌, ◌⊎◌, refl, sym, ap, ◌∙◌, subst, Bool, true, false, Option, Some, None, IfSome, List, [], ◌∷◌, ◌++◌, All, inl, inr}
 use Rattle.std.proofs.lemmas.List.Elements.{All-nil, All-cons, All-head, All-tail}
-use Rattle.tm_parse.proofs.Least.{Spells}
+use Rattle.tm_parse.proofs.Least.{Spells, WithComma, MayBe, AndOthers}
 use Rattle.tm_parse.specs.Classes.{among}
 use Rattle.tm_parse.specs.Combinators.{Others, Repeats}
 use Rattle.tm_parse.specs.Events.{Mark, Role, Event, terminal, mark, terminals}
 use Rattle.tm_parse.specs.Limits.{Step, Fine, Passes, step, Within, counted, count}
-use Rattle.tm_parse.specs.Shapes.{the, optional, is_there, and_others}
+use Rattle.tm_parse.specs.Shapes.{and_others}
 use Rattle.tm_parse.specs.declared.class.Class.{Class}
 use Rattle.tm_parse.specs.declared.class.Class.TheVariants as c
 use Rattle.tm_parse.specs.declared.counts.Counts.{Counts}
@@ -51,10 +51,6 @@ module _ {Is : Terminal → Type 0} where
       let counts = count-parts h.before h.after f g (subst (λ e. count h.before e ≡ Within h.after) eq h.within) in
       let each = each-parts Is f g (subst (Each Is) eq h.each) in
       (record { before = h.before; after = counts.0; within = counts.1; each = each.0 }, record { before = counts.0; after = h.after; within = counts.2; each = each.1 })
-
--- a part behind which a comma may stand
-abbrev pub WithComma : {V : Type 0} → Spells V → Spells (V × Bool)
-WithComma {V = V} P w e = (v : V × Option Terminal) × ((f : List Event) × (g : List Event) × P v.0 f × (optional (the c.Comma)).spells v.1 g × (e ≡ f ++ g)) × (w ≡ (v.0, is_there v.1))
 
 module _ (Is : Terminal → Type 0) where
   pub record Keeps {V : Type 0} (Kept : V → Type 0) (P : Spells V) : Type 0 where
@@ -106,11 +102,10 @@ module _ {Is : Terminal → Type 0} where
   pub listed_keeps : {V : Type 0} {P : Spells V} {K : V → Type 0} → Keeps Is K P → Keeps Is (All K) (Repeats (WithComma P))
   listed_keeps {K = K} x = repeat_keeps (to_keeps {L = λ w. K w.0} (seq_keeps x skipped) (λ v k. k.0)) (λ v more k. k)
 
-  pub optional_keeps : {V : Type 0} {P : Spells V} {K : V → Type 0} → Keeps Is K P → Keeps Is (λ o. IfSome o K) (λ w e. ((v : V) × P v e × (w ≡ Some v)) ⊎ ((w ≡ None) × (e ≡ [])))
+  pub optional_keeps : {V : Type 0} {P : Spells V} {K : V → Type 0} → Keeps Is K P → Keeps Is (λ o. IfSome o K) (MayBe P)
   optional_keeps {K = K} x = or_keeps (to_keeps x (λ v k. k)) (record { kept = λ w e h good. subst (λ o. IfSome o K) (sym h.0) tt })
 
-  pub listed1_keeps : {V : Type 0} {P : Spells V} {K : V → Type 0} → Keeps Is K P
-      → Keeps Is (All K) (λ w e. (v : V × Option (Terminal × List V)) × ((f : List Event) × (g : List Event) × P v.0 f × (((u : Terminal × List V) × ((a : List Event) × (b : List Event) × (the c.Comma).spells u.0 a × Repeats (WithComma P) u.1 b × (g ≡ a ++ b)) × (v.1 ≡ Some u)) ⊎ ((v.1 ≡ None) × (g ≡ []))) × (e ≡ f ++ g)) × (w ≡ and_others v))
+  pub listed1_keeps : {V : Type 0} {P : Spells V} {K : V → Type 0} → Keeps Is K P → Keeps Is (All K) (AndOthers P)
   listed1_keeps {V = V} {K = K} x = to_keeps (seq_keeps x (optional_keeps (seq_keeps skipped (listed_keeps x)))) all
     where
       all : (v : V × Option (Terminal × List V)) → K v.0 × IfSome v.1 (λ u. Unit {0} × All K u.1) → All K (and_others v)

@@ -4,8 +4,10 @@ use Rattle.tm_parse.proofs.Weights.{weigh, weigh-append}
 use Rattle.tm_parse.specs.Combinators.{◌>>◌, ◌or◌, nothing, to, counts_as, Others, Repeats, repeat}
 use Rattle.tm_parse.specs.Events.{Mark, Event, mark}
 use Rattle.tm_parse.specs.Parts.{Part}
-use Rattle.tm_parse.specs.Shapes.{optional, many, with_comma, listed, and_others, listed1, between}
-use Rattle.tm_parse.specs.declared.class.Class.{Class}
+use Rattle.tm_parse.specs.Shapes.{the, optional, is_there, and_others}
+use Rattle.tm_parse.specs.Types.{places}
+use Rattle.tm_parse.specs.declared.class.Class.TheVariants as c
+use Rattle.tm_parse.specs.declared.terminal.Terminal.{Terminal}
 
 module _ (weight : Mark → ℕ) where
   pub record AtLeast {V : Type 0} (number : V → ℕ) (P : V → List Event → Type 0) : Type 0 where
@@ -24,8 +26,24 @@ pub total-one : {V : Type 0} (vs : List V) → total (λ v. 1) vs ≡ length vs
 total-one [] = refl
 total-one (v ∷ vs) = let others = total-one vs in omega (arith, others)
 
+pub total-places : (ts : List Terminal) → length (places ts) ≡ length ts
+total-places [] = refl
+total-places (t ∷ ts) = let others = total-places ts in omega (arith, others)
+
 abbrev pub Spells : Type 0 → Type 1
 Spells V = V → List Event → Type 0
+
+-- a part behind which a comma may stand
+abbrev pub WithComma : {V : Type 0} → Spells V → Spells (V × Bool)
+WithComma {V = V} P w e = (v : V × Option Terminal) × ((f : List Event) × (g : List Event) × P v.0 f × (optional (the c.Comma)).spells v.1 g × (e ≡ f ++ g)) × (w ≡ (v.0, is_there v.1))
+
+-- what may be left out, and a list of at least one
+abbrev pub MayBe : {V : Type 0} → Spells V → Spells (Option V)
+MayBe {V = V} P w e = ((v : V) × P v e × (w ≡ Some v)) ⊎ ((w ≡ None) × (e ≡ []))
+
+abbrev pub AndOthers : {V : Type 0} → Spells V → Spells (List V)
+AndOthers {V = V} P w e = (v : V × Option (Terminal × List V)) × ((f : List Event) × (g : List Event) × P v.0 f
+    × MayBe (λ u h. (a : List Event) × (b : List Event) × (the c.Comma).spells u.0 a × Repeats (WithComma P) u.1 b × (h ≡ a ++ b)) v.1 g × (e ≡ f ++ g)) × (w ≡ and_others v)
 
 module _ {weight : Mark → ℕ} where
   pub any_least : {V : Type 0} {P : Spells V} → AtLeast weight (λ v. 0) P
@@ -64,3 +82,16 @@ module _ {weight : Mark → ℕ} where
 
   pub many_least : {V : Type 0} {P : Spells V} {n : V → ℕ} → AtLeast weight n P → AtLeast weight (total n) (Repeats (λ w e. (v : V) × P v e × (w ≡ (v, true))))
   many_least {n = n} x = repeat_least (to_least {n = λ w. n w.0} x (λ v. omega arith)) (λ v more. omega arith)
+
+  pub listed_least : {V : Type 0} {P : Spells V} {n : V → ℕ} → AtLeast weight n P → AtLeast weight (total n) (Repeats (WithComma P))
+  listed_least {n = n} x = repeat_least (to_least {n = λ w. n w.0} (seq_least x any_least) (λ v. omega arith)) (λ v more. omega arith)
+
+  pub optional_least : {V : Type 0} {P : Spells V} {n : V → ℕ} → AtLeast weight n P → AtLeast weight (total_if n) (MayBe P)
+  optional_least {n = n} x = or_least (to_least x (λ v. omega arith)) (record { least = λ v e h. let a = ap (total_if n) h.0 in omega (arith, a) })
+
+  pub listed1_least : {V : Type 0} {P : Spells V} {n : V → ℕ} → AtLeast weight n P → AtLeast weight (total n) (AndOthers P)
+  listed1_least {V = V} {n = n} x = to_least (seq_least x (optional_least (seq_least any_least (listed_least x)))) sums
+    where
+      sums : (v : V × Option (Terminal × List V)) → total n (and_others v) ≤ n v.0 + total_if (λ w. 0 + total n w.1) v.1
+      sums (v, None) = omega arith
+      sums (v, Some others) = omega arith

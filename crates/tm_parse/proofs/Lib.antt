@@ -29,6 +29,8 @@ pub mod Least
 pub mod FileBounds
 pub mod Keeping
 pub mod FileKeeping
+pub mod Without
+pub mod PartBounds
 pub mod VariantBounds
 pub mod Worked
 pub mod WorkedLimits

@@ -85,24 +85,28 @@ pub record Counter (kind : LimitKind) (of : Counts → ℕ) (weight resets : Mar
   pub adds : (c : Counts) (m : Mark) → resets m ≡ 0 → of (marked c m) ≡ of c + weight m
   pub holds : (c : Counts) (m : Mark) → resets m ≡ 0 → Holds (marked c m) m → of c ≤ most kind → of (marked c m) ≤ most kind
 
+-- the events behind the first are counted from the counts that it leaves
+behind-terminal : (c d : Counts) (role : Role) (t : Terminal) (e : List Event) → count c (terminal role t ∷ e) ≡ Within d → count c e ≡ Within d
+behind-terminal c d role t e h = go (step c (terminal role t)) refl h
+  where
+    go : (s : Step) → step c (terminal role t) ≡ s → counted s (terminal role t ∷ e) (λ y. count y e) ≡ Within d → count c e ≡ Within d
+    go (Fine b) x h = subst (λ y. count y e ≡ Within d) (sym (terminal-fine c b role t x)) h
+    go (Passes other) x h = absurd cc
+
+pub behind_mark : (c d : Counts) (m : Mark) (e : List Event) → count c (mark m ∷ e) ≡ Within d → (count (marked c m) e ≡ Within d) × Holds (marked c m) m
+behind_mark c d m e h = go (step c (mark m)) refl h
+  where
+    go : (s : Step) → step c (mark m) ≡ s → counted s (mark m ∷ e) (λ y. count y e) ≡ Within d → (count (marked c m) e ≡ Within d) × Holds (marked c m) m
+    go (Fine b) x h = let fine = mark-fine c b m x in (subst (λ y. count y e ≡ Within d) (sym fine.0) h, fine.1)
+    go (Passes other) x h = absurd cc
+
 module _ {kind : LimitKind} {of : Counts → ℕ} {weight resets : Mark → ℕ} (counter : Counter kind of weight resets) where
   pub counter_within : (c d : Counts) (e : List Event) → count c e ≡ Within d → weigh resets e ≡ 0 → of c ≤ most kind → of c + weigh weight e ≤ most kind
   counter_within c d [] h r l = omega (arith, l)
-  counter_within c d (terminal role t ∷ e) h r l = go (step c (terminal role t)) refl h (λ b x. counter_within b d e x r)
-    where
-      go : (s : Step) → step c (terminal role t) ≡ s → counted s (terminal role t ∷ e) (λ y. count y e) ≡ Within d
-          → ((b : Counts) → count b e ≡ Within d → of b ≤ most kind → of b + weigh weight e ≤ most kind) → of c + weigh weight e ≤ most kind
-      go (Fine b) x h again = again c (subst (λ y. count y e ≡ Within d) (sym (terminal-fine c b role t x)) h) l
-      go (Passes other) x h again = absurd cc
-  counter_within c d (mark m ∷ e) h r l = go (step c (mark m)) refl h (λ b x. counter_within b d e x (omega (arith, r)))
-    where
-      none : resets m ≡ 0
-      none = omega (arith, r)
-
-      go : (s : Step) → step c (mark m) ≡ s → counted s (mark m ∷ e) (λ y. count y e) ≡ Within d
-          → ((b : Counts) → count b e ≡ Within d → of b ≤ most kind → of b + weigh weight e ≤ most kind) → of c + (weight m + weigh weight e) ≤ most kind
-      go (Fine b) x h again = let fine = mark-fine c b m x in
-          let all = again (marked c m) (subst (λ y. count y e ≡ Within d) (sym fine.0) h) (counter.holds c m none fine.1 l) in
-          let more = counter.adds c m none in
-          omega (arith, all, more)
-      go (Passes other) x h again = absurd cc
+  counter_within c d (terminal role t ∷ e) h r l = counter_within c d e (behind-terminal c d role t e h) r l
+  counter_within c d (mark m ∷ e) h r l =
+      let none : resets m ≡ 0 = omega (arith, r) in
+      let behind = behind_mark c d m e h in
+      let all = counter_within (marked c m) d e behind.0 (omega (arith, r)) (counter.holds c m none behind.1 l) in
+      let more = counter.adds c m none in
+      omega (arith, all, more)

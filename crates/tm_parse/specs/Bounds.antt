@@ -1,5 +1,5 @@
 -- What every file keeps that is spelled within the limits.
-use Rattle.std.specs.Prelude.{◌≡◌, ℕ, ◌≤◌, ◌<◌, IsSome, List, length, All}
+use Rattle.std.specs.Prelude.{◌≡◌, ℕ, ◌≤◌, ◌<◌, IsSome, List, length, flat_map, All}
 use Rattle.tm_base.specs.declared.definition.Kind.{Kind}
 use Rattle.tm_base.specs.declared.definition.Kind.TheVariants as kind
 use Rattle.tm_base.specs.declared.limit.LimitKind.TheVariants as limit
@@ -25,3 +25,13 @@ AreVariantsOf kind.Enum variants = All (λ v. IsSome v.name) variants
 
 pub record HasItsVariants (definition : Decl) : Type 0 where
   pub variants : AreVariantsOf definition.kind definition.variants
+
+-- the fields of all the variants
+abbrev pub fields_of : List DeclVariant → List DeclField
+fields_of = flat_map (λ variant. variant.fields)
+
+-- there are no more parts of each sort in a definition than the limits allow
+pub record HasFewParts (definition : Decl) : Type 0 where
+  pub parameters : length definition.params ≤ most limit.Parameters
+  pub variants : length definition.variants ≤ most limit.Variants
+  pub fields : length (fields_of definition.variants) ≤ most limit.Fields

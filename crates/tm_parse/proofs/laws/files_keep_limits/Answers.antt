@@ -1,5 +1,6 @@
 use Rattle.tm_parse.proofs.FileBounds.{has_few_items}
 use Rattle.tm_parse.proofs.FileKeeping.{kept_definitions}
+use Rattle.tm_parse.proofs.PartBounds.{definition_parts}
 use Rattle.tm_parse.proofs.VariantBounds.{definition_variants}
 use Rattle.tm_parse.proofs.laws.files_keep_limits.Goals as goal
 
@@ -8,3 +9,6 @@ returns-clause-items c = has_few_items
 
 pub returns-clause-variants : goal.returns-clause-variants
 returns-clause-variants c = kept_definitions _ (definition_variants _)
+
+pub returns-clause-parts : goal.returns-clause-parts
+returns-clause-parts c = kept_definitions _ (definition_parts _)
