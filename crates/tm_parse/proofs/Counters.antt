@@ -1,5 +1,5 @@
 -- The counts that stay within their limits, each with the weights of the marks that it goes up by.
-use Rattle.std.proofs.Common.{◌≡◌, ℕ, ◌+◌, ◌≤◌, refl, sym, subst, arith}
+use Rattle.std.proofs.Common.{◌≡◌, ℕ, zero, suc, ◌+◌, ◌≤◌, refl, sym, subst, arith}
 use Rattle.tm_base.specs.declared.limit.LimitKind.TheVariants as limit
 use Rattle.tm_parse.proofs.Weights.{marked, Holds, Counter}
 use Rattle.tm_parse.specs.Events.{Mark, a_definition, a_question, a_lifetime, a_parameter, a_field, a_variant, a_type}
@@ -30,6 +30,15 @@ fields m = 0
 abbrev pub variants : Mark → ℕ
 variants a_variant = 1
 variants m = 0
+
+abbrev pub types : Mark → ℕ
+types (a_type depth) = 1
+types m = 0
+
+-- 1 for a type with no other around it
+abbrev pub outermost : Mark → ℕ
+outermost (a_type zero) = 1
+outermost m = 0
 
 abbrev pub never : Mark → ℕ
 never m = 0
@@ -159,3 +168,25 @@ variant_counter = record { adds = adds; holds = holds }
     holds c a_field r h l = l
     holds c a_variant r h l = h
     holds c (a_type depth) r h l = l
+
+pub type_counter : Counter limit.TypeNodes (λ n. n.nodes) types outermost
+type_counter = record { adds = adds; holds = holds }
+  where
+    adds : (c : Counts) (m : Mark) → outermost m ≡ 0 → (marked c m).nodes ≡ c.nodes + types m
+    adds c a_definition r = omega arith
+    adds c a_question r = omega arith
+    adds c a_lifetime r = omega arith
+    adds c a_parameter r = omega arith
+    adds c a_field r = omega arith
+    adds c a_variant r = omega arith
+    adds c (a_type zero) r = absurd (omega (arith, r))
+    adds c (a_type (suc depth)) r = refl
+
+    holds : (c : Counts) (m : Mark) → outermost m ≡ 0 → Holds (marked c m) m → c.nodes ≤ 64 → (marked c m).nodes ≤ 64
+    holds c a_definition r h l = l
+    holds c a_question r h l = l
+    holds c a_lifetime r h l = l
+    holds c a_parameter r h l = l
+    holds c a_field r h l = l
+    holds c a_variant r h l = l
+    holds c (a_type depth) r h l = h

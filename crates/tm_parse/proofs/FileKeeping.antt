@@ -16,27 +16,27 @@ use Rattle.tm_parse.specs.declared.terminal.Terminal.{Terminal}
 
 module _ (D : Decl → Type 0) (Q : DeclAsk → Type 0) where
   -- what is kept of an item
-  abbrev Kept : Item → Type 0
-  Kept (sort.Definition d) = D d
-  Kept (sort.Question q) = Q q
-  Kept other = Unit {0}
+  abbrev pub KeptItem : Item → Type 0
+  KeptItem (sort.Definition d) = D d
+  KeptItem (sort.Question q) = Q q
+  KeptItem other = Unit {0}
 
   pub record KeptFile (v : Parsed) : Type 0 where
     pub definitions : All D v.decls
     pub questions : All Q v.questions
 
-  all-sorted : (items : List Item) → All Kept items → KeptFile (sorted items)
+  all-sorted : (items : List Item) → All KeptItem items → KeptFile (sorted items)
   all-sorted [] h = record { definitions = All-nil D; questions = All-nil Q }
-  all-sorted (i ∷ items) h = go i (All-head Kept i items h) (all-sorted items (All-tail Kept i items h))
+  all-sorted (i ∷ items) h = go i (All-head KeptItem i items h) (all-sorted items (All-tail KeptItem i items h))
     where
-      go : (i : Item) → Kept i → KeptFile (sorted items) → KeptFile (sorted (i ∷ items))
+      go : (i : Item) → KeptItem i → KeptFile (sorted items) → KeptFile (sorted (i ∷ items))
       go (sort.Lifetime t) k others = record { definitions = others.definitions; questions = others.questions }
       go (sort.Outlives b) k others = record { definitions = others.definitions; questions = others.questions }
       go (sort.Definition d) k others = record { definitions = All-cons D d (sorted items).decls k others.definitions; questions = others.questions }
       go (sort.Question q) k others = record { definitions = others.definitions; questions = All-cons Q q (sorted items).questions k others.questions }
 
-  module _ (Is : Terminal → Type 0) (definitions : (levels : ℕ) → Keeps Is D (definition levels).spells) (questions : (levels : ℕ) → Keeps Is (λ i. Kept i) (question levels).spells) where
-    item-keeps : (levels : ℕ) → Keeps Is (λ i. Kept i) (item levels).spells
+  module _ (Is : Terminal → Type 0) (definitions : (levels : ℕ) → Keeps Is D (definition levels).spells) (questions : (levels : ℕ) → Keeps Is (λ i. KeptItem i) (question levels).spells) where
+    item-keeps : (levels : ℕ) → Keeps Is (λ i. KeptItem i) (item levels).spells
     item-keeps levels = or_keeps (to_keeps skipped (λ v k. k)) (or_keeps (to_keeps skipped (λ v k. k)) (or_keeps (questions levels) (to_keeps (definitions levels) (λ v k. k))))
 
     file-keeps : (levels : ℕ) → Keeps Is KeptFile (file levels).spells

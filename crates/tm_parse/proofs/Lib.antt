@@ -31,6 +31,9 @@ pub mod Keeping
 pub mod FileKeeping
 pub mod Without
 pub mod PartBounds
+pub mod WrittenLemmas
+pub mod TypeBounds
+pub mod EachType
 pub mod VariantBounds
 pub mod Worked
 pub mod WorkedLimits

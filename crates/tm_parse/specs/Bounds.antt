@@ -5,9 +5,11 @@ use Rattle.tm_base.specs.declared.definition.Kind.TheVariants as kind
 use Rattle.tm_base.specs.declared.limit.LimitKind.TheVariants as limit
 use Rattle.tm_parse.specs.Definitions.{single}
 use Rattle.tm_parse.specs.Limits.{most}
+use Rattle.tm_parse.specs.Written.{written}
 use Rattle.tm_parse.specs.declared.parsed.Decl.{Decl}
 use Rattle.tm_parse.specs.declared.parsed.DeclField.{DeclField}
 use Rattle.tm_parse.specs.declared.parsed.DeclVariant.{DeclVariant}
+use Rattle.tm_parse.specs.declared.parsed.Expr.{Expr}
 use Rattle.tm_parse.specs.declared.parsed.Parsed.{Parsed}
 
 -- there are no more items of each sort than the limits allow
@@ -35,3 +37,12 @@ pub record HasFewParts (definition : Decl) : Type 0 where
   pub parameters : length definition.params ≤ most limit.Parameters
   pub variants : length definition.variants ≤ most limit.Variants
   pub fields : length (fields_of definition.variants) ≤ most limit.Fields
+
+-- what holds of each type that a field has, and of both types of each question
+pub record EachType (Is : Expr → Type 0) (file : Parsed) : Type 0 where
+  pub fields : All (λ definition. All (λ field. Is field.ty) (fields_of definition.variants)) file.decls
+  pub questions : All (λ question. Is question.src × Is question.dst) file.questions
+
+-- there are no more types written in one, itself among them, than the limit allows
+pub record IsSmall (type : Expr) : Type 0 where
+  pub nodes : length (written type) ≤ most limit.TypeNodes

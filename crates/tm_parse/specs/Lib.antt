@@ -10,6 +10,7 @@ pub mod Types
 pub mod Definitions
 pub mod Files
 pub mod Accepted
+pub mod Written
 pub mod Bounds
 pub mod Read
 pub mod Parsing
