@@ -34,6 +34,8 @@ pub mod PartBounds
 pub mod WrittenLemmas
 pub mod TypeBounds
 pub mod EachType
+pub mod TypeIntegers
+pub mod Carried
 pub mod VariantBounds
 pub mod Worked
 pub mod WorkedLimits

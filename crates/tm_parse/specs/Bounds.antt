@@ -1,16 +1,20 @@
 -- What every file keeps that is spelled within the limits.
-use Rattle.std.specs.Prelude.{◌≡◌, ℕ, ◌≤◌, ◌<◌, IsSome, List, length, flat_map, All}
+use Rattle.std.specs.Prelude.{◌≡◌, ℕ, ◌≤◌, ◌<◌, Bool, true, IsTrue, IsSome, List, [], ◌∷◌, length, flat_map, All}
 use Rattle.tm_base.specs.declared.definition.Kind.{Kind}
 use Rattle.tm_base.specs.declared.definition.Kind.TheVariants as kind
 use Rattle.tm_base.specs.declared.limit.LimitKind.TheVariants as limit
+use Rattle.tm_base.specs.Integers.{is_integer}
+use Rattle.tm_parse.specs.Classes.{among}
 use Rattle.tm_parse.specs.Definitions.{single}
 use Rattle.tm_parse.specs.Limits.{most}
+use Rattle.tm_parse.specs.Types.{integer, alias, primitive_of}
 use Rattle.tm_parse.specs.Written.{written}
 use Rattle.tm_parse.specs.declared.parsed.Decl.{Decl}
 use Rattle.tm_parse.specs.declared.parsed.DeclField.{DeclField}
 use Rattle.tm_parse.specs.declared.parsed.DeclVariant.{DeclVariant}
-use Rattle.tm_parse.specs.declared.parsed.Expr.{Expr}
+use Rattle.tm_parse.specs.declared.parsed.Expr.{Expr, NonZero}
 use Rattle.tm_parse.specs.declared.parsed.Parsed.{Parsed}
+use Rattle.tm_parse.specs.declared.terminal.Terminal.{Terminal}
 
 -- there are no more items of each sort than the limits allow
 pub record HasFewItems (file : Parsed) : Type 0 where
@@ -46,3 +50,15 @@ pub record EachType (Is : Expr → Type 0) (file : Parsed) : Type 0 where
 -- there are no more types written in one, itself among them, than the limit allows
 pub record IsSmall (type : Expr) : Type 0 where
   pub nodes : length (written type) ≤ most limit.TypeNodes
+
+-- a `NonZero` is of an integer type
+abbrev pub is_of_integer : Expr → Bool
+is_of_integer (NonZero p) = is_integer p
+is_of_integer other = true
+
+pub record HasIntegers (type : Expr) : Type 0 where
+  pub nonzero : All (λ inner. IsTrue (is_of_integer inner)) (written type)
+
+-- A word for an integer type, or for a `NonZero` of one, carries an integer type.
+abbrev pub CarriesInteger : Terminal → Type 0
+CarriesInteger t = IsTrue (among (integer ∷ alias ∷ []) t.class) → IsTrue (is_integer (primitive_of t))

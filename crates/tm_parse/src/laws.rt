@@ -1,6 +1,6 @@
 ghost use Rattle.std.specs.Prelude.{◌≡◌, ◌↔◌, ◌++◌, ◌∷◌, [], All, List};
 ghost use Rattle.tm_parse.specs.Accepted.{IsAnswer, IsFaultAt, IsFile, PassesAt, SpelledBy, answer_of};
-ghost use Rattle.tm_parse.specs.Bounds.{EachType, HasFewItems, HasFewParts, HasItsVariants, IsSmall};
+ghost use Rattle.tm_parse.specs.Bounds.{CarriesInteger, EachType, HasFewItems, HasFewParts, HasIntegers, HasItsVariants, IsSmall};
 ghost use Rattle.tm_parse.specs.Events.{Event, terminals};
 ghost use Rattle.tm_parse.specs.Parts.{Done, Passed, Stuck};
 ghost use Rattle.tm_parse.specs.declared.counts.Counts.{Counts as CountsValue};
@@ -28,4 +28,5 @@ pub fn files_keep_limits()
     ensures variants { (v : File) (ts : List Sign) (after : CountsValue) → IsFile v ts after → All HasItsVariants v.decls }
     ensures parts { (v : File) (ts : List Sign) (after : CountsValue) → IsFile v ts after → All HasFewParts v.decls }
     ensures types { (v : File) (ts : List Sign) (after : CountsValue) → IsFile v ts after → EachType IsSmall v }
+    ensures integers { (v : File) (ts : List Sign) (after : CountsValue) → IsFile v ts after → All CarriesInteger ts → EachType HasIntegers v }
 {}
