@@ -36,6 +36,7 @@ pub mod TypeBounds
 pub mod EachType
 pub mod TypeIntegers
 pub mod Carried
+pub mod WithinLimits
 pub mod VariantBounds
 pub mod Worked
 pub mod WorkedLimits

@@ -62,3 +62,11 @@ pub record HasIntegers (type : Expr) : Type 0 where
 -- A word for an integer type, or for a `NonZero` of one, carries an integer type.
 abbrev pub CarriesInteger : Terminal → Type 0
 CarriesInteger t = IsTrue (among (integer ∷ alias ∷ []) t.class) → IsTrue (is_integer (primitive_of t))
+
+-- what every file keeps that a text's tokens spell within the limits
+pub record IsWithinLimits (file : Parsed) : Type 0 where
+  pub items : HasFewItems file
+  pub variants : All HasItsVariants file.decls
+  pub parts : All HasFewParts file.decls
+  pub types : EachType IsSmall file
+  pub integers : EachType HasIntegers file
