@@ -1,5 +1,5 @@
 -- A text's terminals for integer types carry integer types.
-use Rattle.std.proofs.Common.{◌≡◌, ℕ, refl, Bool, true, false, not, ◌||◌, ◌&&◌, if◌then◌else◌, List, [], ◌∷◌, All}
+use Rattle.std.proofs.Common.{◌≡◌, ℕ, refl, Bool, true, false, not, ◌||◌, if◌then◌else◌, List, [], ◌∷◌, All}
 use Rattle.std.proofs.lemmas.Bool.{and_parts}
 use Rattle.std.proofs.lemmas.List.Elements.{All-map}
 use Rattle.std.specs.List.{list_all, enumerate_from, slice_index_or, slice_range}
@@ -10,7 +10,7 @@ use Rattle.tm_lex.specs.declared.token.TokenKind.{TokenKind}
 use Rattle.tm_lex.specs.declared.token.TokenKind.TheVariants as kind
 use Rattle.tm_parse.specs.Bounds.{CarriesInteger}
 use Rattle.tm_parse.specs.Classes.{among}
-use Rattle.tm_parse.specs.Spelling.{class_in, word_class, mark_class, class_as, class_of, terminal_of, terminals_of}
+use Rattle.tm_parse.specs.Spelling.{class_in, word_class, mark_class, class_as, terminal_of, terminals_of}
 use Rattle.tm_parse.specs.Types.{integer, alias, primitive_of}
 use Rattle.tm_parse.specs.Words.{Spelling, words, marks}
 use Rattle.tm_parse.specs.declared.class.Class.{Class}

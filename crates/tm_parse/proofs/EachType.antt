@@ -1,5 +1,5 @@
 -- What is kept of each outermost type is kept of each type that a file has as a field or in a question.
-use Rattle.std.proofs.Common.{◌≡◌, ℕ, refl, subst, sym, Bool, Option, Some, None, IfSome, List, [], ◌∷◌, ◌++◌, All, append-nil}
+use Rattle.std.proofs.Common.{ℕ, subst, sym, Bool, Option, Some, None, IfSome, List, [], ◌∷◌, All, append-nil}
 use Rattle.std.proofs.lemmas.List.Elements.{All-nil, All-append, All-head, All-tail}
 use Rattle.tm_parse.proofs.FileKeeping.{KeptItem, kept_of_file}
 use Rattle.tm_parse.proofs.Keeping.{Keeps, skipped, to_keeps, seq_keeps, or_keeps, mark_keeps, listed_keeps, listed1_keeps, optional_keeps}

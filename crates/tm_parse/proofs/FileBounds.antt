@@ -1,5 +1,5 @@
 -- A file within the limits has no more items of each sort than they allow.
-use Rattle.std.proofs.Common.{◌≡◌, ℕ, ◌+◌, ◌≤◌, refl, List, [], ◌∷◌, length, arith}
+use Rattle.std.proofs.Common.{ℕ, ◌≤◌, List, [], ◌∷◌, length, arith}
 use Rattle.tm_parse.proofs.Counters.{definitions, questions, lifetimes, definition_counter, question_counter, lifetime_counter}
 use Rattle.tm_parse.proofs.Least.{AtLeast, total, any_least, fewer, to_least, seq_least, or_least, mark_least, many_least}
 use Rattle.tm_parse.proofs.Weights.{weigh-nothing, counter_within}
@@ -11,7 +11,6 @@ use Rattle.tm_parse.specs.Limits.{none_yet}
 use Rattle.tm_parse.specs.declared.counts.Counts.{Counts}
 use Rattle.tm_parse.specs.declared.items.Item.{Item}
 use Rattle.tm_parse.specs.declared.items.Item.TheVariants as sort
-use Rattle.tm_parse.specs.declared.parsed.Decl.{Decl}
 use Rattle.tm_parse.specs.declared.parsed.Parsed.{Parsed}
 use Rattle.tm_parse.specs.declared.terminal.Terminal.{Terminal}
 

@@ -1,6 +1,6 @@
 -- What is kept of each value that a part spells, for each combinator. The events are some of a file's: they
 -- are counted within the limits, from some counts on, and each terminal is as it is asked.
-use Rattle.std.proofs.Common.{◌≡◌, ◌⊎◌, refl, sym, ap, ◌∙◌, subst, Bool, true, false, Option, Some, None, IfSome, List, [], ◌∷◌, ◌++◌, All, inl, inr}
+use Rattle.std.proofs.Common.{◌≡◌, ◌⊎◌, refl, sym, subst, Bool, true, false, Option, Some, None, IfSome, List, [], ◌∷◌, ◌++◌, All, inl, inr}
 use Rattle.std.proofs.lemmas.List.Elements.{All-nil, All-cons, All-head, All-tail}
 use Rattle.tm_parse.proofs.Least.{Spells, WithComma, MayBe, AndOthers}
 use Rattle.tm_parse.specs.Classes.{among}
@@ -9,7 +9,6 @@ use Rattle.tm_parse.specs.Events.{Mark, Role, Event, terminal, mark, terminals}
 use Rattle.tm_parse.specs.Limits.{Step, Fine, Passes, step, Within, counted, count}
 use Rattle.tm_parse.specs.Shapes.{and_others}
 use Rattle.tm_parse.specs.declared.class.Class.{Class}
-use Rattle.tm_parse.specs.declared.class.Class.TheVariants as c
 use Rattle.tm_parse.specs.declared.counts.Counts.{Counts}
 use Rattle.tm_parse.specs.declared.terminal.Terminal.{Terminal}
 

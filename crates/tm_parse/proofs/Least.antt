@@ -1,9 +1,8 @@
 -- A part's marks weigh at least what its value counts: for each combinator.
-use Rattle.std.proofs.Common.{◌≡◌, ℕ, ◌+◌, ◌≤◌, refl, sym, ap, ◌∙◌, subst, Bool, true, false, Option, Some, None, ◌⊎◌, List, [], ◌∷◌, ◌++◌, length, inl, inr, arith}
+use Rattle.std.proofs.Common.{◌≡◌, ℕ, ◌+◌, ◌≤◌, refl, ap, ◌∙◌, Bool, true, false, Option, Some, None, ◌⊎◌, List, [], ◌∷◌, ◌++◌, length, inl, inr, arith}
 use Rattle.tm_parse.proofs.Weights.{weigh, weigh-append}
-use Rattle.tm_parse.specs.Combinators.{◌>>◌, ◌or◌, nothing, to, counts_as, Others, Repeats, repeat}
+use Rattle.tm_parse.specs.Combinators.{Others, Repeats}
 use Rattle.tm_parse.specs.Events.{Mark, Event, mark}
-use Rattle.tm_parse.specs.Parts.{Part}
 use Rattle.tm_parse.specs.Shapes.{the, optional, is_there, and_others}
 use Rattle.tm_parse.specs.Types.{places}
 use Rattle.tm_parse.specs.declared.class.Class.TheVariants as c

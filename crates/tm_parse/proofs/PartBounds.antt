@@ -1,10 +1,9 @@
 -- Each definition has no more parts of each sort than the limits allow.
-use Rattle.std.proofs.Common.{◌≡◌, ℕ, ◌+◌, ◌≤◌, refl, sym, ap, ◌∙◌, subst, Bool, Option, Some, None, List, [], ◌∷◌, ◌++◌, length, length-append, append-nil, map, arith, ◌⊎◌, inl, inr}
-use Rattle.std.specs.List.{flat_map}
+use Rattle.std.proofs.Common.{◌≡◌, ℕ, ◌≤◌, refl, sym, ap, ◌∙◌, subst, Bool, Option, Some, None, List, [], ◌∷◌, ◌++◌, length, length-append, append-nil, arith, ◌⊎◌, inl, inr}
 use Rattle.tm_base.specs.declared.definition.Kind.{Kind}
 use Rattle.tm_base.specs.declared.definition.Kind.TheVariants as kind
 use Rattle.tm_parse.proofs.Counters.{definitions, parameters, fields, variants, parameter_counter, field_counter, variant_counter}
-use Rattle.tm_parse.proofs.Keeping.{IsGood, Keeps, skipped, to_keeps, seq_keeps, or_keeps}
+use Rattle.tm_parse.proofs.Keeping.{Keeps, skipped, to_keeps, seq_keeps, or_keeps}
 use Rattle.tm_parse.proofs.Least.{Spells, AtLeast, total, total_if, total-one, total-places, any_least, fewer, to_least, seq_least, or_least, mark_least, listed_least, listed1_least, optional_least}
 use Rattle.tm_parse.proofs.Weights.{weigh, weigh-append, marked, behind_mark, counter_within}
 use Rattle.tm_parse.proofs.Without.{Without, one_without, to_without, seq_without, or_without, mark_without, optional_without, listed_without, listed1_without, behind_without, plain_without, type_without}
@@ -15,7 +14,7 @@ use Rattle.tm_parse.specs.Limits.{Within, count}
 use Rattle.tm_parse.specs.Combinators.{◌>>◌}
 use Rattle.tm_parse.specs.Parts.{Part}
 use Rattle.tm_parse.specs.Shapes.{any, the}
-use Rattle.tm_parse.specs.Types.{definition_names, or_none, places, SpellsType}
+use Rattle.tm_parse.specs.Types.{definition_names, or_none, SpellsType}
 use Rattle.tm_parse.specs.declared.class.Class.{Class}
 use Rattle.tm_parse.specs.declared.class.Class.TheVariants as c
 use Rattle.tm_parse.specs.declared.counts.Counts.{Counts}

@@ -1,5 +1,5 @@
 -- In a type there are no more types than marks of types, and so no more than the limit allows.
-use Rattle.std.proofs.Common.{◌≡◌, ℕ, zero, suc, ◌+◌, ◌-◌, ◌≤◌, refl, sym, ap, ◌∙◌, subst, Bool, Option, Some, None, List, [], ◌∷◌, ◌++◌, length, length-append, arith}
+use Rattle.std.proofs.Common.{◌≡◌, ℕ, zero, suc, ◌+◌, ◌-◌, ◌≤◌, refl, ap, subst, Bool, Option, Some, None, List, [], ◌∷◌, length, length-append, arith}
 use Rattle.std.specs.List.{flat_map}
 use Rattle.tm_base.specs.declared.ground.Primitive.{Primitive}
 use Rattle.tm_base.specs.declared.ground.Wrapper.{Wrapper}
@@ -14,7 +14,6 @@ use Rattle.tm_parse.specs.Bounds.{IsSmall}
 use Rattle.tm_parse.specs.Combinators.{counts_as}
 use Rattle.tm_parse.specs.Events.{a_type, Event, mark}
 use Rattle.tm_parse.specs.Limits.{number_of, Within, count}
-use Rattle.tm_parse.specs.Parts.{Part}
 use Rattle.tm_parse.specs.Shapes.{is_there}
 use Rattle.tm_parse.specs.Types.{wrapper_of, tuple_or_inner, behind_paren, plain_type, one_level, type_part, read_none, SpellsType}
 use Rattle.tm_parse.specs.Written.{written}

@@ -1,10 +1,8 @@
 -- Where each terminal for an integer type carries one, each `NonZero` that is written in a type is of one.
-use Rattle.std.proofs.Common.{◌≡◌, ℕ, zero, suc, refl, sym, subst, Bool, true, false, not, ◌||◌, Option, Some, None, IfSome, IsTrue, List, [], ◌∷◌, ◌++◌, All}
+use Rattle.std.proofs.Common.{◌≡◌, ℕ, zero, suc, refl, sym, subst, Option, Some, None, IfSome, IsTrue, List, [], ◌∷◌, All}
 use Rattle.std.proofs.lemmas.List.Elements.{All-nil, All-cons, All-append, All-head, All-tail}
 use Rattle.std.specs.List.{flat_map}
 use Rattle.tm_base.specs.Integers.{is_integer}
-use Rattle.tm_base.specs.declared.ground.Primitive.{Primitive}
-use Rattle.tm_base.specs.declared.ground.Wrapper.{Wrapper}
 use Rattle.tm_parse.proofs.ClassLists.{among-left, among-right}
 use Rattle.tm_parse.proofs.EachType.{KeepsTypes}
 use Rattle.tm_parse.proofs.Keeping.{Keeps, skipped, one_keeps, to_keeps, seq_keeps, or_keeps, mark_keeps, listed_keeps, optional_keeps}

@@ -1,17 +1,13 @@
 -- Each definition has the variants of its kind.
-use Rattle.std.proofs.Common.{◌≡◌, ℕ, ◌<◌, refl, Bool, Option, Some, None, IsSome, List, [], ◌∷◌, All, length, arith}
-use Rattle.tm_base.specs.declared.definition.Kind.{Kind}
+use Rattle.std.proofs.Common.{ℕ, ◌<◌, refl, Bool, Option, Some, None, IsSome, List, [], length, arith}
 use Rattle.tm_base.specs.declared.definition.Kind.TheVariants as kind
-use Rattle.tm_parse.proofs.Keeping.{Keeps, skipped, listed_keeps, to_keeps, seq_keeps, or_keeps, mark_keeps, repeat_keeps}
-use Rattle.tm_parse.proofs.Least.{Spells}
+use Rattle.tm_parse.proofs.Keeping.{Keeps, skipped, listed_keeps, to_keeps, seq_keeps, or_keeps, mark_keeps}
 use Rattle.tm_parse.specs.Bounds.{AreVariantsOf, HasItsVariants}
 use Rattle.tm_parse.specs.Definitions.{field, variant, variant_of, struct_body, union_body, enum_body, headed_any, together, definition}
-use Rattle.tm_parse.specs.Events.{Event}
 use Rattle.tm_parse.specs.Shapes.{and_others, listed1}
 use Rattle.tm_parse.specs.declared.parsed.Decl.{Decl}
 use Rattle.tm_parse.specs.declared.parsed.DeclField.{DeclField}
 use Rattle.tm_parse.specs.declared.parsed.DeclRepr.{DeclRepr}
-use Rattle.tm_parse.specs.declared.parsed.DeclVariant.{DeclVariant}
 use Rattle.tm_parse.specs.declared.terminal.Terminal.{Terminal}
 
 some-others : (v : DeclField × Option (Terminal × List DeclField)) → 0 < length (and_others v)

@@ -1,5 +1,5 @@
 -- What every file keeps that is spelled within the limits, and so what is returned.
-use Rattle.std.proofs.Common.{◌≡◌, refl, List, [], All}
+use Rattle.std.proofs.Common.{List, All}
 use Rattle.std.specs.Prelude.{Result, Ok, Err, IfOk}
 use Rattle.tm_parse.proofs.EachType.{each_type}
 use Rattle.tm_parse.proofs.FileBounds.{has_few_items}

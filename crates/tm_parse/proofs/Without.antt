@@ -1,13 +1,10 @@
 -- A part has no mark that weighs anything: for each combinator, and for types.
-use Rattle.std.proofs.Common.{◌≡◌, ℕ, zero, suc, ◌+◌, ◌≤◌, refl, sym, ap, ◌∙◌, subst, Bool, true, false, Option, Some, None, ◌⊎◌, List, [], ◌∷◌, ◌++◌, inl, inr, arith}
+use Rattle.std.proofs.Common.{◌≡◌, ℕ, zero, suc, ◌≤◌, ap, ◌∙◌, Bool, true, false, ◌⊎◌, List, [], ◌∷◌, ◌++◌, inl, inr, arith}
 use Rattle.tm_parse.proofs.Least.{Spells, WithComma, MayBe, AndOthers}
 use Rattle.tm_parse.proofs.Weights.{weigh, weigh-append}
-use Rattle.tm_parse.specs.Classes.{among}
 use Rattle.tm_parse.specs.Combinators.{Others, Repeats}
 use Rattle.tm_parse.specs.Events.{Mark, a_type, Role, Event, terminal, mark}
-use Rattle.tm_parse.specs.Parts.{Reader}
-use Rattle.tm_parse.specs.Types.{array_type, reference_type, nonzero_type, wrapped_type, named_type, plain_type, behind_paren, one_level, type_part, read_none, type_first, SpellsType}
-use Rattle.tm_parse.specs.declared.class.Class.{Class}
+use Rattle.tm_parse.specs.Types.{array_type, reference_type, nonzero_type, wrapped_type, named_type, plain_type, behind_paren, one_level, type_part, read_none, SpellsType}
 use Rattle.tm_parse.specs.declared.parsed.Expr.{Expr}
 use Rattle.tm_parse.specs.declared.terminal.Terminal.{Terminal}
 
