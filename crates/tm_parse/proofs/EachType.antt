@@ -1,7 +1,7 @@
 -- What is kept of each outermost type is kept of each type that a file has as a field or in a question.
 use Rattle.std.proofs.Common.{ℕ, subst, sym, Bool, Option, Some, None, IfSome, List, [], ◌∷◌, All, append-nil}
 use Rattle.std.proofs.lemmas.List.Elements.{All-nil, All-append, All-head, All-tail}
-use Rattle.tm_parse.proofs.FileKeeping.{KeptItem, kept_of_file}
+use Rattle.tm_parse.proofs.FileKeeping.{KeptItem, definitions_and_questions, kept_of_file}
 use Rattle.tm_parse.proofs.Keeping.{Keeps, skipped, to_keeps, seq_keeps, or_keeps, mark_keeps, listed_keeps, listed1_keeps, optional_keeps}
 use Rattle.tm_parse.specs.Accepted.{IsFile}
 use Rattle.tm_parse.specs.Bounds.{fields_of, EachType}
@@ -100,8 +100,8 @@ module _ (K : Expr → Type 0) where
 
   pub each_type : (Is : Terminal → Type 0) → KeepsTypes Is K → (v : Parsed) (ts : List Terminal) (after : Counts) → IsFile v ts after → All Is ts → EachType K v
   each_type Is keeps v ts after f h =
-      let kept = kept_of_file OfDefinition OfQuestion Is (of-definition Is keeps) asked v ts after f h in
+      let kept = kept_of_file (λ t. Unit {0}) (λ b. Unit {0}) OfDefinition OfQuestion Is (λ levels. definitions_and_questions OfDefinition OfQuestion Is levels (of-definition Is keeps levels) (asked levels)) v ts after f h in
       record { fields = kept.definitions; questions = kept.questions }
     where
-      asked : (levels : ℕ) → Keeps Is (λ i. KeptItem OfDefinition OfQuestion i) (question levels).spells
+      asked : (levels : ℕ) → Keeps Is (λ i. KeptItem (λ t. Unit {0}) (λ b. Unit {0}) OfDefinition OfQuestion i) (question levels).spells
       asked levels = to_keeps (seq_keeps skipped (seq_keeps (keeps.whole levels) (seq_keeps skipped (seq_keeps (keeps.whole levels) skipped)))) (λ v k. (k.1.0, k.1.1.1.0))

@@ -66,6 +66,10 @@ module _ {Is : Terminal → Type 0} where
   pub one_keeps : {role : Role} (classes : List Class) {K : Terminal → Type 0} → ((t : Terminal) → among classes t.class ≡ true → Is t → K t) → Keeps Is K (λ t e. (among classes t.class ≡ true) × (e ≡ terminal role t ∷ []))
   one_keeps classes keeps = record { kept = λ t e h good. keeps t h.0 (subst (Each Is) h.1 good.each).0 }
 
+  -- a terminal, of which is kept what is asked of each
+  pub word_keeps : {role : Role} {Fits : Terminal → Type 0} → Keeps Is Is (λ t e. Fits t × (e ≡ terminal role t ∷ []))
+  word_keeps = record { kept = λ t e h good. (subst (Each Is) h.1 good.each).0 }
+
   pub to_keeps : {A B : Type 0} {P : Spells A} {f : A → B} {K : A → Type 0} {L : B → Type 0} → Keeps Is K P → ((v : A) → K v → L (f v)) → Keeps Is L (λ w e. (v : A) × P v e × (w ≡ f v))
   to_keeps {L = L} x keeps = record { kept = λ w e h good. subst L (sym h.2) (keeps h.0 (x.kept h.0 e h.1 good)) }
 

@@ -34,7 +34,9 @@ pub mod PartBounds
 pub mod WrittenLemmas
 pub mod TypeBounds
 pub mod EachType
+pub mod TypeKeeping
 pub mod TypeIntegers
+pub mod PlaceBounds
 pub mod Carried
 pub mod WithinLimits
 pub mod VariantBounds

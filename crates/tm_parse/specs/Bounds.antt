@@ -51,13 +51,17 @@ pub record EachType (Is : Expr → Type 0) (file : Parsed) : Type 0 where
 pub record IsSmall (type : Expr) : Type 0 where
   pub nodes : length (written type) ≤ most limit.TypeNodes
 
+-- what holds of a type and of each one that is written in it
+pub record EachWritten (Is : Expr → Type 0) (type : Expr) : Type 0 where
+  pub each : All Is (written type)
+
 -- a `NonZero` is of an integer type
 abbrev pub is_of_integer : Expr → Bool
 is_of_integer (NonZero p) = is_integer p
 is_of_integer other = true
 
-pub record HasIntegers (type : Expr) : Type 0 where
-  pub nonzero : All (λ inner. IsTrue (is_of_integer inner)) (written type)
+abbrev pub HasIntegers : Expr → Type 0
+HasIntegers = EachWritten (λ inner. IsTrue (is_of_integer inner))
 
 -- A word for an integer type, or for a `NonZero` of one, carries an integer type.
 abbrev pub CarriesInteger : Terminal → Type 0

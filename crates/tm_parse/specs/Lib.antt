@@ -12,5 +12,6 @@ pub mod Files
 pub mod Accepted
 pub mod Written
 pub mod Bounds
+pub mod Places
 pub mod Read
 pub mod Parsing
