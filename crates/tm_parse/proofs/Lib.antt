@@ -23,6 +23,23 @@ pub mod Answering
 pub mod Prefixes
 pub mod Exactness
 pub mod Returning
+pub mod Weights
+pub mod Counters
+pub mod Least
+pub mod FileBounds
+pub mod Keeping
+pub mod FileKeeping
+pub mod Without
+pub mod PartBounds
+pub mod WrittenLemmas
+pub mod TypeBounds
+pub mod EachType
+pub mod TypeKeeping
+pub mod TypeIntegers
+pub mod PlaceBounds
+pub mod Carried
+pub mod WithinLimits
+pub mod VariantBounds
 pub mod Worked
 pub mod WorkedLimits
 mod Spans

@@ -10,5 +10,8 @@ pub mod Types
 pub mod Definitions
 pub mod Files
 pub mod Accepted
+pub mod Written
+pub mod Bounds
+pub mod Places
 pub mod Read
 pub mod Parsing

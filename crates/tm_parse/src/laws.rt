@@ -1,7 +1,9 @@
-ghost use Rattle.std.specs.Prelude.{◌≡◌, ◌↔◌, ◌++◌, ◌∷◌, [], List};
+ghost use Rattle.std.specs.Prelude.{◌≡◌, ◌↔◌, ◌++◌, ◌∷◌, ◌<◌, [], ℕ, All, List};
 ghost use Rattle.tm_parse.specs.Accepted.{IsAnswer, IsFaultAt, IsFile, PassesAt, SpelledBy, answer_of};
+ghost use Rattle.tm_parse.specs.Bounds.{CarriesInteger, EachType, HasFewItems, HasFewParts, HasIntegers, HasItsVariants, IsSmall};
 ghost use Rattle.tm_parse.specs.Events.{Event, terminals};
 ghost use Rattle.tm_parse.specs.Parts.{Done, Passed, Stuck};
+ghost use Rattle.tm_parse.specs.Places.{EachPlace};
 ghost use Rattle.tm_parse.specs.declared.counts.Counts.{Counts as CountsValue};
 ghost use Rattle.tm_base.specs.declared.limit.LimitKind.{LimitKind as Limit};
 ghost use Rattle.tm_parse.specs.declared.parsed.Parsed.{Parsed as File};
@@ -19,4 +21,14 @@ pub fn grammar_is_exact()
     ensures fault { (front rest : List Sign) → (answer_of (front ++ rest) ≡ Stuck rest) ↔ IsFaultAt front rest }
     ensures limit { (kind : Limit) (front : List Sign) (t : Sign) (rest : List Sign) → (answer_of (front ++ (t ∷ rest)) ≡ Passed kind (t ∷ rest)) ↔ PassesAt kind front t }
     ensures every { (ts : List Sign) → IsAnswer ts (answer_of ts) }
+{}
+
+/// What each file keeps that is spelled within the limits.
+pub fn files_keep_limits()
+    ensures items { (v : File) (ts : List Sign) (after : CountsValue) → IsFile v ts after → HasFewItems v }
+    ensures variants { (v : File) (ts : List Sign) (after : CountsValue) → IsFile v ts after → All HasItsVariants v.decls }
+    ensures parts { (v : File) (ts : List Sign) (after : CountsValue) → IsFile v ts after → All HasFewParts v.decls }
+    ensures types { (v : File) (ts : List Sign) (after : CountsValue) → IsFile v ts after → EachType IsSmall v }
+    ensures integers { (v : File) (ts : List Sign) (after : CountsValue) → IsFile v ts after → All CarriesInteger ts → EachType HasIntegers v }
+    ensures places { (v : File) (ts : List Sign) (after : CountsValue) (n : ℕ) → IsFile v ts after → All (λ t. t.place < n) ts → EachPlace (λ place. place < n) v }
 {}

@@ -31,7 +31,7 @@ mod words;
 pub use class::Class;
 pub use classify::terminals;
 pub use counts::Counts;
-pub use laws::grammar_is_exact;
+pub use laws::{files_keep_limits, grammar_is_exact};
 pub use parsed::{
     Decl, DeclAsk, DeclBound, DeclField, DeclRepr, DeclVariant, Expr, Parsed, ReprItem,
 };

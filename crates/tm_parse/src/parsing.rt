@@ -1,5 +1,6 @@
 ghost use Rattle.std.specs.Prelude.{◌≡◌, ◌≤◌, ℕ, ◌-◌, ◌⊎◌, length, List, IfOk, IfErr, MatchResult};
 ghost use Rattle.tm_lex.specs.Lexes.{Tokenizes};
+ghost use Rattle.tm_parse.specs.Bounds.{IsWithinLimits};
 ghost use Rattle.tm_parse.specs.Parsing.{HasCause, IsAnswered, PassesLimitAt, SpellsFile, StopsAt};
 ghost use Rattle.tm_parse.specs.Spelling.{terminals_of};
 ghost use Rattle.tm_base.specs.declared.limit.LimitKind.{LimitKind as Kind};
@@ -79,6 +80,7 @@ fn whole_file(alloc: Global, count: u32, terminals: &[Terminal]) -> Result<Parse
 pub fn parse(alloc: Global, text: &str, tokens: &[Token]) -> Result<Parsed, ParseErr>
     requires { Tokenizes text.now tokens.now }
     ensures file { IfOk result (SpellsFile (terminals_of text.now tokens.now)) }
+    ensures within { IfOk result IsWithinLimits }
     ensures cause { IfErr result (HasCause (terminals_of text.now tokens.now)) }
 
     // Tokens spell one file, stop at one place or pass a limit at one, which is answered where memory

@@ -1,0 +1,41 @@
+-- What every file keeps that is spelled within the limits, and so what is returned.
+use Rattle.std.proofs.Common.{List, All}
+use Rattle.std.specs.Prelude.{Result, Ok, Err, IfOk}
+use Rattle.tm_parse.proofs.EachType.{each_type}
+use Rattle.tm_parse.proofs.FileBounds.{has_few_items}
+use Rattle.tm_parse.proofs.FileKeeping.{kept_definitions}
+use Rattle.tm_parse.proofs.PartBounds.{definition_parts}
+use Rattle.tm_parse.proofs.Returning.{file_returned}
+use Rattle.tm_parse.proofs.TypeBounds.{keeps_small}
+use Rattle.tm_parse.proofs.TypeIntegers.{keeps_integers}
+use Rattle.tm_parse.proofs.VariantBounds.{definition_variants}
+use Rattle.tm_parse.specs.Accepted.{IsFile}
+use Rattle.tm_parse.specs.Bounds.{HasItsVariants, HasFewParts, EachType, IsSmall, HasIntegers, CarriesInteger, IsWithinLimits}
+use Rattle.tm_parse.specs.Parsing.{SpellsFile, IsAnswered}
+use Rattle.tm_parse.specs.declared.counts.Counts.{Counts}
+use Rattle.tm_parse.specs.declared.parsed.Parsed.{Parsed}
+use Rattle.tm_parse.specs.declared.parsing.ParseErr.{ParseErr}
+use Rattle.tm_parse.specs.declared.terminal.Terminal.{Terminal}
+
+module _ (v : Parsed) (ts : List Terminal) (after : Counts) (f : IsFile v ts after) where
+  pub variants_kept : All HasItsVariants v.decls
+  variants_kept = kept_definitions HasItsVariants (definition_variants (λ t. Unit {0})) v ts after f
+
+  pub parts_kept : All HasFewParts v.decls
+  parts_kept = kept_definitions HasFewParts (definition_parts (λ t. Unit {0})) v ts after f
+
+  pub types_kept : EachType IsSmall v
+  types_kept = each_type IsSmall (λ t. Unit {0}) keeps_small v ts after f (λ k d l. tt)
+
+  pub integers_kept : All CarriesInteger ts → EachType HasIntegers v
+  integers_kept carried = each_type HasIntegers CarriesInteger keeps_integers v ts after f carried
+
+  pub within_limits : All CarriesInteger ts → IsWithinLimits v
+  within_limits carried = record { items = has_few_items v ts after f; variants = variants_kept; parts = parts_kept; types = types_kept; integers = integers_kept carried }
+
+pub within_returned : (ts : List Terminal) (result : Result Parsed ParseErr) → All CarriesInteger ts → IsAnswered ts result → IfOk result IsWithinLimits
+within_returned ts result carried answered = go result (file_returned ts result answered)
+  where
+    go : (result : Result Parsed ParseErr) → IfOk result (SpellsFile ts) → IfOk result IsWithinLimits
+    go (Ok v) h = within_limits v ts h.after h.file carried
+    go (Err e) h = tt

@@ -1,0 +1,76 @@
+-- What every file keeps that is spelled within the limits.
+use Rattle.std.specs.Prelude.{◌≡◌, ◌≤◌, ◌<◌, Bool, true, IsTrue, IsSome, List, [], ◌∷◌, length, flat_map, All}
+use Rattle.tm_base.specs.declared.definition.Kind.{Kind}
+use Rattle.tm_base.specs.declared.definition.Kind.TheVariants as kind
+use Rattle.tm_base.specs.declared.limit.LimitKind.TheVariants as limit
+use Rattle.tm_base.specs.Integers.{is_integer}
+use Rattle.tm_parse.specs.Classes.{among}
+use Rattle.tm_parse.specs.Definitions.{single}
+use Rattle.tm_parse.specs.Limits.{most}
+use Rattle.tm_parse.specs.Types.{integer, alias, primitive_of}
+use Rattle.tm_parse.specs.Written.{written}
+use Rattle.tm_parse.specs.declared.parsed.Decl.{Decl}
+use Rattle.tm_parse.specs.declared.parsed.DeclField.{DeclField}
+use Rattle.tm_parse.specs.declared.parsed.DeclVariant.{DeclVariant}
+use Rattle.tm_parse.specs.declared.parsed.Expr.{Expr, NonZero}
+use Rattle.tm_parse.specs.declared.parsed.Parsed.{Parsed}
+use Rattle.tm_parse.specs.declared.terminal.Terminal.{Terminal}
+
+-- there are no more items of each sort than the limits allow
+pub record HasFewItems (file : Parsed) : Type 0 where
+  pub lifetimes : length file.lifetimes ≤ most limit.Lifetimes
+  pub definitions : length file.decls ≤ most limit.Definitions
+  pub questions : length file.questions ≤ most limit.Questions
+
+-- The variants that a definition of the kind may have: a struct is one variant, with neither name nor
+-- written discriminant; so is a union, which has a field; each variant of an enum has a name.
+abbrev pub AreVariantsOf : Kind → List DeclVariant → Type 0
+AreVariantsOf kind.Struct variants = (fields : List DeclField) × (variants ≡ single fields)
+AreVariantsOf kind.Union variants = (fields : List DeclField) × (variants ≡ single fields) × (0 < length fields)
+AreVariantsOf kind.Enum variants = All (λ v. IsSome v.name) variants
+
+pub record HasItsVariants (definition : Decl) : Type 0 where
+  pub variants : AreVariantsOf definition.kind definition.variants
+
+-- the fields of all the variants
+abbrev pub fields_of : List DeclVariant → List DeclField
+fields_of = flat_map (λ variant. variant.fields)
+
+-- there are no more parts of each sort in a definition than the limits allow
+pub record HasFewParts (definition : Decl) : Type 0 where
+  pub parameters : length definition.params ≤ most limit.Parameters
+  pub variants : length definition.variants ≤ most limit.Variants
+  pub fields : length (fields_of definition.variants) ≤ most limit.Fields
+
+-- what holds of each type that a field has, and of both types of each question
+pub record EachType (Is : Expr → Type 0) (file : Parsed) : Type 0 where
+  pub fields : All (λ definition. All (λ field. Is field.ty) (fields_of definition.variants)) file.decls
+  pub questions : All (λ question. Is question.src × Is question.dst) file.questions
+
+-- there are no more types written in one, itself among them, than the limit allows
+pub record IsSmall (type : Expr) : Type 0 where
+  pub nodes : length (written type) ≤ most limit.TypeNodes
+
+-- what holds of a type and of each one that is written in it
+pub record EachWritten (Is : Expr → Type 0) (type : Expr) : Type 0 where
+  pub each : All Is (written type)
+
+-- a `NonZero` is of an integer type
+abbrev pub is_of_integer : Expr → Bool
+is_of_integer (NonZero p) = is_integer p
+is_of_integer other = true
+
+abbrev pub HasIntegers : Expr → Type 0
+HasIntegers = EachWritten (λ inner. IsTrue (is_of_integer inner))
+
+-- A word for an integer type, or for a `NonZero` of one, carries an integer type.
+abbrev pub CarriesInteger : Terminal → Type 0
+CarriesInteger t = IsTrue (among (integer ∷ alias ∷ []) t.class) → IsTrue (is_integer (primitive_of t))
+
+-- what every file keeps that a text's tokens spell within the limits
+pub record IsWithinLimits (file : Parsed) : Type 0 where
+  pub items : HasFewItems file
+  pub variants : All HasItsVariants file.decls
+  pub parts : All HasFewParts file.decls
+  pub types : EachType IsSmall file
+  pub integers : EachType HasIntegers file
