@@ -14,3 +14,4 @@ pub mod RowLemmas
 pub mod HoldingLemmas
 pub mod FileLemmas
 pub mod FirstLemmas
+mod Worked
