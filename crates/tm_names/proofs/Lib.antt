@@ -15,3 +15,4 @@ pub mod HoldingLemmas
 pub mod FileLemmas
 pub mod FirstLemmas
 mod Worked
+pub mod CopyLemmas
