@@ -14,3 +14,5 @@ pub mod RowLemmas
 pub mod HoldingLemmas
 pub mod FileLemmas
 pub mod FirstLemmas
+mod Worked
+pub mod CopyLemmas

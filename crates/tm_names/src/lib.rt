@@ -5,6 +5,7 @@
 mod adding;
 mod checking;
 mod closure;
+mod copying;
 mod counting;
 mod definitions;
 mod fault;
@@ -24,6 +25,8 @@ mod resolved;
 mod resolving;
 mod sight;
 mod source;
+#[cfg(test)]
+mod tests;
 mod typing;
 mod value;
 

@@ -2,39 +2,34 @@ ghost use Rattle.std.specs.Prelude.{◌≡◌, IfOk, map, pos};
 ghost use Rattle.tm_names.specs.Discriminants.{valued};
 ghost use Rattle.tm_names.specs.Resolutions.{ask_of, bound_of, decl_types, def_of, field_of, regions_of, resolved_of, text_or_none, variant_of, variant_types};
 ghost use Rattle.tm_names.specs.Directories.{IsIndexed};
-ghost use Rattle.tm_names.specs.Source.{names_in};
+ghost use Rattle.tm_names.specs.Source.{IsTokenized, names_in};
 
 use crate::adding::add;
+use crate::copying::token_text;
 use crate::counting::{narrow, next, value_in};
 use crate::indexed::Definitions;
 use crate::lives::bound;
 use crate::reprs::repr;
 use crate::resolved::{Open, OpenAsk, Resolved};
 use crate::sight::Sight;
-use crate::source::{Source, name};
+use crate::source::Source;
 use crate::typing::resolve;
 use crate::value::Value;
 use std::alloc::Global;
-use std::str::from_utf8;
 use tm_base::{Bound, Def, Field, List, Memory, Text, Variant};
 use tm_parse::{Decl, DeclAsk, DeclBound, DeclField, DeclVariant, Parsed};
 
 /// The name of the token at a place.
-///
-/// `Memory` comes also where it isn't UTF-8, which each token of a text is.
 fn text(alloc: Global, source: &Source, place: u32) -> Result<Text, Memory>
+    requires { IsTokenized source.now }
     ensures { IfOk result (λ text. text ≡ names_in source.now place) }
 {
-    let mut text = Text::new(alloc);
-    match from_utf8(name(source, place)) {
-        Ok(name) => text.push_str(name)?,
-        Err(_) => return Err(Memory),
-    }
-    Ok(text)
+    token_text(alloc, source.text, source.tokens, place)
 }
 
 /// A name that is written, else the empty one.
 fn text_or_none(alloc: Global, source: &Source, place: Option<u32>) -> Result<Text, Memory>
+    requires { IsTokenized source.now }
     ensures { IfOk result (λ text. text ≡ text_or_none (names_in source.now) place) }
 {
     match place {
@@ -45,6 +40,7 @@ fn text_or_none(alloc: Global, source: &Source, place: Option<u32>) -> Result<Te
 
 /// Fields, without their types.
 fn fields(alloc: Global, source: &Source, declared: &[DeclField]) -> Result<List<Field>, Memory>
+    requires { IsTokenized source.now }
     ensures { IfOk result (λ fields. fields ≡ map (field_of (names_in source.now)) declared.now) }
 {
     let mut fields = List::new(alloc);
@@ -63,6 +59,7 @@ fn variant(
     declared: &DeclVariant,
     value: i128,
 ) -> Result<Variant, Memory>
+    requires { IsTokenized source.now }
     ensures { IfOk result (λ variant. variant ≡ variant_of (names_in source.now) (record { variant = declared.now; value = value })) }
 {
     Ok(Variant {
@@ -78,6 +75,7 @@ fn variants(
     source: &Source,
     declared: &[DeclVariant],
 ) -> Result<List<Variant>, Memory>
+    requires { IsTokenized source.now }
     ensures { IfOk result (λ variants. variants ≡ map (variant_of (names_in source.now)) (valued declared.now)) }
 {
     let mut variants = List::new(alloc);
@@ -93,6 +91,7 @@ fn variants(
 
 /// A definition, without the types of its fields.
 fn definition(alloc: Global, source: &Source, declared: &Decl) -> Result<Def, Memory>
+    requires { IsTokenized source.now }
     ensures { IfOk result (λ def. def ≡ def_of (names_in source.now) declared.now) }
 {
     Ok(Def {
@@ -149,6 +148,7 @@ fn types(
 
 /// All definitions, without the types of their fields.
 fn all_definitions(alloc: Global, source: &Source, decls: &[Decl]) -> Result<List<Def>, Memory>
+    requires { IsTokenized source.now }
     ensures { IfOk result (λ defs. defs ≡ map (def_of (names_in source.now)) decls.now) }
 {
     let mut defs = List::new(alloc);
@@ -178,6 +178,7 @@ fn all_types(
 
 /// The texts of all regions: `'static` and the declared lifetimes.
 fn all_regions(alloc: Global, source: &Source, lifetimes: &[u32]) -> Result<List<Text>, Memory>
+    requires { IsTokenized source.now }
     ensures { IfOk result (λ regions. regions ≡ regions_of (names_in source.now) lifetimes.now) }
 {
     let mut regions = List::new(alloc);
@@ -254,6 +255,7 @@ pub fn resolved(
     definitions: &Definitions,
     parsed: &Parsed,
 ) -> Result<Resolved, Memory>
+    requires tokenized { IsTokenized source.now }
     requires indexed { IsIndexed (names_in source.now) definitions.now }
     requires same { definitions.now.decls.now ≡ parsed.now.decls }
     ensures { IfOk result (λ found. found ≡ resolved_of (names_in source.now) parsed.now) }
