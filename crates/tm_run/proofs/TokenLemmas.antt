@@ -22,7 +22,7 @@ use Rattle.tm_report.specs.declared.fault.At.{At}
 use Rattle.tm_report.specs.declared.fault.FileFault.TheVariants.{Unexpected, EndOfFile, Passed, Names, NotYet}
 use Rattle.tm_run.specs.Examined.{AreQuestionsOf, AreTokensOf, IsOnlyFault, IsParsedOf, IsResolvedOf, fault_at, no_token_at}
 use Rattle.tm_run.specs.Faults.{BeginsAt, HasFault, LacksToken, start_of}
-use Rattle.tm_run.specs.Files.{HasSoundNames, IsAccepted}
+use Rattle.tm_run.specs.Files.{HasSoundNames, IsAccepted, IsResolved, IsSpelled}
 use Rattle.tm_run.specs.Places.{at_byte}
 use Rattle.tm_run.specs.Questions.{questions_of}
 use Rattle.tm_run.proofs.FaultLemmas.{by_tokens, lacks_only, sound_by, spelled_by}
@@ -59,7 +59,10 @@ module _ (file : List ℕ) (tokens : List Token) (are : AreTokensOf file tokens)
   accepted_by : (h : IsAccepted file) → SpellsFile (terminals_of file tokens) h.names.parsed
   accepted_by h = spelled_by file tokens are h.names.parsed h.names.spelled
 
-  -- a token begins at its start
+  -- the place where a token begins
+  abbrev pub here : ℕ → At
+  here place = at_byte file (start_of file (slice_get tokens place))
+
   begins_at : (place byte : ℕ) → BeginsAt tokens place byte → byte ≡ start_of file (slice_get tokens place)
   begins_at place byte begins = sym begins.start ∙ ap (start_of file) (sym begins.is)
 
@@ -119,7 +122,7 @@ module _ (file : List ℕ) (tokens : List Token) (are : AreTokensOf file tokens)
       → ((v : Parsed) → SpellsFile (terminals_of file tokens) v → parse_err.Limit kind place ≡ parse_err.Memory)
       → ((p : ℕ) → StopsAt (terminals_of file tokens) p → (parse_err.Limit kind place ≡ parse_err.At p) ⊎ (parse_err.Limit kind place ≡ parse_err.Memory))
       → ((k : LimitKind) (p : ℕ) → PassesLimitAt (terminals_of file tokens) k p → (parse_err.Limit kind place ≡ parse_err.Limit k p) ⊎ (parse_err.Limit kind place ≡ parse_err.Memory))
-      → IsOnlyFault file (Passed kind (Some (at_byte file (start_of file (slice_get tokens place)))))
+      → IsOnlyFault file (Passed kind (Some (here place)))
   parser_limit kind place passes files faults limits = record {
     has = (refl, record { tokens = tokens; lexed = are.lexed; place = place; begins = begins_within place (passing_within file tokens kind place passes); passes = passes });
     only = by_tokens file tokens are (λ other. other ≡ Passed kind (Some (here place))) (record {
@@ -132,9 +135,6 @@ module _ (file : List ℕ) (tokens : List Token) (are : AreTokensOf file tokens)
     refused = λ h. let m = files h.names.parsed (accepted_by h) in cc;
   }
     where
-      here : ℕ → At
-      here p = at_byte file (start_of file (slice_get tokens p))
-
       neither : (p : ℕ) → (parse_err.Limit kind place ≡ parse_err.At p) ⊎ (parse_err.Limit kind place ≡ parse_err.Memory) → ⊥
       neither p (inl e) = cc
       neither p (inr e) = cc
@@ -147,26 +147,34 @@ module _ (file : List ℕ) (tokens : List Token) (are : AreTokensOf file tokens)
       at_token k byte p begins (inr e) = cc
 
   module _ (parsed : Parsed) (is : IsParsedOf file tokens parsed) where
-    -- the first name fault
+    abbrev spelled : IsSpelled file parsed
+    spelled = record { tokens = tokens; lexed = are.lexed; spelled = is.spelled }
+
+    -- the first name fault of what the tokens spell is that of this
+    first_in : (why : NameWhy) (place : ℕ) (v : Parsed) → SpellsFile (terminals_of file tokens) v → IsFirstFault (name_at file tokens) v why place
+        → IsFirstFault (name_at file tokens) parsed why place
+    first_in why place v h = subst (λ (v : Parsed). IsFirstFault (name_at file tokens) v why place) (is.only v h)
+
+    sound_in : (v : Parsed) → SpellsFile (terminals_of file tokens) v → HasSoundNames file tokens v → HasSoundNames file tokens parsed
+    sound_in v h = subst (λ (v : Parsed). HasSoundNames file tokens v) (is.only v h)
+
+    -- the first name fault is the one fault
     pub name_fault : (why : NameWhy) (place : ℕ) → IsFirstFault (name_at file tokens) parsed why place
         → ((other : NameWhy) (there : ℕ) → IsFirstFault (name_at file tokens) parsed other there
         → (name_err.Fault why place ≡ name_err.Fault other there) ⊎ (name_err.Fault why place ≡ name_err.Memory))
-        → IsOnlyFault file (Names why (at_byte file (start_of file (slice_get tokens place))))
+        → IsOnlyFault file (Names why (here place))
     name_fault why place first faults = record {
-      has = (refl, record { parsed = parsed; spelled = record { tokens = tokens; lexed = are.lexed; spelled = is.spelled }; place = place; first = first; begins = refl });
+      has = (refl, record { parsed = parsed; spelled = spelled; place = place; first = first; begins = refl });
       only = by_tokens file tokens are (λ other. other ≡ Names why (here place)) (record {
         stops = λ byte p begins h. absurd (is.goes_on p h);
         ends = λ h. absurd (is.goes_on (length tokens) h);
         passes = λ kind byte p begins h. absurd (is.within kind p h);
-        names = λ other there v h f. same other there (faults other there (subst (λ (v : Parsed). IsFirstFault (name_at file tokens) v other there) (is.only v h) f));
-        beyond = λ v h sound e. absurd ((subst (λ (v : Parsed). HasSoundNames file tokens v) (is.only v h) sound).none why place first.fault);
+        names = λ other there v h f. same other there (faults other there (first_in other there v h f));
+        beyond = λ v h sound e. absurd ((sound_in v h sound).none why place first.fault);
       });
-      refused = λ h. (subst (λ (v : Parsed). HasSoundNames file tokens v) (is.only h.names.parsed (accepted_by h)) (sound_by file tokens are h.resolved h.names)).none why place first.fault;
+      refused = λ h. (sound_in h.names.parsed (accepted_by h) (sound_by file tokens are h.resolved h.names)).none why place first.fault;
     }
       where
-        here : ℕ → At
-        here place = at_byte file (start_of file (slice_get tokens place))
-
         same : (other : NameWhy) (there : ℕ) → (name_err.Fault why place ≡ name_err.Fault other there) ⊎ (name_err.Fault why place ≡ name_err.Memory)
             → Names other (here there) ≡ Names why (here place)
         same other there (inl e) =
@@ -174,36 +182,39 @@ module _ (file : List ℕ) (tokens : List Token) (are : AreTokensOf file tokens)
             ap (λ w. Names w (here there)) why_is ∙ ap (λ p. Names why (here p)) place_is
         same other there (inr e) = cc
 
-    module _ (resolved : Resolved) (names : IsResolvedOf file tokens parsed resolved) where
+    module _ (resolved : Resolved) (means : IsResolvedOf file tokens parsed resolved) where
+      abbrev names : IsResolved file resolved
+      names = record { parsed = parsed; spelled = spelled; sound = means.sound; means = means.means }
+
+      no_name_fault : (why : NameWhy) (place : ℕ) (v : Parsed) → SpellsFile (terminals_of file tokens) v → IsFirstFault (name_at file tokens) v why place → ⊥
+      no_name_fault why place v h first = means.sound.none why place (first_in why place v h first).fault
+
       -- what goes beyond today's questions
       pub beyond_only : questions_of parsed ≡ None → IsOnlyFault file NotYet
       beyond_only none = record {
-        has = record { resolved = resolved; names = record { parsed = parsed; spelled = record { tokens = tokens; lexed = are.lexed; spelled = is.spelled }; sound = names.sound; means = names.means }; beyond = none };
+        has = record { resolved = resolved; names = names; beyond = none };
         only = by_tokens file tokens are (λ other. other ≡ NotYet) (record {
           stops = λ byte p begins h. absurd (is.goes_on p h);
           ends = λ h. absurd (is.goes_on (length tokens) h);
           passes = λ kind byte p begins h. absurd (is.within kind p h);
-          names = λ why p v h f. absurd (no_fault why p v h f);
+          names = λ why p v h first. absurd (no_name_fault why p v h first);
           beyond = λ v h sound e. refl;
         });
         refused = λ h. let same = is.only h.names.parsed (accepted_by h) in
             let some = h.questions in let e = ap questions_of same in cc;
       }
-        where
-          no_fault : (why : NameWhy) (p : ℕ) (v : Parsed) → SpellsFile (terminals_of file tokens) v → IsFirstFault (name_at file tokens) v why p → ⊥
-          no_fault why p v h f = names.sound.none why p (subst (λ (v : Parsed). IsFirstFault (name_at file tokens) v why p) (is.only v h) f).fault
 
       -- the questions of a file that goes nowhere beyond
       pub questions_only : (asks : List Ask) → questions_of parsed ≡ Some asks → AreQuestionsOf file asks
       questions_only asks some = record {
         resolved = resolved;
-        names = record { parsed = parsed; spelled = record { tokens = tokens; lexed = are.lexed; spelled = is.spelled }; sound = names.sound; means = names.means };
+        names = names;
         questions = some;
         faultless = by_tokens file tokens are (λ fault. ⊥) (record {
           stops = λ byte p begins h. is.goes_on p h;
           ends = λ h. is.goes_on (length tokens) h;
           passes = λ kind byte p begins h. is.within kind p h;
-          names = λ why p v h f. names.sound.none why p (subst (λ (v : Parsed). IsFirstFault (name_at file tokens) v why p) (is.only v h) f).fault;
+          names = no_name_fault;
           beyond = λ v h sound none. let e = ap questions_of (is.only v h) in cc;
         });
       }
