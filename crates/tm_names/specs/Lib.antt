@@ -15,4 +15,4 @@ pub mod Found
 pub mod Closures
 pub mod FileFaults
 pub mod Checking
-pub mod Directories
+pub mod Indexing

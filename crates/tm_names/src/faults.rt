@@ -5,7 +5,7 @@ ghost use Rattle.tm_names.specs.FileFaults.{file_faults};
 ghost use Rattle.tm_names.specs.Found.{decl_faults, scope_faults};
 ghost use Rattle.tm_names.specs.Least.{earliest};
 ghost use Rattle.tm_names.specs.Scopes.{ask_mentions, bound_mentions, outer_scope};
-ghost use Rattle.tm_names.specs.Directories.{IsIndexed};
+ghost use Rattle.tm_names.specs.Indexing.{IsIndexed};
 ghost use Rattle.tm_names.specs.Source.{names_in};
 
 use crate::adding::add;

@@ -2,7 +2,7 @@ ghost use Rattle.std.specs.Prelude.{◌≡◌, ◌++◌, IfOk, OnOk, filter_map,
 ghost use Rattle.std.specs.List.{range_with_len};
 ghost use Rattle.tm_names.specs.Closures.{held_number, is_number_among, row_of, rows_of};
 ghost use Rattle.tm_names.specs.Scopes.{decl_mentions, variant_mentions};
-ghost use Rattle.tm_names.specs.Directories.{IsIndexed};
+ghost use Rattle.tm_names.specs.Indexing.{IsIndexed};
 ghost use Rattle.tm_names.specs.Source.{names_in};
 
 use crate::adding::add;

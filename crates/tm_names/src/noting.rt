@@ -3,7 +3,7 @@ ghost use Rattle.tm_names.specs.Found.{arity_faults, mention_faults, name_faults
 ghost use Rattle.tm_names.specs.Holding.{first_named};
 ghost use Rattle.tm_names.specs.Least.{earliest};
 ghost use Rattle.tm_names.specs.Scopes.{is_in_sight};
-ghost use Rattle.tm_names.specs.Directories.{IsIndexed};
+ghost use Rattle.tm_names.specs.Indexing.{IsIndexed};
 ghost use Rattle.tm_names.specs.Source.{names_in};
 
 use crate::definitions::first_named;

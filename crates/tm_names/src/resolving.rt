@@ -1,7 +1,7 @@
 ghost use Rattle.std.specs.Prelude.{◌≡◌, IfOk, map, pos};
 ghost use Rattle.tm_names.specs.Discriminants.{valued};
 ghost use Rattle.tm_names.specs.Resolutions.{ask_of, bound_of, decl_types, def_of, field_of, regions_of, resolved_of, text_or_none, variant_of, variant_types};
-ghost use Rattle.tm_names.specs.Directories.{IsIndexed};
+ghost use Rattle.tm_names.specs.Indexing.{IsIndexed};
 ghost use Rattle.tm_names.specs.Source.{IsTokenized, names_in};
 
 use crate::adding::add;
