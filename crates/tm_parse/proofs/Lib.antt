@@ -42,5 +42,6 @@ pub mod WithinLimits
 pub mod VariantBounds
 pub mod Worked
 pub mod WorkedLimits
+pub mod WorkedBounds
 mod Spans
 mod Tables
