@@ -44,7 +44,7 @@ pub record HasFewParts (definition : Decl) : Type 0 where
 
 -- what holds of each type that a field has, and of both types of each question
 pub record EachType (Is : Expr → Type 0) (file : Parsed) : Type 0 where
-  pub fields : All (λ definition. All (λ field. Is field.ty) (fields_of definition.variants)) file.decls
+  pub fields : All (λ definition. All (λ variant. All (λ field. Is field.ty) variant.fields) definition.variants) file.decls
   pub questions : All (λ question. Is question.src × Is question.dst) file.questions
 
 -- there are no more types written in one, itself among them, than the limit allows
