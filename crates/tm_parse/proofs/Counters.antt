@@ -1,9 +1,8 @@
 -- The counts that stay within their limits, each with the weights of the marks that it goes up by.
-use Rattle.std.proofs.Common.{◌≡◌, ℕ, zero, suc, ◌+◌, ◌≤◌, refl, arith}
+use Rattle.std.proofs.Common.{ℕ, zero, arith}
 use Rattle.tm_base.specs.declared.limit.LimitKind.TheVariants as limit
-use Rattle.tm_parse.proofs.Weights.{marked, Holds, Counter}
+use Rattle.tm_parse.proofs.Weights.{Counter}
 use Rattle.tm_parse.specs.Events.{Mark, a_definition, a_question, a_lifetime, a_parameter, a_field, a_variant, a_type}
-use Rattle.tm_parse.specs.declared.counts.Counts.{Counts}
 
 -- 1 for a mark of the kind
 abbrev pub definitions : Mark → ℕ

@@ -1,10 +1,10 @@
 -- What is kept of each outermost type is kept of each type that a file has as a field or in a question.
-use Rattle.std.proofs.Common.{ℕ, subst, sym, Bool, Option, Some, None, IfSome, List, [], ◌∷◌, All, append-nil}
+use Rattle.std.proofs.Common.{ℕ, Bool, Option, Some, None, IfSome, List, [], All}
 use Rattle.std.proofs.lemmas.List.Elements.{All-nil, All-cons}
 use Rattle.tm_parse.proofs.FileKeeping.{KeptItem, definitions_and_questions, kept_of_file}
 use Rattle.tm_parse.proofs.Keeping.{Keeps, skipped, to_keeps, seq_keeps, or_keeps, mark_keeps, listed_keeps, listed1_keeps, optional_keeps}
 use Rattle.tm_parse.specs.Accepted.{IsFile}
-use Rattle.tm_parse.specs.Bounds.{fields_of, EachType}
+use Rattle.tm_parse.specs.Bounds.{EachType}
 use Rattle.tm_parse.specs.Combinators.{counts_as}
 use Rattle.tm_parse.specs.Definitions.{field, place, variant_field, variant_place, variant_fields, variant, variant_of, single, struct_body, union_body, enum_body, headed_any, together, definition}
 use Rattle.tm_parse.specs.Events.{a_type}

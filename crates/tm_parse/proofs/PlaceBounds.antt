@@ -1,5 +1,5 @@
 -- Each place of a file is that of a terminal.
-use Rattle.std.proofs.Common.{◌≡◌, ℕ, zero, suc, ◌+◌, ◌<◌, refl, subst, Bool, Option, Some, None, IfSome, List, [], ◌∷◌, ◌++◌, length, map, All, ◌≤◌, arith}
+use Rattle.std.proofs.Common.{ℕ, ◌+◌, ◌<◌, Bool, Option, Some, None, IfSome, List, [], ◌∷◌, length, map, All, ◌≤◌, arith}
 use Rattle.std.proofs.lemmas.List.Elements.{All-nil, All-cons, All-append, All-head, All-tail, All-map}
 use Rattle.std.specs.List.{enumerate_from}
 use Rattle.tm_lex.specs.declared.token.Token.{Token}

@@ -1,5 +1,5 @@
 -- The places of tokens that a file has: where a name, a lifetime or a `repr` is written.
-use Rattle.std.specs.Prelude.{ℕ, IfSome, Bool, List, [], ◌∷◌, All}
+use Rattle.std.specs.Prelude.{ℕ, IfSome, List, [], ◌∷◌, All}
 use Rattle.tm_parse.specs.Bounds.{EachWritten}
 use Rattle.tm_parse.specs.declared.parsed.Decl.{Decl}
 use Rattle.tm_parse.specs.declared.parsed.DeclAsk.{DeclAsk}
