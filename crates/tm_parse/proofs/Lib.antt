@@ -30,6 +30,7 @@ pub mod FileBounds
 pub mod Keeping
 pub mod FileKeeping
 pub mod Without
+pub mod DefinitionMarks
 pub mod PartBounds
 pub mod WrittenLemmas
 pub mod TypeBounds

@@ -15,8 +15,8 @@ own_places (Named name lifetimes) = name ∷ lifetimes
 own_places (Ref' lifetime unique shape row) = lifetime ∷ []
 own_places other = []
 
+-- that each place is so, in a type and in each part of a file
 module _ (IsPlace : ℕ → Type 0) where
-  -- each place is so: in a type, and in the parts of a file
   abbrev pub PlacesOfType : Expr → Type 0
   PlacesOfType = EachWritten (λ inner. All IsPlace (own_places inner))
 
