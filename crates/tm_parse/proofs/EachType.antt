@@ -1,10 +1,10 @@
 -- What is kept of each outermost type is kept of each type that a file has as a field or in a question.
-use Rattle.std.proofs.Common.{ℕ, subst, sym, Bool, Option, Some, None, IfSome, List, [], ◌∷◌, All, append-nil}
-use Rattle.std.proofs.lemmas.List.Elements.{All-nil, All-append, All-head, All-tail}
+use Rattle.std.proofs.Common.{ℕ, Bool, Option, Some, None, IfSome, List, [], All}
+use Rattle.std.proofs.lemmas.List.Elements.{All-nil, All-cons}
 use Rattle.tm_parse.proofs.FileKeeping.{KeptItem, definitions_and_questions, kept_of_file}
 use Rattle.tm_parse.proofs.Keeping.{Keeps, skipped, to_keeps, seq_keeps, or_keeps, mark_keeps, listed_keeps, listed1_keeps, optional_keeps}
 use Rattle.tm_parse.specs.Accepted.{IsFile}
-use Rattle.tm_parse.specs.Bounds.{fields_of, EachType}
+use Rattle.tm_parse.specs.Bounds.{EachType}
 use Rattle.tm_parse.specs.Combinators.{counts_as}
 use Rattle.tm_parse.specs.Definitions.{field, place, variant_field, variant_place, variant_fields, variant, variant_of, single, struct_body, union_body, enum_body, headed_any, together, definition}
 use Rattle.tm_parse.specs.Events.{a_type}
@@ -31,7 +31,7 @@ module _ (K : Expr → Type 0) where
   OfField field = K field.ty
 
   abbrev OfVariants : List DeclVariant → Type 0
-  OfVariants variants = All OfField (fields_of variants)
+  OfVariants variants = All (λ v. All OfField v.fields) variants
 
   abbrev OfDefinition : Decl → Type 0
   OfDefinition definition = OfVariants definition.variants
@@ -40,7 +40,7 @@ module _ (K : Expr → Type 0) where
   OfQuestion question = K question.src × K question.dst
 
   of-single : (fields : List DeclField) → All OfField fields → OfVariants (single fields)
-  of-single fields h = subst (All OfField) (sym (append-nil fields)) h
+  of-single fields h = All-cons (λ v. All OfField v.fields) _ [] h (All-nil (λ v. All OfField v.fields))
 
   of-none : (fields : Option (List DeclField)) → IfSome fields (All OfField) → All OfField (or_none fields)
   of-none None h = All-nil OfField
@@ -49,10 +49,6 @@ module _ (K : Expr → Type 0) where
   of-variant : (name : Terminal) (fields : Option (List DeclField)) (d : Option (Bool × ℕ)) → IfSome fields (All OfField) → All OfField (variant_of name fields d).fields
   of-variant name fields None h = of-none fields h
   of-variant name fields (Some d) h = of-none fields h
-
-  of-variants : (variants : List DeclVariant) → All (λ v. All OfField v.fields) variants → OfVariants variants
-  of-variants [] h = All-nil OfField
-  of-variants (v ∷ vs) h = All-append OfField v.fields (fields_of vs) (All-head (λ v. All OfField v.fields) v vs h) (of-variants vs (All-tail (λ v. All OfField v.fields) v vs h))
 
   module _ (Is : Terminal → Type 0) (keeps : KeepsTypes Is K) (levels : ℕ) where
     of-field : Keeps Is OfField (field levels).spells
@@ -77,7 +73,7 @@ module _ (K : Expr → Type 0) where
     of-each-variant = mark_keeps (to_keeps (seq_keeps skipped (seq_keeps (optional_keeps of-variant-fields) skipped)) (λ v k. of-variant v.0 v.1.0 v.1.1 k.1.0))
 
     of-struct : Keeps Is OfVariants (struct_body levels).spells
-    of-struct = or_keeps (to_keeps skipped (λ v k. All-nil OfField))
+    of-struct = or_keeps (to_keeps skipped (λ v k. of-single [] (All-nil OfField)))
         (or_keeps (to_keeps (to_keeps {L = All OfField} (seq_keeps skipped (seq_keeps (listed_keeps of-field) skipped)) (λ v k. k.1.0)) of-single)
         (to_keeps (seq_keeps (to_keeps {L = All OfField} (seq_keeps skipped (seq_keeps (listed_keeps of-place) skipped)) (λ v k. k.1.0)) skipped) (λ v k. of-single v.0 k.0)))
 
@@ -85,7 +81,7 @@ module _ (K : Expr → Type 0) where
     of-union = to_keeps (to_keeps {L = All OfField} (seq_keeps skipped (seq_keeps (listed1_keeps of-field) skipped)) (λ v k. k.1.0)) of-single
 
     of-enum : Keeps Is OfVariants (enum_body levels).spells
-    of-enum = to_keeps (seq_keeps skipped (seq_keeps (listed_keeps of-each-variant) skipped)) (λ v k. of-variants v.1.0 k.1.0)
+    of-enum = to_keeps (seq_keeps skipped (seq_keeps (listed_keeps of-each-variant) skipped)) (λ v k. k.1.0)
 
     abbrev Headed : (List DeclRepr → Decl) → Type 0
     Headed d = (reprs : List DeclRepr) → OfDefinition (d reprs)

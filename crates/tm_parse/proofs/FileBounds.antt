@@ -47,24 +47,15 @@ lifetime-items levels = or_least (to_least (seq_least any_least (seq_least (mark
 
 definitions-sorted : (items : List Item) → length (sorted items).decls ≤ total definition_items items
 definitions-sorted [] = omega arith
-definitions-sorted (sort.Lifetime t ∷ items) = let others = definitions-sorted items in omega (arith, others)
-definitions-sorted (sort.Outlives b ∷ items) = let others = definitions-sorted items in omega (arith, others)
-definitions-sorted (sort.Definition d ∷ items) = let others = definitions-sorted items in omega (arith, others)
-definitions-sorted (sort.Question q ∷ items) = let others = definitions-sorted items in omega (arith, others)
+definitions-sorted (i ∷ items) = let others = definitions-sorted items in grind (arith, others)
 
 questions-sorted : (items : List Item) → length (sorted items).questions ≤ total question_items items
 questions-sorted [] = omega arith
-questions-sorted (sort.Lifetime t ∷ items) = let others = questions-sorted items in omega (arith, others)
-questions-sorted (sort.Outlives b ∷ items) = let others = questions-sorted items in omega (arith, others)
-questions-sorted (sort.Definition d ∷ items) = let others = questions-sorted items in omega (arith, others)
-questions-sorted (sort.Question q ∷ items) = let others = questions-sorted items in omega (arith, others)
+questions-sorted (i ∷ items) = let others = questions-sorted items in grind (arith, others)
 
 lifetimes-sorted : (items : List Item) → length (sorted items).lifetimes ≤ total lifetime_items items
 lifetimes-sorted [] = omega arith
-lifetimes-sorted (sort.Lifetime t ∷ items) = let others = lifetimes-sorted items in omega (arith, others)
-lifetimes-sorted (sort.Outlives b ∷ items) = let others = lifetimes-sorted items in omega (arith, others)
-lifetimes-sorted (sort.Definition d ∷ items) = let others = lifetimes-sorted items in omega (arith, others)
-lifetimes-sorted (sort.Question q ∷ items) = let others = lifetimes-sorted items in omega (arith, others)
+lifetimes-sorted (i ∷ items) = let others = lifetimes-sorted items in grind (arith, others)
 
 file-definitions : (levels : ℕ) → AtLeast definitions (λ v. length v.decls) (file levels).spells
 file-definitions levels = to_least (many_least (definition-items levels)) definitions-sorted

@@ -1,5 +1,5 @@
 -- What is kept of each item is kept of a file's items of each sort.
-use Rattle.std.proofs.Common.{◌≡◌, ℕ, refl, sym, subst, List, [], ◌∷◌, All}
+use Rattle.std.proofs.Common.{ℕ, sym, subst, List, [], ◌∷◌, All}
 use Rattle.std.proofs.lemmas.List.Elements.{All-nil, All-cons, All-head, All-tail}
 use Rattle.tm_parse.proofs.Keeping.{each-terminals, IsGood, Keeps, skipped, to_keeps, or_keeps, many_keeps}
 use Rattle.tm_parse.specs.Accepted.{IsFile}

@@ -30,6 +30,7 @@ pub mod FileBounds
 pub mod Keeping
 pub mod FileKeeping
 pub mod Without
+pub mod DefinitionMarks
 pub mod PartBounds
 pub mod WrittenLemmas
 pub mod TypeBounds
@@ -42,5 +43,6 @@ pub mod WithinLimits
 pub mod VariantBounds
 pub mod Worked
 pub mod WorkedLimits
+pub mod WorkedBounds
 mod Spans
 mod Tables

@@ -1,12 +1,13 @@
 -- Each definition has no more parts of each sort than the limits allow.
-use Rattle.std.proofs.Common.{◌≡◌, ℕ, ◌≤◌, refl, sym, ap, ◌∙◌, subst, Bool, Option, Some, None, List, [], ◌∷◌, ◌++◌, length, length-append, append-nil, arith, ◌⊎◌, inl, inr}
+use Rattle.std.proofs.Common.{◌≡◌, ℕ, ◌≤◌, sym, ap, ◌∙◌, subst, Bool, Option, Some, None, List, [], ◌∷◌, ◌++◌, length, length-append, append-nil, arith, ◌⊎◌, inl, inr}
 use Rattle.tm_base.specs.declared.definition.Kind.{Kind}
 use Rattle.tm_base.specs.declared.definition.Kind.TheVariants as kind
 use Rattle.tm_parse.proofs.Counters.{definitions, parameters, fields, variants, parameter_counter, field_counter, variant_counter}
+use Rattle.tm_parse.proofs.DefinitionMarks.{parameters_without, struct_without, union_without, enum_without}
 use Rattle.tm_parse.proofs.Keeping.{Keeps, skipped, to_keeps, seq_keeps, or_keeps}
 use Rattle.tm_parse.proofs.Least.{Spells, AtLeast, total, total_if, total-one, total-places, any_least, fewer, to_least, seq_least, or_least, mark_least, listed_least, listed1_least, optional_least}
 use Rattle.tm_parse.proofs.Weights.{weigh, weigh-append, marked, behind_mark, counter_within}
-use Rattle.tm_parse.proofs.Without.{Without, one_without, to_without, seq_without, or_without, mark_without, optional_without, listed_without, listed1_without, behind_without, plain_without, type_without}
+use Rattle.tm_parse.proofs.Without.{Without, one_without, seq_without}
 use Rattle.tm_parse.specs.Bounds.{fields_of, HasFewParts}
 use Rattle.tm_parse.specs.Definitions as d
 use Rattle.tm_parse.specs.Events.{a_definition, Event, mark}
@@ -14,7 +15,7 @@ use Rattle.tm_parse.specs.Limits.{Within, count}
 use Rattle.tm_parse.specs.Combinators.{◌>>◌}
 use Rattle.tm_parse.specs.Parts.{Part}
 use Rattle.tm_parse.specs.Shapes.{any, the}
-use Rattle.tm_parse.specs.Types.{definition_names, or_none, SpellsType}
+use Rattle.tm_parse.specs.Types.{definition_names, or_none}
 use Rattle.tm_parse.specs.declared.class.Class.{Class}
 use Rattle.tm_parse.specs.declared.class.Class.TheVariants as c
 use Rattle.tm_parse.specs.declared.counts.Counts.{Counts}
@@ -23,46 +24,6 @@ use Rattle.tm_parse.specs.declared.parsed.DeclField.{DeclField}
 use Rattle.tm_parse.specs.declared.parsed.DeclRepr.{DeclRepr}
 use Rattle.tm_parse.specs.declared.parsed.DeclVariant.{DeclVariant}
 use Rattle.tm_parse.specs.declared.terminal.Terminal.{Terminal}
-
--- no definition begins within one
-
-parameters-without : Without definitions (d.parameters).spells
-parameters-without = to_without (optional_without (to_without (seq_without one_without (seq_without (listed1_without (mark_without refl one_without)) one_without))))
-
-module _ (levels : ℕ) where
-  types : (depth : ℕ) → Without definitions (SpellsType depth levels)
-  types depth = type_without levels depth (λ k l. refl)
-
-  visibility-without : Without definitions (d.visibility).spells
-  visibility-without = to_without (seq_without one_without (optional_without (to_without (seq_without one_without (seq_without one_without one_without)))))
-
-  field-without : Without definitions (d.field levels).spells
-  field-without = mark_without refl (to_without (seq_without (optional_without visibility-without) (seq_without one_without (seq_without one_without (types 0)))))
-
-  place-without : Without definitions (d.place levels).spells
-  place-without = mark_without refl (or_without (to_without (types 0)) (to_without (seq_without one_without
-      (or_without (to_without (mark_without refl (plain_without (types 1)))) (to_without (seq_without one_without
-      (or_without (to_without (seq_without one_without (seq_without one_without (types 0)))) (to_without (mark_without refl (behind_without (types 1)))))))))))
-
-  variant-fields-without : Without definitions (d.variant_fields levels).spells
-  variant-fields-without = or_without (to_without (seq_without one_without (seq_without (listed_without (mark_without refl (to_without (seq_without one_without (seq_without one_without (types 0)))))) one_without)))
-      (to_without (seq_without one_without (seq_without (listed_without (mark_without refl (to_without (types 0)))) one_without)))
-
-  discriminant-without : Without definitions (d.discriminant).spells
-  discriminant-without = to_without (seq_without one_without (seq_without (optional_without one_without) one_without))
-
-  variant-without : Without definitions (d.variant levels).spells
-  variant-without = mark_without refl (to_without (seq_without one_without (seq_without (optional_without variant-fields-without) (optional_without discriminant-without))))
-
-  struct-without : Without definitions (d.struct_body levels).spells
-  struct-without = or_without (to_without one_without) (or_without (to_without (to_without (seq_without one_without (seq_without (listed_without field-without) one_without))))
-      (to_without (seq_without (to_without (seq_without one_without (seq_without (listed_without place-without) one_without))) one_without)))
-
-  union-without : Without definitions (d.union_body levels).spells
-  union-without = to_without (to_without (seq_without one_without (seq_without (listed1_without field-without) one_without)))
-
-  enum-without : Without definitions (d.enum_body levels).spells
-  enum-without = to_without (seq_without one_without (seq_without (listed_without variant-without) one_without))
 
 -- parameters and fields are counted, each by a mark
 
@@ -153,7 +114,7 @@ module _ (Is : Terminal → Type 0) (what : Kind) (class : Class) (body : Part (
   inner = the class >> any definition_names >> d.parameters >> body
 
   inner-without : Without definitions inner.spells
-  inner-without = seq_without one_without (seq_without one_without (seq_without parameters-without none))
+  inner-without = seq_without one_without (seq_without one_without (seq_without parameters_without none))
 
   inner-parameters : AtLeast parameters (λ v. length v.1.1.0) inner.spells
   inner-parameters = fewer (seq_least any_least (seq_least any_least (seq_least parameters-least any_least))) (λ v. omega arith)
@@ -181,9 +142,9 @@ module _ (Is : Terminal → Type 0) (what : Kind) (class : Class) (body : Part (
 
 module _ (Is : Terminal → Type 0) (levels : ℕ) where
   headed-parts : Keeps Is Headed (d.headed_any levels).spells
-  headed-parts = or_keeps (head Is kind.Struct c.Struct (d.struct_body levels) (struct-without levels) (struct-least levels) (struct-few levels))
-      (or_keeps (head Is kind.Union c.Union (d.union_body levels) (union-without levels) (union-least levels) (union-few levels))
-      (head Is kind.Enum c.Enum (d.enum_body levels) (enum-without levels) (enum-least levels) (enum-few levels)))
+  headed-parts = or_keeps (head Is kind.Struct c.Struct (d.struct_body levels) (struct_without levels) (struct-least levels) (struct-few levels))
+      (or_keeps (head Is kind.Union c.Union (d.union_body levels) (union_without levels) (union-least levels) (union-few levels))
+      (head Is kind.Enum c.Enum (d.enum_body levels) (enum_without levels) (enum-least levels) (enum-few levels)))
 
   pub definition_parts : Keeps Is HasFewParts (d.definition levels).spells
   definition_parts = to_keeps (seq_keeps skipped (seq_keeps skipped headed-parts)) (λ v k. k.1.1 (d.together v.0))

@@ -1,5 +1,5 @@
 -- Each place of a file is that of a terminal.
-use Rattle.std.proofs.Common.{◌≡◌, ℕ, zero, suc, ◌+◌, ◌<◌, refl, subst, Bool, Option, Some, None, IfSome, List, [], ◌∷◌, ◌++◌, length, All, arith}
+use Rattle.std.proofs.Common.{ℕ, ◌+◌, ◌<◌, Bool, Option, Some, None, IfSome, List, [], ◌∷◌, length, map, All, ◌≤◌, arith}
 use Rattle.std.proofs.lemmas.List.Elements.{All-nil, All-cons, All-append, All-head, All-tail, All-map}
 use Rattle.std.specs.List.{enumerate_from}
 use Rattle.tm_lex.specs.declared.token.Token.{Token}
@@ -145,3 +145,11 @@ module _ (IsPlace : ℕ → Type 0) where
   places_kept v ts after f h =
       let kept = kept_of_file IsPlace (PlacesOfBound IsPlace) (PlacesOfDefinition IsPlace) (PlacesOfQuestion IsPlace) At of-item v ts after f h in
       record { lifetimes = kept.lifetimes; bounds = kept.bounds; definitions = kept.definitions; questions = kept.questions }
+
+-- the terminals of a text's tokens have the tokens' places
+placed : (text : List ℕ) (n last : ℕ) (tokens : List Token) → n + length tokens ≤ last → All (λ t. t.place < last) (map (terminal_of text) (enumerate_from n tokens))
+placed text n last [] l = All-nil (λ t. t.place < last)
+placed text n last (token ∷ tokens) l = All-cons (λ t. t.place < last) (terminal_of text (n, token)) (map (terminal_of text) (enumerate_from (n + 1) tokens)) (omega (arith, l)) (placed text (n + 1) last tokens (omega (arith, l)))
+
+pub terminals_placed : (text : List ℕ) (tokens : List Token) → All (λ t. t.place < length tokens) (terminals_of text tokens)
+terminals_placed text tokens = placed text 0 (length tokens) tokens (omega arith)

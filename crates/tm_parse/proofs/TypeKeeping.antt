@@ -1,5 +1,5 @@
 -- What is kept of each type that is written in another.
-use Rattle.std.proofs.Common.{◌≡◌, ℕ, zero, suc, refl, sym, subst, Bool, true, Option, Some, None, IfSome, List, [], ◌∷◌, ◌++◌, All}
+use Rattle.std.proofs.Common.{◌≡◌, ℕ, zero, suc, refl, sym, subst, Bool, true, Option, Some, None, IfSome, List, [], ◌∷◌, All}
 use Rattle.std.proofs.lemmas.List.Elements.{All-nil, All-cons, All-append, All-head, All-tail}
 use Rattle.std.specs.List.{flat_map}
 use Rattle.tm_base.specs.declared.ground.Primitive.{Primitive}
@@ -10,7 +10,6 @@ use Rattle.tm_parse.proofs.Least.{Spells}
 use Rattle.tm_parse.proofs.WrittenLemmas.{written-Prim, written-Never, written-Tuple, written-Array, written-NonZero, written-Wrap, written-Named, written-Ref}
 use Rattle.tm_parse.specs.Bounds.{EachWritten}
 use Rattle.tm_parse.specs.Classes.{among}
-use Rattle.tm_parse.specs.Shapes.{the, optional}
 use Rattle.tm_parse.specs.Types.{integer, alias, primitive_of, lifetimes, places, or_none, tuple_or_inner, behind_paren, plain_type, one_level, type_part, read_none, SpellsType}
 use Rattle.tm_parse.specs.Written.{written}
 use Rattle.tm_parse.specs.declared.parsed.Expr.{Expr}

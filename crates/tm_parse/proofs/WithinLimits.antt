@@ -1,10 +1,11 @@
 -- What every file keeps that is spelled within the limits, and so what is returned.
-use Rattle.std.proofs.Common.{List, All}
+use Rattle.std.proofs.Common.{ℕ, ◌<◌, List, All}
 use Rattle.std.specs.Prelude.{Result, Ok, Err, IfOk}
 use Rattle.tm_parse.proofs.EachType.{each_type}
 use Rattle.tm_parse.proofs.FileBounds.{has_few_items}
 use Rattle.tm_parse.proofs.FileKeeping.{kept_definitions}
 use Rattle.tm_parse.proofs.PartBounds.{definition_parts}
+use Rattle.tm_parse.proofs.PlaceBounds.{places_kept}
 use Rattle.tm_parse.proofs.Returning.{file_returned}
 use Rattle.tm_parse.proofs.TypeBounds.{keeps_small}
 use Rattle.tm_parse.proofs.TypeIntegers.{keeps_integers}
@@ -12,6 +13,7 @@ use Rattle.tm_parse.proofs.VariantBounds.{definition_variants}
 use Rattle.tm_parse.specs.Accepted.{IsFile}
 use Rattle.tm_parse.specs.Bounds.{HasItsVariants, HasFewParts, EachType, IsSmall, HasIntegers, CarriesInteger, IsWithinLimits}
 use Rattle.tm_parse.specs.Parsing.{SpellsFile, IsAnswered}
+use Rattle.tm_parse.specs.Places.{EachPlace}
 use Rattle.tm_parse.specs.declared.counts.Counts.{Counts}
 use Rattle.tm_parse.specs.declared.parsed.Parsed.{Parsed}
 use Rattle.tm_parse.specs.declared.parsing.ParseErr.{ParseErr}
@@ -38,4 +40,11 @@ within_returned ts result carried answered = go result (file_returned ts result 
   where
     go : (result : Result Parsed ParseErr) → IfOk result (SpellsFile ts) → IfOk result IsWithinLimits
     go (Ok v) h = within_limits v ts h.after h.file carried
+    go (Err e) h = tt
+
+pub places_returned : (ts : List Terminal) (n : ℕ) (result : Result Parsed ParseErr) → All (λ t. t.place < n) ts → IsAnswered ts result → IfOk result (EachPlace (λ place. place < n))
+places_returned ts n result placed answered = go result (file_returned ts result answered)
+  where
+    go : (result : Result Parsed ParseErr) → IfOk result (SpellsFile ts) → IfOk result (EachPlace (λ place. place < n))
+    go (Ok v) h = places_kept (λ place. place < n) v ts h.after h.file placed
     go (Err e) h = tt

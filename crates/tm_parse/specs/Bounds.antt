@@ -16,7 +16,7 @@ use Rattle.tm_parse.specs.declared.parsed.Expr.{Expr, NonZero}
 use Rattle.tm_parse.specs.declared.parsed.Parsed.{Parsed}
 use Rattle.tm_parse.specs.declared.terminal.Terminal.{Terminal}
 
--- there are no more items of each sort than the limits allow
+-- lifetimes, definitions and questions are no more than the limits allow
 pub record HasFewItems (file : Parsed) : Type 0 where
   pub lifetimes : length file.lifetimes ≤ most limit.Lifetimes
   pub definitions : length file.decls ≤ most limit.Definitions
@@ -36,7 +36,7 @@ pub record HasItsVariants (definition : Decl) : Type 0 where
 abbrev pub fields_of : List DeclVariant → List DeclField
 fields_of = flat_map (λ variant. variant.fields)
 
--- there are no more parts of each sort in a definition than the limits allow
+-- a definition's parameters, its variants, and the fields of all of them, are no more than the limits allow
 pub record HasFewParts (definition : Decl) : Type 0 where
   pub parameters : length definition.params ≤ most limit.Parameters
   pub variants : length definition.variants ≤ most limit.Variants
@@ -44,10 +44,10 @@ pub record HasFewParts (definition : Decl) : Type 0 where
 
 -- what holds of each type that a field has, and of both types of each question
 pub record EachType (Is : Expr → Type 0) (file : Parsed) : Type 0 where
-  pub fields : All (λ definition. All (λ field. Is field.ty) (fields_of definition.variants)) file.decls
+  pub fields : All (λ definition. All (λ variant. All (λ field. Is field.ty) variant.fields) definition.variants) file.decls
   pub questions : All (λ question. Is question.src × Is question.dst) file.questions
 
--- there are no more types written in one, itself among them, than the limit allows
+-- the types that are written in one, itself among them, are no more than the limit allows
 pub record IsSmall (type : Expr) : Type 0 where
   pub nodes : length (written type) ≤ most limit.TypeNodes
 

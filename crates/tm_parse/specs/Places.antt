@@ -1,5 +1,5 @@
 -- The places of tokens that a file has: where a name, a lifetime or a `repr` is written.
-use Rattle.std.specs.Prelude.{ℕ, IfSome, Bool, List, [], ◌∷◌, All}
+use Rattle.std.specs.Prelude.{ℕ, IfSome, List, [], ◌∷◌, All}
 use Rattle.tm_parse.specs.Bounds.{EachWritten}
 use Rattle.tm_parse.specs.declared.parsed.Decl.{Decl}
 use Rattle.tm_parse.specs.declared.parsed.DeclAsk.{DeclAsk}
@@ -15,8 +15,8 @@ own_places (Named name lifetimes) = name ∷ lifetimes
 own_places (Ref' lifetime unique shape row) = lifetime ∷ []
 own_places other = []
 
+-- that each place is so, in a type and in each part of a file
 module _ (IsPlace : ℕ → Type 0) where
-  -- each place is so: in a type, and in the parts of a file
   abbrev pub PlacesOfType : Expr → Type 0
   PlacesOfType = EachWritten (λ inner. All IsPlace (own_places inner))
 

@@ -24,6 +24,11 @@ pub fn grammar_is_exact()
 {}
 
 /// What each file keeps that is spelled within the limits.
+///
+/// It has few items of each sort, and each definition few parts of each sort, as the limits say. A struct is
+/// one variant, so is a union, and each variant of an enum has a name. Few types are written in one, and
+/// each `NonZero` is of an integer type where the terminals for integer types carry one. Each place is that
+/// of a terminal.
 pub fn files_keep_limits()
     ensures items { (v : File) (ts : List Sign) (after : CountsValue) → IsFile v ts after → HasFewItems v }
     ensures variants { (v : File) (ts : List Sign) (after : CountsValue) → IsFile v ts after → All HasItsVariants v.decls }

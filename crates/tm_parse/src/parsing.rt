@@ -1,7 +1,8 @@
-ghost use Rattle.std.specs.Prelude.{◌≡◌, ◌≤◌, ℕ, ◌-◌, ◌⊎◌, length, List, IfOk, IfErr, MatchResult};
+ghost use Rattle.std.specs.Prelude.{◌≡◌, ◌<◌, ◌≤◌, ℕ, ◌-◌, ◌⊎◌, length, List, IfOk, IfErr, MatchResult};
 ghost use Rattle.tm_lex.specs.Lexes.{Tokenizes};
 ghost use Rattle.tm_parse.specs.Bounds.{IsWithinLimits};
 ghost use Rattle.tm_parse.specs.Parsing.{HasCause, IsAnswered, PassesLimitAt, SpellsFile, StopsAt};
+ghost use Rattle.tm_parse.specs.Places.{EachPlace};
 ghost use Rattle.tm_parse.specs.Spelling.{terminals_of};
 ghost use Rattle.tm_base.specs.declared.limit.LimitKind.{LimitKind as Kind};
 ghost use Rattle.tm_parse.specs.declared.parsed.Parsed.{Parsed as File};
@@ -72,7 +73,8 @@ fn whole_file(alloc: Global, count: u32, terminals: &[Terminal]) -> Result<Parse
 
 /// The file that a text's tokens spell.
 ///
-/// The tokens are those that `tm_lex::lex` answers for the text. `At(place)` comes exactly where the token
+/// The tokens are those that `tm_lex::lex` answers for the text. The file is within the limits, and its places
+/// are those of tokens. `At(place)` comes exactly where the token
 /// at the place is the first with which no file of the grammar goes on, and no limit is passed before it;
 /// where no token is missing but the file's end comes too early, the place is the number of tokens.
 /// `Limit(kind, place)` comes exactly where the token at the place is the first that passes a limit and a
@@ -81,6 +83,7 @@ pub fn parse(alloc: Global, text: &str, tokens: &[Token]) -> Result<Parsed, Pars
     requires { Tokenizes text.now tokens.now }
     ensures file { IfOk result (SpellsFile (terminals_of text.now tokens.now)) }
     ensures within { IfOk result IsWithinLimits }
+    ensures places { IfOk result (EachPlace (λ place. place < length tokens.now)) }
     ensures cause { IfErr result (HasCause (terminals_of text.now tokens.now)) }
 
     // Tokens spell one file, stop at one place or pass a limit at one, which is answered where memory

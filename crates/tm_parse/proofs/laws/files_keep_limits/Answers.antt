@@ -1,8 +1,8 @@
+use Rattle.std.specs.Prelude.{◌<◌}
 use Rattle.tm_parse.proofs.FileBounds.{has_few_items}
 use Rattle.tm_parse.proofs.PlaceBounds.{places_kept}
 use Rattle.tm_parse.proofs.WithinLimits.{variants_kept, parts_kept, types_kept, integers_kept}
 use Rattle.tm_parse.proofs.laws.files_keep_limits.Goals as goal
-use Rattle.std.specs.Prelude.{◌<◌}
 
 pub returns-clause-items : goal.returns-clause-items
 returns-clause-items c = has_few_items

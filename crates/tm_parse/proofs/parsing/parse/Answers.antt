@@ -1,6 +1,7 @@
 use Rattle.std.proofs.Common.{ap, length, subst, sym, ◌∙◌}
 use Rattle.tm_parse.proofs.Carried.{terminals_carry}
-use Rattle.tm_parse.proofs.WithinLimits.{within_returned}
+use Rattle.tm_parse.proofs.WithinLimits.{within_returned, places_returned}
+use Rattle.tm_parse.proofs.PlaceBounds.{terminals_placed}
 use Rattle.tm_parse.proofs.Returning.{file_returned, cause_returned, spelled_returned, fault_returned, limit_returned}
 use Rattle.tm_parse.proofs.Spans.{terminals_length}
 use Rattle.tm_parse.proofs.parsing.parse.Goals as goal
@@ -17,6 +18,10 @@ returns-clause-file c =
 pub returns-clause-within : goal.returns-clause-within
 returns-clause-within c =
     within_returned _ _ (terminals_carry c.args.text.now c.args.tokens.now) (subst (λ ts. IsAnswered ts c.whole_file.result) (c.as_slice.ensures.value ∙ c.in-Ok.ensures) c.whole_file.ensures)
+
+pub returns-clause-places : goal.returns-clause-places
+returns-clause-places c =
+    places_returned _ _ _ (terminals_placed c.args.text.now c.args.tokens.now) (subst (λ ts. IsAnswered ts c.whole_file.result) (c.as_slice.ensures.value ∙ c.in-Ok.ensures) c.whole_file.ensures)
 
 pub returns-clause-cause : goal.returns-clause-cause
 returns-clause-cause c =
