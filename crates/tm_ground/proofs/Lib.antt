@@ -1,0 +1,25 @@
+pub mod OpenLemmas
+pub mod SizeLemmas
+pub mod SameLemmas
+pub mod GrowLemmas
+pub mod KeyLemmas
+pub mod WrittenLemmas
+pub mod LoopLemmas
+pub mod ContainsLemmas
+pub mod OccursLemmas
+pub mod ClosingLemmas
+pub mod CollectingLemmas
+pub mod DepthLemmas
+pub mod ShallowLemmas
+pub mod PigeonLemmas
+pub mod NumberLemmas
+mod Worked
+pub mod StandsLemmas
+pub mod FormLemmas
+pub mod OccurringForm
+pub mod RowForm
+pub mod EndsLemmas
+pub mod HeadLemmas
+pub mod ShallowForm
+pub mod NumberedOnce
+pub mod TypesForm

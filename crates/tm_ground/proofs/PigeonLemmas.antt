@@ -1,0 +1,52 @@
+-- Distinct types that are all in a list are at most as many as the list has.
+use Rattle.std.proofs.Common.{◌≡◌, ◌≢◌, ℕ, zero, suc, ◌+◌, ◌<◌, ◌≤◌, sym, ◌∙◌, List, [], ◌∷◌, length, Contains, Some, slice_get, arith}
+use Rattle.std.proofs.lemmas.List.Elements.{All-contains}
+use Rattle.tm_base.specs.Whole.{AreDistinct}
+use Rattle.tm_ground.specs.Closed.{Closed}
+use Rattle.tm_ground.specs.Closing.{IsWhole}
+use Rattle.tm_ground.specs.Growing.{IsWithin}
+use Rattle.tm_ground.specs.Limits.{AreMoreThan}
+use Rattle.tm_ground.proofs.ContainsLemmas.{contains-nothing, contains-first, contains-behind, contains-at}
+
+-- the list without the type at a place
+without : ℕ → List Closed → List Closed
+without k [] = []
+without zero (y ∷ ys) = ys
+without (suc k) (y ∷ ys) = y ∷ without k ys
+
+length-without : (k : ℕ) (ys : List Closed) → k < length ys → length (without k ys) + 1 ≡ length ys
+unfolding without
+length-without k [] h = absurd (omega (arith, h))
+length-without zero (y ∷ ys) h = omega arith
+length-without (suc k) (y ∷ ys) h = omega (arith, length-without k ys (omega (arith, h)))
+
+without-contains : (k : ℕ) (ys : List Closed) (x z : Closed) → slice_get ys k ≡ Some x → Contains ys z → z ≢ x → Contains (without k ys) z
+unfolding without
+without-contains k [] x z at h apart = absurd (contains-nothing z h)
+without-contains zero (y ∷ ys) x z at (zero, l, e) apart =
+    let same : y ≡ x = cc in
+    absurd (apart (sym e ∙ same))
+without-contains zero (y ∷ ys) x z at (suc j, l, e) apart = (j, omega (arith, l), e)
+without-contains (suc k) (y ∷ ys) x z at (zero, l, e) apart = (0, omega arith, e)
+without-contains (suc k) (y ∷ ys) x z at (suc j, l, e) apart = contains-behind y _ z (without-contains k ys x z at (j, omega (arith, l), e) apart)
+
+distinct-tail : (x : Closed) (xs : List Closed) → AreDistinct (x ∷ xs) → AreDistinct xs
+distinct-tail x xs h = record { apart = λ i j d k l. h.apart (suc i) (suc j) d (omega (arith, k)) (omega (arith, l)) }
+
+distinct-head : (x : Closed) (xs : List Closed) → AreDistinct (x ∷ xs) → (z : Closed) → Contains xs z → z ≢ x
+distinct-head x xs h z (j, l, e) = λ same. h.apart 0 (suc j) z (omega arith) (omega (arith, l)) (sym same ∙ sym e)
+
+pub at-most : (xs ys : List Closed) → AreDistinct xs → IsWithin xs ys → length xs ≤ length ys
+at-most [] ys d w = omega arith
+at-most (x ∷ xs) ys d w =
+    let (k, l, e) = contains-at ys x (w.within x (contains-first x xs)) in
+    let rest : IsWithin xs (without k ys) = record { within = λ z h. without-contains k ys x z e (w.within z (contains-behind x xs z h)) (distinct-head x xs d z h) } in
+    let fewer = at-most xs (without k ys) (distinct-tail x xs d) rest in
+    omega (arith, fewer, length-without k ys l)
+
+-- where all are found, there aren't more
+pub whole-fits : (limit : ℕ) (P : Closed → Type 0) (found : List Closed) → IsWhole limit P found → ¬ AreMoreThan limit P
+whole-fits limit P found w = λ more.
+    let inside : IsWithin more.found found = record { within = λ c h. w.all.complete c (All-contains P more.found c more.each h) } in
+    let fewer = at-most more.found found more.distinct inside in
+    omega (arith, fewer, more.count, w.few)

@@ -1,0 +1,84 @@
+-- A small file, closed by hand: which types occur, how deep one is, and what stands for one.
+--
+--     lifetime 'a;
+--     struct Node<'x> { next: &'x Node<'x>, mark: PhantomData<(u8,)> }
+--     ask Node<'a> => [u8; 2];
+use Rattle.std.proofs.Common.{◌≡◌, false, true, refl, [], ◌∷◌, arith}
+use Rattle.tm_base.specs.declared.definition.DefId.{DefId}
+use Rattle.tm_base.specs.declared.definition.NamedRow.{NamedRow}
+use Rattle.tm_base.specs.declared.definition.RefRow.{RefRow}
+use Rattle.tm_base.specs.declared.definition.RegionId.{RegionId}
+use Rattle.tm_base.specs.declared.ground.Ground as ground_is
+use Rattle.tm_base.specs.declared.ground.Primitive.TheVariants as primitive
+use Rattle.tm_base.specs.declared.ground.Wrapper.TheVariants as wrapper
+use Rattle.tm_names.specs.declared.resolved.Life.TheVariants as life
+use Rattle.tm_names.specs.declared.resolved.Open.{Prim, Tuple, Array, Wrap, Named, Ref}
+use Rattle.tm_names.specs.declared.resolved.Open.TheBlock.{shape-the_row-Open-1, hidden-the_row-Open-1}
+use Rattle.tm_names.specs.declared.resolved.Resolved.{Resolved}
+use Rattle.tm_ground.specs.Belongs.{StandsFor}
+use Rattle.tm_ground.specs.Closed.{Closed, prim, tuple, array, wrap, named, ref, no_elements, element, put_in}
+use Rattle.tm_ground.specs.Limits.{depth_passes}
+use Rattle.tm_ground.specs.Occurs.{asked_types, parts_of, Occurs, is_asked, is_part}
+
+abbrev node : DefId
+node = record { 0 = 0 }
+
+abbrev region_a : RegionId
+region_a = record { 0 = 1 }
+
+abbrev file : Resolved
+file = record {
+  defs = [];
+  types = ((Ref (life.Param 0) false (Named node (life.Param 0 ∷ [])) ∷ Wrap wrapper.PhantomData (Tuple (Prim primitive.U8 ∷ [])) ∷ []) ∷ []) ∷ [];
+  regions = [];
+  bounds = [];
+  asks = record {
+    src = Named node (life.Declared 1 ∷ []);
+    dst = Array (Prim primitive.U8) 2;
+    assume = record { alignment = false; lifetimes = false; safety = false; validity = false };
+  } ∷ [];
+}
+
+abbrev node_a : Closed
+node_a = named node (region_a ∷ [])
+
+abbrev ref_node_a : Closed
+ref_node_a = ref region_a false node_a
+
+abbrev bytes : Closed
+bytes = tuple (element (prim primitive.U8) no_elements)
+
+-- both sides, with the declared lifetime as a region
+asked : asked_types file ≡ node_a ∷ array (prim primitive.U8) 2 ∷ []
+unfolding put_in shape-the_row-Open-1 hidden-the_row-Open-1 denote.Hole.Carrier.hidden
+asked = refl
+
+-- the fields, with the region in place of the parameter
+fields : parts_of file node_a ≡ ref_node_a ∷ wrap wrapper.PhantomData (put_in (region_a ∷ []) (Tuple (Prim primitive.U8 ∷ []))) ∷ []
+unfolding put_in shape-the_row-Open-1 hidden-the_row-Open-1 denote.Hole.Carrier.hidden
+fields = refl
+
+-- the reference occurs, under the field of a named type
+ref_occurs : Occurs file ref_node_a
+unfolding put_in shape-the_row-Open-1 hidden-the_row-Open-1 denote.Hole.Carrier.hidden
+ref_occurs = is_part node_a ref_node_a (is_asked node_a (0, omega arith, refl)) (0, omega arith, refl)
+
+-- a reference and `PhantomData` hold nothing by value: the struct has depth 2, though it leads to itself
+depth_two : depth_passes file 1 node_a ≡ true
+unfolding depth_passes put_in shape-the_row-Open-1 hidden-the_row-Open-1 denote.Hole.Carrier.hidden
+depth_two = refl
+
+not_deeper : depth_passes file 2 node_a ≡ false
+unfolding depth_passes put_in shape-the_row-Open-1 hidden-the_row-Open-1 denote.Hole.Carrier.hidden
+not_deeper = refl
+
+-- the first named row and the first reference row stand for the two types
+abbrev row : NamedRow
+row = record { def = node; regions = region_a ∷ []; types = [] }
+
+abbrev ref_row : RefRow
+ref_row = record { mutable = false; region = region_a; pointee = ground_is.Named (record { 0 = 0 }) }
+
+stands : StandsFor (row ∷ []) (ref_row ∷ []) ref_node_a (ground_is.Ref (record { 0 = 0 }))
+unfolding StandsFor
+stands = (record { 0 = 0 }, refl, ref_row, refl, refl, refl, (record { 0 = 0 }, refl, row, refl, refl))

@@ -1,0 +1,32 @@
+use Rattle.std.proofs.Common.{◌∙◌, arith}
+use Rattle.tm_ground.specs.Keys.{closed_types, named_types}
+use Rattle.tm_ground.proofs.RowForm.{zip-length, regions-in_form, rows-in_form, rows-distinct}
+use Rattle.tm_ground.proofs.TypesForm.{types-in_form, ref-rows-distinct}
+use Rattle.tm_ground.proofs.worlds.make_world.Goals as goal
+
+pub invariant_of-result : goal.invariant_of-result
+invariant_of-result c =
+    let file = c.args.resolved.now in
+    let form = c.requires.form in
+    let types = named_types c.args.found.now in
+    let refs = closed_types c.args.refs.now in
+    let defs = c.in_ok-defs.ensures ∙ c.as_slice.ensures in
+    let regions = c.in_ok-regions.ensures ∙ c.as_slice-2.ensures in
+    let bounds = c.in_ok-bounds.ensures ∙ c.as_slice-3.ensures in
+    let of_rows = c.in_ok-named.ensures in
+    let of_refs = c.in_ok-refs.ensures in
+    let of_asks = c.in_ok-questions.ensures in
+    record {
+      few_defs = rw defs form.few_defs;
+      few_regions = rw regions form.few_regions;
+      few_named = omega (arith, zip-length _ types c.in_ok-named.named of_rows, c.requires.whole.rows.few);
+      few_refs = omega (arith, zip-length _ refs c.in_ok-refs.refs of_refs, c.requires.whole.refs.few);
+      few_questions = omega (arith, zip-length _ file.asks c.in_ok-questions.questions of_asks, form.few_asks);
+      regions_known = rw (regions, bounds) (regions-in_form file form types refs c.requires.whole c.in_ok-named.named c.in_ok-refs.refs of_rows of_refs);
+      defs_in_form = rw defs form.defs_in_form;
+      values_distinct = rw defs form.values_distinct;
+      rows_in_form = rw defs (rows-in_form file form types refs c.requires.whole c.in_ok-named.named c.in_ok-refs.refs of_rows of_refs);
+      types_in_form = rw defs (types-in_form file form types refs c.requires.whole c.requires.shallow c.in_ok-named.named c.in_ok-refs.refs c.in_ok-questions.questions of_rows of_refs of_asks);
+      named_distinct = rows-distinct file form types refs c.requires.whole c.in_ok-named.named c.in_ok-refs.refs of_rows of_refs;
+      refs_distinct = ref-rows-distinct file form types refs c.requires.whole c.requires.shallow c.in_ok-named.named c.in_ok-refs.refs c.in_ok-questions.questions of_rows of_refs of_asks;
+    }

@@ -1,0 +1,12 @@
+pub mod Closed
+pub mod Occurs
+pub mod Limits
+pub mod Belongs
+pub mod InForm
+pub mod Written
+pub mod Growing
+pub mod Keys
+pub mod Closing
+pub mod Depths
+pub mod Numbered
+pub mod Rows

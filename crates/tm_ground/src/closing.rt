@@ -1,0 +1,279 @@
+ghost use Rattle.std.specs.Prelude.{◌≡◌, List, [], flat_map, IfOk};
+ghost use Rattle.std.specs.List.{list_any};
+ghost use Rattle.tm_base.specs.declared.definition.RegionId.{RegionId};
+ghost use Rattle.tm_ground.specs.Depths.{deep_within, AreDepths};
+ghost use Rattle.tm_ground.specs.Closing.{FindsNamed, FindsRefs, IsWhole, TellsDepth};
+ghost use Rattle.tm_ground.specs.Growing.{Adding};
+ghost use Rattle.tm_ground.specs.Keys.{closed_types, named_types};
+ghost use Rattle.tm_ground.specs.Limits.{OccursAs, is_named};
+ghost use Rattle.tm_ground.specs.Occurs.{asked_in, fields_of, sides_of};
+ghost use Rattle.tm_ground.specs.Written.{named_in, refs_in};
+
+use crate::depth::{are_asks_deep, are_fields_deep, depth_tables};
+use crate::gathering::{add_named, add_refs, add_variants_named, add_variants_refs};
+use crate::named_set::NamedSet;
+use crate::stop::Stop;
+use std::alloc::Global;
+use tm_base::{DefId, List, Memory, RegionId};
+use tm_names::{Open, OpenAsk, Resolved};
+
+/// How many named types there may be.
+const TYPE_LIMIT: usize = 1024;
+
+/// Adds the named types that are written in the sides of a question.
+fn add_sides_named(alloc: Global, ask: &OpenAsk, found: &mut NamedSet) -> Result<(), Stop>
+    ensures { Adding 1024 (named_types found.old) (flat_map named_in (sides_of ask.now)) (named_types found.new) result }
+{
+    match add_named(alloc, &[], &ask.src, found) {
+        Ok(()) => add_named(alloc, &[], &ask.dst, found),
+        Err(stop) => Err(stop),
+    }
+}
+
+/// Adds the named types that are written in the sides of questions.
+fn add_asked_named(alloc: Global, asks: &[OpenAsk], found: &mut NamedSet) -> Result<(), Stop>
+    ensures { Adding 1024 (named_types found.old) (flat_map named_in (asked_in asks.now)) (named_types found.new) result }
+{
+    for ask in asks {
+        match add_sides_named(alloc, ask, found) {
+            Ok(()) => {}
+            Err(stop) => return Err(stop),
+        }
+    }
+    Ok(())
+}
+
+/// Adds the named types that are written in the fields of a definition.
+fn add_fields_named(
+    alloc: Global,
+    resolved: &Resolved,
+    def: DefId,
+    regions: &[RegionId],
+    found: &mut NamedSet,
+) -> Result<(), Stop>
+    ensures { Adding 1024 (named_types found.old) (flat_map named_in (fields_of resolved.now def regions.now)) (named_types found.new) result }
+{
+    match resolved.types.get(def.0 as usize) {
+        Some(variants) => add_variants_named(alloc, regions, variants.as_slice(), found),
+        None => Ok(()),
+    }
+}
+
+/// The named types that occur.
+pub fn occurring_named(alloc: Global, resolved: &Resolved) -> Result<NamedSet, Stop>
+    ensures { FindsNamed resolved.now result }
+{
+    let mut found = NamedSet::new(alloc);
+    match add_asked_named(alloc, resolved.asks.as_slice(), &mut found) {
+        Ok(()) => {}
+        Err(stop) => return Err(stop),
+    }
+    for place in 0..TYPE_LIMIT {
+        let _place = place;
+        let Ok(row) = found.get(alloc, place) else {
+            return Err(Stop::Memory);
+        };
+        let (def, regions) = match row {
+            Some(row) => row,
+            None => return Ok(found),
+        };
+        match add_fields_named(alloc, resolved, def, regions.as_slice(), &mut found) {
+            Ok(()) => {}
+            Err(stop) => return Err(stop),
+        }
+    }
+    Ok(found)
+}
+
+/// Adds the reference types that are written in the sides of a question.
+fn add_sides_refs(alloc: Global, ask: &OpenAsk, refs: &mut List<Open>) -> Result<(), Stop>
+    ensures { Adding 64 (closed_types refs.old) (flat_map refs_in (sides_of ask.now)) (closed_types refs.new) result }
+{
+    match add_refs(alloc, &[], &ask.src, refs) {
+        Ok(()) => add_refs(alloc, &[], &ask.dst, refs),
+        Err(stop) => Err(stop),
+    }
+}
+
+/// Adds the reference types that are written in the sides of questions.
+fn add_asked_refs(alloc: Global, asks: &[OpenAsk], refs: &mut List<Open>) -> Result<(), Stop>
+    ensures { Adding 64 (closed_types refs.old) (flat_map refs_in (asked_in asks.now)) (closed_types refs.new) result }
+{
+    for ask in asks {
+        match add_sides_refs(alloc, ask, refs) {
+            Ok(()) => {}
+            Err(stop) => return Err(stop),
+        }
+    }
+    Ok(())
+}
+
+/// Adds the reference types that are written in the fields of a definition.
+fn add_fields_refs(
+    alloc: Global,
+    resolved: &Resolved,
+    def: DefId,
+    regions: &[RegionId],
+    refs: &mut List<Open>,
+) -> Result<(), Stop>
+    ensures { Adding 64 (closed_types refs.old) (flat_map refs_in (fields_of resolved.now def regions.now)) (closed_types refs.new) result }
+{
+    match resolved.types.get(def.0 as usize) {
+        Some(variants) => add_variants_refs(alloc, regions, variants.as_slice(), refs),
+        None => Ok(()),
+    }
+}
+
+/// The reference types that occur, where these are the named ones that do.
+pub fn occurring_refs(
+    alloc: Global,
+    resolved: &Resolved,
+    found: &NamedSet,
+) -> Result<List<Open>, Stop>
+    requires { IsWhole 1024 (OccursAs is_named resolved.now) (named_types found.now) }
+    ensures { FindsRefs resolved.now result }
+{
+    let mut refs = List::new(alloc);
+    match add_asked_refs(alloc, resolved.asks.as_slice(), &mut refs) {
+        Ok(()) => {}
+        Err(stop) => return Err(stop),
+    }
+    for place in 0..TYPE_LIMIT {
+        let _place = place;
+        let Ok(row) = found.get(alloc, place) else {
+            return Err(Stop::Memory);
+        };
+        let (def, regions) = match row {
+            Some(row) => row,
+            None => return Ok(refs),
+        };
+        match add_fields_refs(alloc, resolved, def, regions.as_slice(), &mut refs) {
+            Ok(()) => {}
+            Err(stop) => return Err(stop),
+        }
+    }
+    Ok(refs)
+}
+
+/// Whether a type that is written in the fields of a definition is deeper than a type may be.
+fn is_definition_deep(tables: &[List<bool>], resolved: &Resolved, def: DefId) -> bool
+    ensures { (regions : List RegionId) → result ≡ list_any (deep_within tables.now) (fields_of resolved.now def regions) }
+{
+    match resolved.types.get(def.0 as usize) {
+        Some(variants) => are_fields_deep(tables, variants.as_slice()),
+        None => false,
+    }
+}
+
+/// Whether some type that occurs is deeper than a type may be, by the tables of definitions.
+fn is_some_deep(
+    alloc: Global,
+    tables: &[List<bool>],
+    resolved: &Resolved,
+    found: &NamedSet,
+) -> Result<bool, Memory>
+    requires exact { AreDepths resolved.now 64 tables.now }
+    requires whole { IsWhole 1024 (OccursAs is_named resolved.now) (named_types found.now) }
+    ensures { IfOk result (λ deep. TellsDepth resolved.now deep) }
+{
+    if are_asks_deep(tables, resolved.asks.as_slice()) {
+        return Ok(true);
+    }
+    for place in 0..TYPE_LIMIT {
+        let Ok(row) = found.get(alloc, place) else {
+            return Err(Memory);
+        };
+        let (def, _) = match row {
+            Some(row) => row,
+            None => return Ok(false),
+        };
+        if is_definition_deep(tables, resolved, def) {
+            return Ok(true);
+        }
+    }
+    Ok(false)
+}
+
+/// Whether some type that occurs is deeper than a type may be, where these are the named ones that do.
+pub fn is_too_deep(alloc: Global, resolved: &Resolved, found: &NamedSet) -> Result<bool, Memory>
+    requires { IsWhole 1024 (OccursAs is_named resolved.now) (named_types found.now) }
+    ensures { IfOk result (λ deep. TellsDepth resolved.now deep) }
+{
+    match depth_tables(alloc, resolved) {
+        Ok(tables) => is_some_deep(alloc, tables.as_slice(), resolved, found),
+        Err(memory) => Err(memory),
+    }
+}
+
+#[cfg(test)]
+mod tests {
+    use super::*;
+    use std::process::Abort;
+    use tm_base::{Assume, Boxed, Primitive, Wrapper};
+    use tm_names::Life;
+
+    fn one<T: Drop>(alloc: Global, item: T) -> Result<List<T>, Memory> {
+        let mut items = List::new(alloc);
+        match items.push(item) {
+            Ok(()) => Ok(items),
+            Err(_) => Err(Memory),
+        }
+    }
+
+    /// `&'x Node<'x>`, where `Node` is the first definition and `'x` its first parameter.
+    fn next(alloc: Global) -> Result<Open, Memory> {
+        let node = Open::Named(DefId(0), one(alloc, Life::Param(0))?);
+        Ok(Open::Ref(Life::Param(0), false, Boxed::new(alloc, node)?))
+    }
+
+    /// `PhantomData<(u8,)>`.
+    fn mark(alloc: Global) -> Result<Open, Memory> {
+        let bytes = Open::Tuple(one(alloc, Open::Prim(Primitive::U8))?);
+        Ok(Open::Wrap(Wrapper::PhantomData, Boxed::new(alloc, bytes)?))
+    }
+
+    /// `struct Node<'x> { next: &'x Node<'x>, mark: PhantomData<(u8,)> }` and `ask Node<'a> => [u8; 2];`.
+    fn sample(alloc: Global) -> Result<Resolved, Memory> {
+        let mut fields = one(alloc, next(alloc)?)?;
+        let Ok(()) = fields.push(mark(alloc)?) else {
+            return Err(Memory);
+        };
+        let bytes = Boxed::new(alloc, Open::Prim(Primitive::U8))?;
+        let ask = OpenAsk {
+            src: Open::Named(DefId(0), one(alloc, Life::Declared(1))?),
+            dst: Open::Array(bytes, 2),
+            assume: Assume::NOTHING,
+        };
+        Ok(Resolved {
+            defs: List::new(alloc),
+            types: one(alloc, one(alloc, fields)?)?,
+            regions: List::new(alloc),
+            bounds: List::new(alloc),
+            asks: one(alloc, ask)?,
+        })
+    }
+
+    fn checks(rt: &impl Abort, alloc: Global, resolved: &Resolved) {
+        let Ok(found) = occurring_named(alloc, resolved) else {
+            panic!(rt; "the named types want memory");
+        };
+        assert_eq!(rt; found.len(), 1);
+        match occurring_refs(alloc, resolved, &found) {
+            Ok(refs) => assert_eq!(rt; refs.len(), 1),
+            Err(_) => panic!(rt; "the references want memory"),
+        }
+        match is_too_deep(alloc, resolved, &found) {
+            Ok(deep) => assert!(rt; !deep),
+            Err(_) => panic!(rt; "the depths want memory"),
+        }
+    }
+
+    #[test]
+    fn a_type_that_leads_to_itself_is_closed(rt: HostRuntime) {
+        let alloc = rt.alloc();
+        match sample(alloc) {
+            Ok(resolved) => checks(&rt, alloc, &resolved),
+            Err(_) => panic!(rt; "the sample wants memory"),
+        }
+    }
+}
