@@ -14,26 +14,26 @@ use Rattle.tm_ground.proofs.FormLemmas.{both}
 use Rattle.tm_ground.proofs.SizeLemmas.{node_count-parts}
 use Rattle.tm_ground.proofs.StandsLemmas.{zip-get}
 
-module _ (types refs : List Closed) (ref_rows : List RefRow) (of_refs : AllZip (IsRefRow types refs) refs ref_rows) where
-  -- what a reference is spelled as, where so many may follow it
-  abbrev followed : ℕ → RefId → Spelled
-  followed m r = follow_row (spelled_within m ref_rows) (slice_get ref_rows r.0)
+-- what a reference is spelled as, where so many may follow it
+abbrev pub followed : List RefRow → ℕ → RefId → Spelled
+followed ref_rows m r = follow_row (spelled_within m ref_rows) (slice_get ref_rows r.0)
 
-  count-some : (c : Closed) → 1 ≤ node_count c
+module _ (types refs : List Closed) (ref_rows : List RefRow) (of_refs : AllZip (IsRefRow types refs) refs ref_rows) where
+  pub count-some : (c : Closed) → 1 ≤ node_count c
   count-some c = omega (arith, node_count-parts c)
 
   mutual
     unfolding IsNumbered node_count ends spell spelled_within
 
-    ends-one : (m : ℕ) → ((c : Closed) (g : Ground) → IsNumbered types refs c g → node_count c ≤ m → ends (spelled_within m ref_rows g) ≡ true) → (c : Closed) (g : Ground) → IsNumbered types refs c g → node_count c ≤ suc m → ends (spell (followed m) g) ≡ true
+    ends-one : (m : ℕ) → ((c : Closed) (g : Ground) → IsNumbered types refs c g → node_count c ≤ m → ends (spelled_within m ref_rows g) ≡ true) → (c : Closed) (g : Ground) → IsNumbered types refs c g → node_count c ≤ suc m → ends (spell (followed ref_rows m) g) ≡ true
     ends-one m below (prim p) g h l = rw h refl
     ends-one m below never g h l = rw h refl
     ends-one m below (tuple no_elements) g h l = rw h refl
     ends-one m below (tuple (element c cs)) g (k, ks, e, a, b) l =
-        rw (e, spell-Tuple (followed m) (k ∷ ks)) (both _ _ (ends-one m below c k a (omega (arith, l))) (ends-each m below cs ks b (omega (arith, l))))
-    ends-one m below (array c n) g (k, e, a) l = rw (e, spell-Array (followed m) k n) (ends-one m below c k a (omega (arith, l)))
+        rw (e, spell-Tuple (followed ref_rows m) (k ∷ ks)) (both _ _ (ends-one m below c k a (omega (arith, l))) (ends-each m below cs ks b (omega (arith, l))))
+    ends-one m below (array c n) g (k, e, a) l = rw (e, spell-Array (followed ref_rows m) k n) (ends-one m below c k a (omega (arith, l)))
     ends-one m below (nonzero p) g h l = rw h refl
-    ends-one m below (wrap w c) g (k, e, a) l = rw (e, spell-Wrap (followed m) w k) (ends-one m below c k a (omega (arith, l)))
+    ends-one m below (wrap w c) g (k, e, a) l = rw (e, spell-Wrap (followed ref_rows m) w k) (ends-one m below c k a (omega (arith, l)))
     ends-one m below (named def rs) g (id, e, a) l = rw e refl
     ends-one m below (ref region mutable c) g (r, e, at) l =
         let (row, found, s) = zip-get (IsRefRow types refs) refs ref_rows r.0 (ref region mutable c) of_refs at in
@@ -42,7 +42,7 @@ module _ (types refs : List Closed) (ref_rows : List RefRow) (of_refs : AllZip (
         let inner = below c row.pointee (subst (λ x. IsNumbered types refs x row.pointee) (sym same) s.numbered) (omega (arith, l)) in
         rw (e, found) inner
 
-    ends-each : (m : ℕ) → ((c : Closed) (g : Ground) → IsNumbered types refs c g → node_count c ≤ m → ends (spelled_within m ref_rows g) ≡ true) → (cs : Elements) (gs : List Ground) → EachNumbered types refs cs gs → node_total cs ≤ m → all_end (spelled_all (spell (followed m)) gs) ≡ true
+    ends-each : (m : ℕ) → ((c : Closed) (g : Ground) → IsNumbered types refs c g → node_count c ≤ m → ends (spelled_within m ref_rows g) ≡ true) → (cs : Elements) (gs : List Ground) → EachNumbered types refs cs gs → node_total cs ≤ m → all_end (spelled_all (spell (followed ref_rows m)) gs) ≡ true
     ends-each m below no_elements gs h l = rw h refl
     ends-each m below (element c cs) [] h l = absurd h
     ends-each m below (element c cs) (g ∷ gs) (a, b) l = both _ _ (ends-one m below c g a (omega (arith, l))) (ends-each m below cs gs b (omega (arith, l)))

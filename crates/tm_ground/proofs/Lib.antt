@@ -23,3 +23,7 @@ pub mod HeadLemmas
 pub mod ShallowForm
 pub mod NumberedOnce
 pub mod TypesForm
+pub mod TextLemmas
+pub mod OrderLemmas
+pub mod BelongsLemmas
+pub mod SampleForm

@@ -5,8 +5,10 @@ mod closing;
 mod depth;
 mod fault;
 mod gathering;
+mod grounding;
 mod named_set;
 mod numbering;
+mod ordering;
 mod refs;
 mod regions;
 mod rows;
@@ -16,3 +18,7 @@ mod worlds;
 mod written;
 
 pub use fault::GroundErr;
+pub use grounding::ground;
+
+#[cfg(test)]
+mod tests;

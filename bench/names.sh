@@ -1,0 +1,34 @@
+#!/usr/bin/env bash
+# Usage: bench/names.sh
+# What resolving names costs, for a file at the limits of what a file may declare: 256 definitions of 256
+# fields, each field of the type that is declared last, and 256 questions. Instructions by valgrind's
+# callgrind, and seconds.
+set -u
+top=$(cd "$(dirname "${BASH_SOURCE[0]}")/.." && pwd)
+command -v valgrind >/dev/null || { echo "valgrind is wanted: apt-get install valgrind" >&2; exit 1; }
+"$top/bin/transmute_report" </dev/null >/dev/null || exit 1
+program=$top/crates/transmute_report/out/transmute_report
+work=$(mktemp -d)
+trap 'rm -rf "$work"' EXIT
+
+file() { # DEFINITIONS FIELDS QUESTIONS
+    awk -v definitions="$1" -v fields="$2" -v questions="$3" 'BEGIN {
+        last = "S" definitions
+        for (i = 1; i < definitions; i++) {
+            printf "struct S%d{", i
+            for (j = 0; j < fields; j++) printf "f%d:%s,", j, last
+            print "}"
+        }
+        print "struct " last ";"
+        for (i = 0; i < questions; i++) printf "ask %s=>S1;\n", last
+    }'
+}
+
+for definitions in 64 128 256; do
+    file "$definitions" 256 256 >"$work/file"
+    /usr/bin/env time -f '%e' "$program" <"$work/file" >"$work/out" 2>"$work/seconds"
+    printf '%4d definitions of 256 fields, %7d bytes: %12d instructions, %s s: %s\n' "$definitions" \
+        "$(wc -c <"$work/file")" \
+        "$(valgrind --tool=callgrind --callgrind-out-file=/dev/null "$program" <"$work/file" 2>&1 >/dev/null | awk '/Collected/ { print $4 }')" \
+        "$(tail -n 1 "$work/seconds")" "$(cat "$work/out")"
+done

@@ -1,0 +1,25 @@
+-- A file with two references, with which a test begins, is in form.
+use Rattle.std.proofs.Common.{ℕ, true, false, refl, List, [], ◌∷◌, arith}
+use Rattle.tm_base.specs.declared.assume.Assume.{Assume}
+use Rattle.tm_base.specs.declared.ground.Primitive.TheVariants as primitive
+use Rattle.tm_base.specs.Whole.{are_defs_in_form}
+use Rattle.tm_names.specs.declared.resolved.Life.TheVariants as life
+use Rattle.tm_names.specs.declared.resolved.Open.{Prim, Ref}
+use Rattle.tm_names.specs.declared.resolved.Open.TheBlock.{shape-the_row-Open-1, hidden-the_row-Open-1}
+use Rattle.tm_ground.specs.Closed.{put_in}
+use Rattle.tm_ground.specs.InForm.{IsInForm, is_known, node_count}
+
+pub sample_in_form : (name : List ℕ) (assume : Assume) → IsInForm (record { defs = []; types = []; regions = name ∷ []; bounds = []; asks = record { src = Ref life.Static false (Prim primitive.U16); dst = Ref life.Static true (Prim primitive.U8); assume = assume } ∷ [] })
+unfolding put_in shape-the_row-Open-1 hidden-the_row-Open-1 denote.Hole.Carrier.hidden is_known node_count are_defs_in_form
+sample_in_form name assume = record {
+  few_defs = omega arith;
+  few_regions = omega arith;
+  some_region = omega arith;
+  few_asks = omega arith;
+  defs_in_form = refl;
+  values_distinct = record { apart = λ i l d e. absurd (omega (arith, l)) };
+  bounds_known = refl;
+  defs_typed = refl;
+  fields_in_form = refl;
+  asks_in_form = refl;
+}

@@ -1,0 +1,82 @@
+-- The text of a type by its numbers is that of the closed type, whatever the numbers are.
+use Rattle.std.proofs.Common.{◌≡◌, ℕ, zero, suc, ◌≤◌, true, refl, sym, ap, subst, ◌∙◌, if◌then◌else◌, List, [], ◌∷◌, ◌++◌, Some, slice_get, arith}
+use Rattle.std.specs.Prelude.{codes, decimal}
+use Rattle.std.specs.List.{AllZip}
+use Rattle.tm_base.specs.declared.definition.Bound.{Bound}
+use Rattle.tm_base.specs.declared.definition.NamedRow.{NamedRow}
+use Rattle.tm_base.specs.declared.definition.RefRow.{RefRow}
+use Rattle.tm_base.specs.declared.ground.Ground.{Ground}
+use Rattle.tm_base.specs.declared.ground.Ground as ground_is
+use Rattle.tm_base.specs.declared.world.World.{World}
+use Rattle.tm_base.specs.Spelled.{spell, spelled_within, follow_row}
+use Rattle.tm_base.specs.Tables.{Tables}
+use Rattle.tm_base.specs.Texts.{spelled_text, element_texts, text_of, tuple_text, applied, wrapper_text, row_text, region_text}
+use Rattle.tm_base.specs.Worlds.{tables_of}
+use Rattle.tm_base.proofs.GroundLemmas.{spelled_all, spell-Tuple, spell-Array, spell-Wrap}
+use Rattle.tm_names.specs.declared.resolved.Resolved.{Resolved}
+use Rattle.tm_ground.specs.Closed.{Closed, Elements, prim, never, tuple, array, nonzero, wrap, named, ref, no_elements, element}
+use Rattle.tm_ground.specs.ClosedTexts.{closed_text, closed_texts}
+use Rattle.tm_ground.specs.InForm.{node_count, node_total}
+use Rattle.tm_ground.specs.Limits.{is_ref}
+use Rattle.tm_ground.specs.Numbered.{IsNumbered, EachNumbered}
+use Rattle.tm_ground.specs.Rows.{IsNamedRow, IsRefRow, IsWorldOf}
+use Rattle.tm_ground.proofs.EndsLemmas.{followed, count-some}
+use Rattle.tm_ground.proofs.StandsLemmas.{zip-get}
+
+module _ (resolved : Resolved) (types refs : List Closed) (bounds : List Bound) (rows : List NamedRow) (ref_rows : List RefRow)
+    (of_rows : AllZip (IsNamedRow types refs resolved) types rows) (of_refs : AllZip (IsRefRow types refs) refs ref_rows) where
+  abbrev tables : Tables
+  tables = record { defs = resolved.defs; regions = resolved.regions; bounds = bounds; named = rows; refs = ref_rows }
+
+  mutual
+    unfolding IsNumbered node_count spell spelled_within spelled_text closed_text
+
+    text-one : (m : ℕ) → ((c : Closed) (g : Ground) → IsNumbered types refs c g → node_count c ≤ m → spelled_text tables (spelled_within m ref_rows g) ≡ closed_text resolved c) → (c : Closed) (g : Ground) → IsNumbered types refs c g → node_count c ≤ suc m → spelled_text tables (spell (followed ref_rows m) g) ≡ closed_text resolved c
+    text-one m below (prim p) g h l = rw h refl
+    text-one m below never g h l = rw h refl
+    text-one m below (tuple no_elements) g h l = rw h refl
+    text-one m below (tuple (element c cs)) g (k, ks, e, a, b) l =
+        rw e (ap (spelled_text tables) (spell-Tuple (followed ref_rows m) (k ∷ ks)) ∙ ap tuple_text (text-each m below (element c cs) (k ∷ ks) (a, b) (omega (arith, l))))
+    text-one m below (array c n) g (k, e, a) l =
+        rw e (ap (spelled_text tables) (spell-Array (followed ref_rows m) k n) ∙ ap (λ t. codes "[" ++ t ++ codes "; " ++ decimal n ++ codes "]") (text-one m below c k a (omega (arith, l))))
+    text-one m below (nonzero p) g h l = rw h refl
+    text-one m below (wrap w c) g (k, e, a) l =
+        rw e (ap (spelled_text tables) (spell-Wrap (followed ref_rows m) w k) ∙ ap (applied (wrapper_text w)) (text-one m below c k a (omega (arith, l))))
+    text-one m below (named def rs) g (id, e, at) l =
+        let (row, found, s) = zip-get (IsNamedRow types refs resolved) types rows id.0 (named def rs) of_rows at in
+        rw e (ap (row_text tables) found ∙ sym (ap (closed_text resolved) s.type))
+    text-one m below (ref region mutable c) g (r, e, at) l =
+        let (row, found, s) = zip-get (IsRefRow types refs) refs ref_rows r.0 (ref region mutable c) of_refs at in
+        let one : ref region mutable c ≡ ref row.region row.mutable s.pointee = s.type in
+        let same : c ≡ s.pointee = cc in
+        let inner = below c row.pointee (subst (λ x. IsNumbered types refs x row.pointee) (sym same) s.numbered) (omega (arith, l)) in
+        let followed = ap (λ o. spelled_text tables (follow_row (spelled_within m ref_rows) o)) found in
+        let pointee = ap (λ t. codes "&" ++ region_text tables row.region ++ (if row.mutable then codes " mut " else codes " ") ++ t) inner in
+        rw e (followed ∙ pointee ∙ ap (closed_text resolved) (ap (ref row.region row.mutable) same ∙ sym s.type))
+
+    text-each : (m : ℕ) → ((c : Closed) (g : Ground) → IsNumbered types refs c g → node_count c ≤ m → spelled_text tables (spelled_within m ref_rows g) ≡ closed_text resolved c) → (cs : Elements) (gs : List Ground) → EachNumbered types refs cs gs → node_total cs ≤ m → element_texts tables (spelled_all (spell (followed ref_rows m)) gs) ≡ closed_texts resolved cs
+    text-each m below no_elements gs h l = rw h refl
+    text-each m below (element c cs) [] h l = absurd h
+    text-each m below (element c cs) (g ∷ gs) (a, b) l = rw (text-one m below c g a (omega (arith, l)), text-each m below cs gs b (omega (arith, l))) refl
+
+  pub text-within : (m : ℕ) (c : Closed) (g : Ground) → IsNumbered types refs c g → node_count c ≤ m → spelled_text tables (spelled_within m ref_rows g) ≡ closed_text resolved c
+  unfolding spelled_within
+  text-within zero c g h l = absurd (omega (arith, l, count-some types refs ref_rows of_refs c))
+  text-within (suc m) c g h l = text-one m (text-within m) c g h l
+
+-- a reference's number is of its closed type
+numbered-ref : (types refs : List Closed) (c : Closed) (k : ℕ) → is_ref c ≡ true → slice_get refs k ≡ Some c → IsNumbered types refs c (ground_is.Ref (record { 0 = k }))
+unfolding IsNumbered
+numbered-ref types refs (prim p) k t at = cc
+numbered-ref types refs never k t at = cc
+numbered-ref types refs (tuple cs) k t at = cc
+numbered-ref types refs (array c n) k t at = cc
+numbered-ref types refs (nonzero p) k t at = cc
+numbered-ref types refs (wrap w c) k t at = cc
+numbered-ref types refs (named def rs) k t at = cc
+numbered-ref types refs (ref region mutable c) k t at = (record { 0 = k }, refl, at)
+
+-- the text of the reference with a number
+pub ref-text : (resolved : Resolved) (types refs : List Closed) (world : World) → IsWorldOf resolved types refs world → (k : ℕ) (c : Closed) → slice_get refs k ≡ Some c → is_ref c ≡ true → node_count c ≤ 64 → text_of (tables_of world) (ground_is.Ref (record { 0 = k })) ≡ closed_text resolved c
+ref-text resolved types refs world w k c at t l =
+    rw (w.defs, w.regions) (text-within resolved types refs world.bounds world.named world.refs w.named w.ref_rows 64 c (ground_is.Ref (record { 0 = k })) (numbered-ref types refs c k t at) l)
