@@ -3,17 +3,7 @@
 # Counts the instructions of whole runs, by valgrind's callgrind: what a question costs, what its size adds,
 # and what a file costs by its length. A count is the same each time.
 set -u
-top=$(cd "$(dirname "${BASH_SOURCE[0]}")/.." && pwd)
-command -v valgrind >/dev/null || { echo "valgrind is wanted: apt-get install valgrind" >&2; exit 1; }
-"$top/bin/transmute_report" </dev/null >/dev/null || exit 1
-program=$top/crates/transmute_report/out/transmute_report
-work=$(mktemp -d)
-trap 'rm -rf "$work"' EXIT
-
-instructions() { # FILE
-    valgrind --tool=callgrind --callgrind-out-file=/dev/null "$program" <"$1" 2>&1 >/dev/null |
-        awk '/Collected/ { print $4 }'
-}
+. "$(dirname "${BASH_SOURCE[0]}")/program.sh"
 
 questions() { # COUNT ELEMENTS
     for _ in $(seq "$1"); do echo "ask [u64; $2] => [u64; $2];"; done >"$work/file"

@@ -4,17 +4,7 @@
 # callgrind, and the most bytes of stack by its massif, at a quarter, a half and the whole of the most bytes
 # that a file may have.
 set -u
-top=$(cd "$(dirname "${BASH_SOURCE[0]}")/.." && pwd)
-command -v valgrind >/dev/null || { echo "valgrind is wanted: apt-get install valgrind" >&2; exit 1; }
-"$top/bin/transmute_report" </dev/null >/dev/null || exit 1
-program=$top/crates/transmute_report/out/transmute_report
-work=$(mktemp -d)
-trap 'rm -rf "$work"' EXIT
-
-instructions() {
-    valgrind --tool=callgrind --callgrind-out-file=/dev/null "$program" <"$work/file" 2>&1 >/dev/null |
-        awk '/Collected/ { print $4 }'
-}
+. "$(dirname "${BASH_SOURCE[0]}")/program.sh"
 
 stack() {
     valgrind --tool=massif --stacks=yes --heap=no --massif-out-file="$work/massif" "$program" <"$work/file" >/dev/null 2>&1
@@ -29,7 +19,7 @@ measure() { # NAME FRONT PIECE
     for bytes in 262144 524288 1048576; do
         { printf '%s' "$2"; repeated "$3" $((bytes - ${#2})); } >"$work/file"
         printf '%-24s %9d bytes %14d instructions %7d bytes of stack  %s\n' "$1" "$bytes" \
-            "$(instructions)" "$(stack)" "$("$program" <"$work/file" | tail -n 1)"
+            "$(instructions "$work/file")" "$(stack)" "$("$program" <"$work/file" | tail -n 1)"
     done
 }
 

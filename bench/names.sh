@@ -4,12 +4,7 @@
 # fields, each field of the type that is declared last, and 256 questions. Instructions by valgrind's
 # callgrind, and seconds.
 set -u
-top=$(cd "$(dirname "${BASH_SOURCE[0]}")/.." && pwd)
-command -v valgrind >/dev/null || { echo "valgrind is wanted: apt-get install valgrind" >&2; exit 1; }
-"$top/bin/transmute_report" </dev/null >/dev/null || exit 1
-program=$top/crates/transmute_report/out/transmute_report
-work=$(mktemp -d)
-trap 'rm -rf "$work"' EXIT
+. "$(dirname "${BASH_SOURCE[0]}")/program.sh"
 
 file() { # DEFINITIONS FIELDS QUESTIONS
     awk -v definitions="$1" -v fields="$2" -v questions="$3" 'BEGIN {
@@ -29,6 +24,6 @@ for definitions in 64 128 256; do
     /usr/bin/env time -f '%e' "$program" <"$work/file" >"$work/out" 2>"$work/seconds"
     printf '%4d definitions of 256 fields, %7d bytes: %12d instructions, %s s: %s\n' "$definitions" \
         "$(wc -c <"$work/file")" \
-        "$(valgrind --tool=callgrind --callgrind-out-file=/dev/null "$program" <"$work/file" 2>&1 >/dev/null | awk '/Collected/ { print $4 }')" \
+        "$(instructions "$work/file")" \
         "$(tail -n 1 "$work/seconds")" "$(cat "$work/out")"
 done

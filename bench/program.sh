@@ -1,0 +1,13 @@
+# What the scripts of this folder share: the program, built where it isn't yet, a folder for files, and how
+# instructions are counted.
+top=$(cd "$(dirname "${BASH_SOURCE[0]}")/.." && pwd)
+command -v valgrind >/dev/null || { echo "valgrind is wanted: apt-get install valgrind" >&2; exit 1; }
+"$top/bin/transmute_report" </dev/null >/dev/null || exit 1
+program=$top/crates/transmute_report/out/transmute_report
+work=$(mktemp -d)
+trap 'rm -rf "$work"' EXIT
+
+instructions() { # FILE
+    valgrind --tool=callgrind --callgrind-out-file=/dev/null "$program" <"$1" 2>&1 >/dev/null |
+        awk '/Collected/ { print $4 }'
+}
