@@ -6,6 +6,7 @@ pub mod Representations
 pub mod Holding
 pub mod Faults
 pub mod Resolutions
+pub mod InForm
 pub mod Source
 pub mod Sights
 pub mod Values

@@ -3,6 +3,7 @@ ghost use Rattle.tm_base.specs.declared.limit.NameWhy.{NameWhy as Kind};
 ghost use Rattle.tm_lex.specs.Lexes.{Tokenizes};
 ghost use Rattle.tm_names.specs.Checking.{HasCause};
 ghost use Rattle.tm_names.specs.Faults.{HasNoFault, IsFirstFault};
+ghost use Rattle.tm_names.specs.InForm.{IsInForm};
 ghost use Rattle.tm_names.specs.Resolutions.{resolved_of};
 ghost use Rattle.tm_names.specs.Written.{name_at};
 ghost use Rattle.tm_parse.specs.Parsing.{SpellsFile};
@@ -33,6 +34,7 @@ pub fn check(
     requires spelled { SpellsFile (terminals_of text.now tokens.now) parsed.now }
     ensures resolved { IfOk result (λ found. found ≡ resolved_of (name_at text.now tokens.now) parsed.now) }
     ensures sound { IfOk result (λ _. HasNoFault (name_at text.now tokens.now) parsed.now) }
+    ensures in_form { IfOk result IsInForm }
     ensures fault { IfErr result (HasCause (name_at text.now tokens.now) parsed.now) }
 
     // A file has one first fault at most, which is answered where memory isn't wanting.
