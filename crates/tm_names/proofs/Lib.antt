@@ -16,3 +16,11 @@ pub mod FileLemmas
 pub mod FirstLemmas
 mod Worked
 pub mod CopyLemmas
+pub mod WrittenLemmas
+pub mod MentionedLemmas
+pub mod KnownLemmas
+pub mod TypeFormLemmas
+pub mod ReprFormLemmas
+pub mod ValueFormLemmas
+pub mod DefFormLemmas
+pub mod InFormLemmas

@@ -1,7 +1,12 @@
-use Rattle.std.proofs.Common.{◌∙◌, sym, ap, inl}
+use Rattle.std.proofs.Common.{◌∙◌, sym, ap, inl, subst}
 use Rattle.tm_names.proofs.FirstLemmas.{first_stands, no_first, nothing_stands, one_first}
+use Rattle.tm_names.proofs.InFormLemmas.{resolved_in_form}
 use Rattle.tm_names.specs.declared.fault.NameErr.TheVariants.{Fault}
+use Rattle.tm_names.specs.InForm.{IsInForm}
 use Rattle.tm_names.specs.Written.{name_at}
+use Rattle.tm_parse.proofs.Carried.{terminals_carry}
+use Rattle.tm_parse.proofs.WithinLimits.{within_limits}
+use Rattle.tm_parse.specs.Spelling.{terminals_of}
 use Rattle.tm_names.proofs.checking.check.Goals as goal
 
 pub returns-in-Ok-Some-clause-fault : goal.returns-in-Ok-Some-clause-fault
@@ -20,3 +25,9 @@ returns-in-Ok-resolved-clause-sound c =
 pub returns-in-Ok-resolved-clause-faults : goal.returns-in-Ok-resolved-clause-faults
 returns-in-Ok-resolved-clause-faults c = λ why place h.
     no_first (name_at c.args.text.now c.args.tokens.now) c.args.parsed.now why place h (sym c.in-Ok-None.ensures ∙ c.in-Ok-None.field-0-is)
+
+pub returns-in-Ok-resolved-clause-in_form : goal.returns-in-Ok-resolved-clause-in_form
+returns-in-Ok-resolved-clause-in_form c =
+    let sound = nothing_stands (name_at c.args.text.now c.args.tokens.now) c.args.parsed.now (sym c.in-Ok-None.ensures ∙ c.in-Ok-None.field-0-is) in
+    let within = within_limits c.args.parsed.now (terminals_of c.args.text.now c.args.tokens.now) c.requires.spelled.after c.requires.spelled.file (terminals_carry c.args.text.now c.args.tokens.now) in
+    subst IsInForm (sym c.in-Ok-resolved.ensures) (resolved_in_form (name_at c.args.text.now c.args.tokens.now) c.args.parsed.now sound within)
