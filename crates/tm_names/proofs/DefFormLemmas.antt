@@ -100,7 +100,7 @@ module _ (name : ℕ → List ℕ) where
     its_variants = (of_member HasItsVariants file.decls d within.variants among).variants
 
     -- no discriminant is at fault, since its variant has a name or is the only one
-    values_right : AreRight (tag_of d) (valued d.variants)
+    pub values_right : AreRight (tag_of d) (valued d.variants)
     values_right = by d.kind its_variants
       where
         by : (kind : Kind) → AreVariantsOf kind d.variants → AreRight (tag_of d) (valued d.variants)

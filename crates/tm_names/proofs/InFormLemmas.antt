@@ -13,10 +13,19 @@ use Rattle.tm_names.specs.Discriminants.{valued_from, value_of}
 use Rattle.tm_names.specs.Faults.{HasNoFault}
 use Rattle.tm_names.specs.InForm.{IsInForm, are_defs_typed, is_variant_typed}
 use Rattle.tm_names.specs.Resolutions.{ask_of, decl_types, def_of, field_of, param_of, resolved_of, type_of, variant_of, variant_types}
+use Rattle.tm_lex.specs.declared.token.Token.{Token}
+use Rattle.tm_parse.proofs.Carried.{terminals_carry}
+use Rattle.tm_parse.proofs.WithinLimits.{within_limits}
 use Rattle.tm_parse.specs.Bounds.{IsWithinLimits}
+use Rattle.tm_parse.specs.Parsing.{SpellsFile}
+use Rattle.tm_parse.specs.Spelling.{terminals_of}
 use Rattle.tm_parse.specs.declared.parsed.Decl.{Decl}
 use Rattle.tm_parse.specs.declared.parsed.DeclVariant.{DeclVariant}
 use Rattle.tm_parse.specs.declared.parsed.Parsed.{Parsed}
+
+-- what a text's tokens spell is within the limits
+pub spelled_within : (text : List ℕ) (tokens : List Token) (file : Parsed) → SpellsFile (terminals_of text tokens) file → IsWithinLimits file
+spelled_within text tokens file h = within_limits file (terminals_of text tokens) h.after h.file (terminals_carry text tokens)
 
 module _ (name : ℕ → List ℕ) (file : Parsed) where
   -- each field has its type

@@ -24,3 +24,4 @@ pub mod ReprFormLemmas
 pub mod ValueFormLemmas
 pub mod DefFormLemmas
 pub mod InFormLemmas
+pub mod NarrowLemmas

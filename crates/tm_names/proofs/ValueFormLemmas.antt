@@ -32,26 +32,27 @@ split x [] m = absurd m
 split x (y ∷ ys) m =
     ⊎_elim (λ e. ([], ys, ap (λ z. z ∷ ys) e)) (λ n. let found = split x ys n in (y ∷ found.0, found.1, ap (λ zs. y ∷ zs) found.2)) m
 
-all_of_members : {X : Type 0} (P : X → Type 0) (xs : List X) → ((x : X) → Member x xs → P x) → All P xs
+pub all_of_members : {X : Type 0} (P : X → Type 0) (xs : List X) → ((x : X) → Member x xs → P x) → All P xs
 all_of_members P xs each = All-weaker _ P (λ x c. each x (member x xs c)) xs (All-contains_itself xs)
 
+pub in_range : (tag : Option Primitive) (vs : List Valued) → AreRight tag vs → (v : Valued) → Member v vs → is_in_range tag v.value ≡ true
+in_range tag vs right v m =
+    let (before, after, e) = split v vs m in
+    no_fault (is_in_range tag v.value) (or_parts _ _ (right before v after e)).0
+  where
+    no_fault : (b : Bool) → not b ≡ false → b ≡ true
+    no_fault true h = refl
+    no_fault false h = sym h
+
+in_form : (tag : Option Primitive) (z : ℤ) → is_in_range tag z ≡ true → is_value_in_form tag z ≡ true
+in_form None z h = h
+in_form (Some p) z h = h
+
 module _ (name : ℕ → List ℕ) where
-  in_range : (tag : Option Primitive) (vs : List Valued) → AreRight tag vs → (v : Valued) → Member v vs → is_value_in_form tag v.value ≡ true
-  in_range tag vs right v m =
-      let (before, after, e) = split v vs m in
-      same tag v.value (no_fault (is_in_range tag v.value) (or_parts _ _ (right before v after e)).0)
-    where
-      no_fault : (b : Bool) → not b ≡ false → b ≡ true
-      no_fault true h = refl
-      no_fault false h = sym h
-
-      same : (tag : Option Primitive) (z : ℤ) → is_in_range tag z ≡ true → is_value_in_form tag z ≡ true
-      same None z h = h
-      same (Some p) z h = h
-
   pub values_in_form : (tag : Option Primitive) (vs : List Valued) → AreRight tag vs → list_all (λ v. is_value_in_form tag v.value) (map (variant_of name) vs) ≡ true
   values_in_form tag vs right =
-      list_all-map (λ v. is_value_in_form tag v.value) (variant_of name) vs ∙ each_passes (λ v. is_value_in_form tag v.value) vs (in_range tag vs right)
+      list_all-map (λ v. is_value_in_form tag v.value) (variant_of name) vs
+      ∙ each_passes (λ v. is_value_in_form tag v.value) vs (λ v m. in_form tag v.value (in_range tag vs right v m))
 
   abbrev Differ : Variant → Variant → Type 0
   Differ v u = v.value ≢ u.value

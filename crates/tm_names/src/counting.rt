@@ -1,8 +1,8 @@
-ghost use Rattle.std.specs.Prelude.{◌≡◌, IfOk};
+ghost use Rattle.std.specs.Prelude.{◌≡◌, IsTrue};
+ghost use Rattle.tm_names.specs.Narrow.{is_value_narrow};
 ghost use Rattle.tm_names.specs.Values.{int_of, next_of, signed_value, value_in};
 
 use crate::value::Value;
-use tm_base::Memory;
 use tm_parse::DeclVariant;
 
 /// The value behind this one; behind the greatest comes the greatest.
@@ -37,15 +37,13 @@ pub fn value_in(implied: Value, variant: &DeclVariant) -> Value
     }
 }
 
-/// A value in 128 bits with their sign.
-///
-/// `Memory` comes where it takes more, which no value in its range does.
-pub fn narrow(value: Value) -> Result<i128, Memory>
-    ensures { IfOk result (λ number. number ≡ int_of value) }
+/// A value that has at most 64 bits behind its sign, as a number.
+pub fn narrow(value: Value) -> i128
+    requires { IsTrue (is_value_narrow (int_of value)) }
+    ensures { result ≡ int_of value }
 {
     match value {
-        Value::AtLeastZero(number) if number <= 0xffff_ffff_ffff_ffff => Ok(number as i128),
-        Value::BelowZero(number) if number <= 0xffff_ffff_ffff_ffff => Ok(-1 - number as i128),
-        _ => Err(Memory),
+        Value::AtLeastZero(number) => number as i128,
+        Value::BelowZero(number) => -1 - number as i128,
     }
 }

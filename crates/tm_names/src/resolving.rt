@@ -1,7 +1,9 @@
-ghost use Rattle.std.specs.Prelude.{◌≡◌, IfOk, map, pos};
+ghost use Rattle.std.specs.Prelude.{◌≡◌, All, IfOk, IsTrue, map, pos};
+ghost use Rattle.std.specs.List.{list_all};
 ghost use Rattle.tm_names.specs.Discriminants.{valued};
 ghost use Rattle.tm_names.specs.Resolutions.{ask_of, bound_of, decl_types, def_of, field_of, regions_of, resolved_of, text_or_none, variant_of, variant_types};
 ghost use Rattle.tm_names.specs.Indexing.{IsIndexed};
+ghost use Rattle.tm_names.specs.Narrow.{IsNarrow, is_value_narrow};
 ghost use Rattle.tm_names.specs.Source.{IsTokenized, names_in};
 
 use crate::adding::add;
@@ -75,14 +77,15 @@ fn variants(
     source: &Source,
     declared: &[DeclVariant],
 ) -> Result<List<Variant>, Memory>
-    requires { IsTokenized source.now }
+    requires tokenized { IsTokenized source.now }
+    requires narrow { IsTrue (list_all (λ v. is_value_narrow v.value) (valued declared.now)) }
     ensures { IfOk result (λ variants. variants ≡ map (variant_of (names_in source.now)) (valued declared.now)) }
 {
     let mut variants = List::new(alloc);
     let mut implied = Value::AtLeastZero(0);
     for item in declared {
         let value = value_in(implied, item);
-        let variant = variant(alloc, source, item, narrow(value)?)?;
+        let variant = variant(alloc, source, item, narrow(value))?;
         add(&mut variants, variant)?;
         implied = next(value);
     }
@@ -91,13 +94,14 @@ fn variants(
 
 /// A definition, without the types of its fields.
 fn definition(alloc: Global, source: &Source, declared: &Decl) -> Result<Def, Memory>
-    requires { IsTokenized source.now }
+    requires tokenized { IsTokenized source.now }
+    requires narrow { IsNarrow declared.now }
     ensures { IfOk result (λ def. def ≡ def_of (names_in source.now) declared.now) }
 {
     Ok(Def {
         name: text(alloc, source, declared.name)?,
         kind: declared.kind,
-        repr: repr(declared)?,
+        repr: repr(declared),
         variants: variants(alloc, source, declared.variants.as_slice())?,
     })
 }
@@ -148,7 +152,8 @@ fn types(
 
 /// All definitions, without the types of their fields.
 fn all_definitions(alloc: Global, source: &Source, decls: &[Decl]) -> Result<List<Def>, Memory>
-    requires { IsTokenized source.now }
+    requires tokenized { IsTokenized source.now }
+    requires narrow { All IsNarrow decls.now }
     ensures { IfOk result (λ defs. defs ≡ map (def_of (names_in source.now)) decls.now) }
 {
     let mut defs = List::new(alloc);
@@ -258,6 +263,7 @@ pub fn resolved(
     requires tokenized { IsTokenized source.now }
     requires indexed { IsIndexed (names_in source.now) definitions.now }
     requires same { definitions.now.decls.now ≡ parsed.now.decls }
+    requires narrow { All IsNarrow definitions.now.decls.now }
     ensures { IfOk result (λ found. found ≡ resolved_of (names_in source.now) parsed.now) }
 {
     let lifetimes = parsed.lifetimes.as_slice();

@@ -1,12 +1,11 @@
-use Rattle.std.proofs.Common.{◌∙◌, sym, ap, inl, subst}
+use Rattle.std.proofs.Common.{◌∙◌, sym, ap, inl, subst, All}
 use Rattle.tm_names.proofs.FirstLemmas.{first_stands, no_first, nothing_stands, one_first}
-use Rattle.tm_names.proofs.InFormLemmas.{resolved_in_form}
+use Rattle.tm_names.proofs.InFormLemmas.{resolved_in_form, spelled_within}
 use Rattle.tm_names.specs.declared.fault.NameErr.TheVariants.{Fault}
+use Rattle.tm_names.proofs.NarrowLemmas.{decls_narrow}
 use Rattle.tm_names.specs.InForm.{IsInForm}
+use Rattle.tm_names.specs.Narrow.{IsNarrow}
 use Rattle.tm_names.specs.Written.{name_at}
-use Rattle.tm_parse.proofs.Carried.{terminals_carry}
-use Rattle.tm_parse.proofs.WithinLimits.{within_limits}
-use Rattle.tm_parse.specs.Spelling.{terminals_of}
 use Rattle.tm_names.proofs.checking.check.Goals as goal
 
 pub returns-in-Ok-Some-clause-fault : goal.returns-in-Ok-Some-clause-fault
@@ -17,6 +16,12 @@ pub returns-in-Ok-Some-clause-faults : goal.returns-in-Ok-Some-clause-faults
 returns-in-Ok-Some-clause-faults c = λ why place h.
     let same = one_first (name_at c.args.text.now c.args.tokens.now) c.args.parsed.now why place h c.in-Ok-Some.fault (sym c.in-Ok-Some.ensures ∙ c.in-Ok-Some.field-0-is) in
     inl (ap (λ kind. Fault kind c.in-Ok-Some.fault.place) same.0 ∙ ap (λ there. Fault why there) same.1)
+
+pub resolved-requires-clause-narrow : goal.resolved-requires-clause-narrow
+resolved-requires-clause-narrow c =
+    let sound = nothing_stands (name_at c.args.text.now c.args.tokens.now) c.args.parsed.now (sym c.in-Ok-None.ensures ∙ c.in-Ok-None.field-0-is) in
+    let within = spelled_within c.args.text.now c.args.tokens.now c.args.parsed.now c.requires.spelled in
+    subst (λ decls. All IsNarrow decls) (sym (c.in-Ok.ensures.decls ∙ c.as_slice.ensures)) (decls_narrow (name_at c.args.text.now c.args.tokens.now) c.args.parsed.now sound within)
 
 pub returns-in-Ok-resolved-clause-sound : goal.returns-in-Ok-resolved-clause-sound
 returns-in-Ok-resolved-clause-sound c =
@@ -29,5 +34,5 @@ returns-in-Ok-resolved-clause-faults c = λ why place h.
 pub returns-in-Ok-resolved-clause-in_form : goal.returns-in-Ok-resolved-clause-in_form
 returns-in-Ok-resolved-clause-in_form c =
     let sound = nothing_stands (name_at c.args.text.now c.args.tokens.now) c.args.parsed.now (sym c.in-Ok-None.ensures ∙ c.in-Ok-None.field-0-is) in
-    let within = within_limits c.args.parsed.now (terminals_of c.args.text.now c.args.tokens.now) c.requires.spelled.after c.requires.spelled.file (terminals_carry c.args.text.now c.args.tokens.now) in
+    let within = spelled_within c.args.text.now c.args.tokens.now c.args.parsed.now c.requires.spelled in
     subst IsInForm (sym c.in-Ok-resolved.ensures) (resolved_in_form (name_at c.args.text.now c.args.tokens.now) c.args.parsed.now sound within)
