@@ -60,7 +60,7 @@ one_right tag fields [] here after e =
     first_value (v ∷ vs) = v.value
 one_right tag fields (b ∷ bs) here after e = absurd (omega (arith, ap length e, length-append bs (here ∷ after)))
 
-variant_among : (z : ℤ) (vs : List DeclVariant) (here : Valued) → Member here (valued_from z vs) → Member here.variant vs
+pub variant_among : (z : ℤ) (vs : List DeclVariant) (here : Valued) → Member here (valued_from z vs) → Member here.variant vs
 variant_among z [] here m = m
 variant_among z (v ∷ vs) here m = ⊎_elim (λ e. inl (ap (λ u. u.variant) e)) (λ n. inr (variant_among (value_of z v +ℤ pos 1) vs here n)) m
 

@@ -1,5 +1,5 @@
 -- What is kept by each file whose names are resolved.
-use Rattle.std.proofs.Common.{◌≡◌, ◌≢◌, ℕ, refl, subst, arith, true, List, [], ◌∷◌, length, map}
+use Rattle.std.proofs.Common.{◌≡◌, ◌≢◌, ◌<◌, ℕ, refl, subst, arith, true, List, [], ◌∷◌, length, map}
 use Rattle.std.specs.Prelude.{ℤ, pos, ◌+ℤ◌, AllPairs}
 use Rattle.std.proofs.lemmas.Bool.{and_from, eq-eqb}
 use Rattle.std.proofs.lemmas.List.{length-map}
@@ -15,6 +15,8 @@ use Rattle.tm_names.specs.InForm.{IsInForm, are_defs_typed, is_variant_typed}
 use Rattle.tm_names.specs.Resolutions.{ask_of, decl_types, def_of, field_of, param_of, resolved_of, type_of, variant_of, variant_types}
 use Rattle.tm_lex.specs.declared.token.Token.{Token}
 use Rattle.tm_parse.proofs.Carried.{terminals_carry}
+use Rattle.tm_parse.proofs.PlaceBounds.{places_kept, terminals_placed}
+use Rattle.tm_parse.specs.Places.{EachPlace}
 use Rattle.tm_parse.proofs.WithinLimits.{within_limits}
 use Rattle.tm_parse.specs.Bounds.{IsWithinLimits}
 use Rattle.tm_parse.specs.Parsing.{SpellsFile}
@@ -26,6 +28,11 @@ use Rattle.tm_parse.specs.declared.parsed.Parsed.{Parsed}
 -- what a text's tokens spell is within the limits
 pub spelled_within : (text : List ℕ) (tokens : List Token) (file : Parsed) → SpellsFile (terminals_of text tokens) file → IsWithinLimits file
 spelled_within text tokens file h = within_limits file (terminals_of text tokens) h.after h.file (terminals_carry text tokens)
+
+-- and its places are those of tokens
+pub spelled_placed : (text : List ℕ) (tokens : List Token) (file : Parsed) → SpellsFile (terminals_of text tokens) file → EachPlace (λ place. place < length tokens) file
+spelled_placed text tokens file h =
+    places_kept (λ place. place < length tokens) file (terminals_of text tokens) h.after h.file (terminals_placed text tokens)
 
 module _ (name : ℕ → List ℕ) (file : Parsed) where
   -- each field has its type

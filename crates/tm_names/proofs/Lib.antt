@@ -25,3 +25,4 @@ pub mod ValueFormLemmas
 pub mod DefFormLemmas
 pub mod InFormLemmas
 pub mod NarrowLemmas
+pub mod PlacedLemmas

@@ -1,5 +1,6 @@
--- The cause of an error: the first fault of the file. A want of memory may come for any.
-use Rattle.std.specs.Prelude.{ℕ, List, ⊤}
+-- The cause of an error: the first fault of the file, at one of its tokens. A want of memory may come for any.
+use Rattle.std.specs.Prelude.{ℕ, ◌<◌, List, length, ⊤}
+use Rattle.tm_lex.specs.declared.token.Token.{Token}
 use Rattle.tm_names.specs.declared.fault.NameErr.{NameErr}
 use Rattle.tm_names.specs.declared.fault.NameErr.TheVariants.{Fault, Memory}
 use Rattle.tm_names.specs.Faults.{IsFirstFault}
@@ -8,3 +9,8 @@ use Rattle.tm_parse.specs.declared.parsed.Parsed.{Parsed}
 abbrev pub HasCause : (ℕ → List ℕ) → Parsed → NameErr → Type 0
 HasCause name file (Fault why place) = IsFirstFault name file why place
 HasCause name file Memory = ⊤
+
+-- a fault stands at one of the tokens
+abbrev pub IsPlaceOf : List Token → NameErr → Type 0
+IsPlaceOf tokens (Fault why place) = place < length tokens
+IsPlaceOf tokens Memory = ⊤

@@ -1,7 +1,7 @@
 ghost use Rattle.std.specs.Prelude.{◌≡◌, ℕ, ◌⊎◌, IfOk, IfErr, MatchResult};
 ghost use Rattle.tm_base.specs.declared.limit.NameWhy.{NameWhy as Kind};
 ghost use Rattle.tm_lex.specs.Lexes.{Tokenizes};
-ghost use Rattle.tm_names.specs.Checking.{HasCause};
+ghost use Rattle.tm_names.specs.Checking.{HasCause, IsPlaceOf};
 ghost use Rattle.tm_names.specs.Faults.{HasNoFault, IsFirstFault};
 ghost use Rattle.tm_names.specs.InForm.{IsInForm};
 ghost use Rattle.tm_names.specs.Resolutions.{resolved_of};
@@ -36,6 +36,7 @@ pub fn check(
     ensures sound { IfOk result (λ _. HasNoFault (name_at text.now tokens.now) parsed.now) }
     ensures in_form { IfOk result IsInForm }
     ensures fault { IfErr result (HasCause (name_at text.now tokens.now) parsed.now) }
+    ensures place { IfErr result (IsPlaceOf tokens.now) }
 
     // A file has one first fault at most, which is answered where memory isn't wanting.
     ensures faults { (why : Kind) (place : ℕ) → IsFirstFault (name_at text.now tokens.now) parsed.now why place → MatchResult result (λ _. ⊥) (λ err. (err ≡ NameErr.Fault why place) ⊎ (err ≡ NameErr.Memory)) }

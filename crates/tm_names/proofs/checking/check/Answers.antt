@@ -1,8 +1,9 @@
-use Rattle.std.proofs.Common.{◌∙◌, sym, ap, inl, subst, All}
+use Rattle.std.proofs.Common.{◌∙◌, sym, ap, inl, subst, All, ◌<◌, length}
 use Rattle.tm_names.proofs.FirstLemmas.{first_stands, no_first, nothing_stands, one_first}
-use Rattle.tm_names.proofs.InFormLemmas.{resolved_in_form, spelled_within}
+use Rattle.tm_names.proofs.InFormLemmas.{resolved_in_form, spelled_placed, spelled_within}
 use Rattle.tm_names.specs.declared.fault.NameErr.TheVariants.{Fault}
 use Rattle.tm_names.proofs.NarrowLemmas.{decls_narrow}
+use Rattle.tm_names.proofs.PlacedLemmas.{fault_placed}
 use Rattle.tm_names.specs.InForm.{IsInForm}
 use Rattle.tm_names.specs.Narrow.{IsNarrow}
 use Rattle.tm_names.specs.Written.{name_at}
@@ -11,6 +12,12 @@ use Rattle.tm_names.proofs.checking.check.Goals as goal
 pub returns-in-Ok-Some-clause-fault : goal.returns-in-Ok-Some-clause-fault
 returns-in-Ok-Some-clause-fault c =
     first_stands (name_at c.args.text.now c.args.tokens.now) c.args.parsed.now c.in-Ok-Some.fault (sym c.in-Ok-Some.ensures ∙ c.in-Ok-Some.field-0-is)
+
+pub returns-in-Ok-Some-clause-place : goal.returns-in-Ok-Some-clause-place
+returns-in-Ok-Some-clause-place c =
+    let first = first_stands (name_at c.args.text.now c.args.tokens.now) c.args.parsed.now c.in-Ok-Some.fault (sym c.in-Ok-Some.ensures ∙ c.in-Ok-Some.field-0-is) in
+    fault_placed (λ place. place < length c.args.tokens.now) (name_at c.args.text.now c.args.tokens.now) c.args.parsed.now
+    (spelled_placed c.args.text.now c.args.tokens.now c.args.parsed.now c.requires.spelled) c.in-Ok-Some.fault.why c.in-Ok-Some.fault.place first.fault
 
 pub returns-in-Ok-Some-clause-faults : goal.returns-in-Ok-Some-clause-faults
 returns-in-Ok-Some-clause-faults c = λ why place h.
