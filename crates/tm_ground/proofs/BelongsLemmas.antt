@@ -15,7 +15,7 @@ use Rattle.tm_ground.specs.Belongs.{type_of_row, StandsFor, ListsAll, IsQuestion
 use Rattle.tm_ground.specs.Closed.{Closed}
 use Rattle.tm_ground.specs.ClosedTexts.{closed_text, AreInOrder}
 use Rattle.tm_ground.specs.Closing.{AreWhole}
-use Rattle.tm_ground.specs.InForm.{IsInForm}
+use Rattle.tm_names.specs.InForm.{IsInForm}
 use Rattle.tm_ground.specs.Limits.{is_named, is_ref, OccursAs}
 use Rattle.tm_ground.specs.Numbered.{IsNumbered}
 use Rattle.tm_ground.specs.Occurs.{field_types}

@@ -1,17 +1,16 @@
 -- A type with its numbers ends where its references are followed, as a short type has few.
 use Rattle.std.proofs.Common.{◌≡◌, ℕ, zero, suc, ◌≤◌, true, refl, sym, subst, List, [], ◌∷◌, slice_get, arith}
 use Rattle.std.specs.List.{AllZip}
+use Rattle.std.proofs.lemmas.Bool.{and_from}
 use Rattle.tm_base.specs.declared.cell.RefId.{RefId}
 use Rattle.tm_base.specs.declared.definition.RefRow.{RefRow}
 use Rattle.tm_base.specs.declared.ground.Ground.{Ground}
 use Rattle.tm_base.specs.Spelled.{Spelled, ends, all_end, spell, spelled_within, follow_row}
 use Rattle.tm_base.proofs.GroundLemmas.{spelled_all, spell-Tuple, spell-Array, spell-Wrap}
 use Rattle.tm_ground.specs.Closed.{Closed, Elements, prim, never, tuple, array, nonzero, wrap, named, ref, no_elements, element}
-use Rattle.tm_ground.specs.InForm.{node_count, node_total}
 use Rattle.tm_ground.specs.Numbered.{IsNumbered, EachNumbered}
 use Rattle.tm_ground.specs.Rows.{IsRefRow}
-use Rattle.tm_ground.proofs.FormLemmas.{both}
-use Rattle.tm_ground.proofs.SizeLemmas.{node_count-parts}
+use Rattle.tm_ground.proofs.SizeLemmas.{node_count, node_total, node_count-parts}
 use Rattle.tm_ground.proofs.StandsLemmas.{zip-get}
 
 -- what a reference is spelled as, where so many may follow it
@@ -30,7 +29,7 @@ module _ (types refs : List Closed) (ref_rows : List RefRow) (of_refs : AllZip (
     ends-one m below never g h l = rw h refl
     ends-one m below (tuple no_elements) g h l = rw h refl
     ends-one m below (tuple (element c cs)) g (k, ks, e, a, b) l =
-        rw (e, spell-Tuple (followed ref_rows m) (k ∷ ks)) (both _ _ (ends-one m below c k a (omega (arith, l))) (ends-each m below cs ks b (omega (arith, l))))
+        rw (e, spell-Tuple (followed ref_rows m) (k ∷ ks)) (and_from _ _ (ends-one m below c k a (omega (arith, l))) (ends-each m below cs ks b (omega (arith, l))))
     ends-one m below (array c n) g (k, e, a) l = rw (e, spell-Array (followed ref_rows m) k n) (ends-one m below c k a (omega (arith, l)))
     ends-one m below (nonzero p) g h l = rw h refl
     ends-one m below (wrap w c) g (k, e, a) l = rw (e, spell-Wrap (followed ref_rows m) w k) (ends-one m below c k a (omega (arith, l)))
@@ -45,7 +44,7 @@ module _ (types refs : List Closed) (ref_rows : List RefRow) (of_refs : AllZip (
     ends-each : (m : ℕ) → ((c : Closed) (g : Ground) → IsNumbered types refs c g → node_count c ≤ m → ends (spelled_within m ref_rows g) ≡ true) → (cs : Elements) (gs : List Ground) → EachNumbered types refs cs gs → node_total cs ≤ m → all_end (spelled_all (spell (followed ref_rows m)) gs) ≡ true
     ends-each m below no_elements gs h l = rw h refl
     ends-each m below (element c cs) [] h l = absurd h
-    ends-each m below (element c cs) (g ∷ gs) (a, b) l = both _ _ (ends-one m below c g a (omega (arith, l))) (ends-each m below cs gs b (omega (arith, l)))
+    ends-each m below (element c cs) (g ∷ gs) (a, b) l = and_from _ _ (ends-one m below c g a (omega (arith, l))) (ends-each m below cs gs b (omega (arith, l)))
 
   pub ends-all : (m : ℕ) (c : Closed) (g : Ground) → IsNumbered types refs c g → node_count c ≤ m → ends (spelled_within m ref_rows g) ≡ true
   unfolding spelled_within

@@ -1,15 +1,18 @@
--- In a file in form each type that occurs is in form: its numbers are known and it is short.
-use Rattle.std.proofs.Common.{◌≡◌, ℕ, zero, suc, ◌+◌, Bool, true, false, ◌&&◌, refl, ap, List, [], ◌∷◌, map, slice_get, unwrap_or, nat_lt}
+-- What a written type in form gives with its regions put in: numbers that name what there is, and as many
+-- types as are written.
+use mathlib.Core.Former.{Count, none_left, one_more}
+use Rattle.std.proofs.Common.{◌≡◌, ℕ, zero, suc, Bool, true, false, ◌&&◌, refl, sym, ap, ◌∙◌, List, [], ◌∷◌, ◌++◌, map, length, length-append, slice_get, unwrap_or, nat_lt, arith}
 use Rattle.std.specs.List.{list_all}
+use Rattle.std.proofs.lemmas.Bool.{and_from}
+use Rattle.std.proofs.lemmas.List.Folds.{list_all-append}
 use Rattle.tm_base.specs.declared.definition.RegionId.{RegionId}
+use Rattle.tm_base.specs.Integers.{is_integer}
 use Rattle.tm_names.specs.declared.resolved.Life.{Life}
 use Rattle.tm_names.specs.declared.resolved.Life.TheVariants as life
 use Rattle.tm_names.specs.declared.resolved.Open.{Open, Row_of-Open, end_of-Open, more_of-Open, Prim, Never, Tuple', Array', NonZero, Wrap', Named, Ref'}
-use Rattle.tm_ground.specs.Closed.{put_in, put_in_all, put_in_first, region_of}
-use Rattle.tm_ground.specs.InForm.{node_count, node_total, is_region_known, is_known, are_known}
-
-pub both : (a b : Bool) → a ≡ true → b ≡ true → (a && b) ≡ true
-both a b h i = rw (h, i) refl
+use Rattle.tm_names.specs.InForm.{written, row_written, is_life_known, is_head_known}
+use Rattle.tm_ground.specs.Closed.{Closed, Elements, tuple, array, nonzero, wrap, named, ref, no_elements, element, put_in, put_in_all, put_in_first, region_of}
+use Rattle.tm_ground.proofs.SizeLemmas.{node_count, node_total}
 
 pub first : (a b : Bool) → (a && b) ≡ true → a ≡ true
 first true b h = refl
@@ -19,31 +22,54 @@ pub second : (a b : Bool) → (a && b) ≡ true → b ≡ true
 second true b h = h
 second false b h = cc
 
--- how many types are written in a type doesn't depend on its regions
-module _ (rs ss : List RegionId) where
+-- a number below that of the regions
+abbrev pub is_region_known : ℕ → RegionId → Bool
+is_region_known regions region = nat_lt region.0 regions
+
+-- where there are so many definitions and regions: numbers name them, and a `NonZero` holds an integer
+module _ (defs regions : ℕ) where
+  unfoldable mutual
+    pub is_known : Closed → Bool
+    is_known (tuple cs) = are_known cs
+    is_known (array c n) = is_known c
+    is_known (nonzero p) = is_integer p
+    is_known (wrap w c) = is_known c
+    is_known (named def given) = nat_lt def.0 defs && list_all (is_region_known regions) given
+    is_known (ref region mutable c) = is_region_known regions region && is_known c
+    is_known c = true
+
+    pub are_known : Elements → Bool
+    are_known no_elements = true
+    are_known (element c cs) = is_known c && are_known cs
+
+none-written : {m : Count} (row : Row_of-Open m) → m ≡ none_left → row_written row ≡ []
+unfolding written
+none-written end_of-Open e = refl
+none-written (more_of-Open t ts) e = cc
+
+-- as many types are written in it
+module _ (rs : List RegionId) where
   mutual
-    unfolding put_in node_count
+    unfolding put_in node_count written
 
-    pub count-same : (t : Open) → node_count (put_in rs t) ≡ node_count (put_in ss t)
-    count-same (Prim p) = refl
-    count-same Never = refl
-    count-same (Tuple' shape row) = ap (λ n. 1 + n) (total-same row)
-    count-same (Array' shape row n) = ap (λ n. 1 + n) (first-same row)
-    count-same (NonZero p) = refl
-    count-same (Wrap' w shape row) = ap (λ n. 1 + n) (first-same row)
-    count-same (Named def lives) = refl
-    count-same (Ref' life mutable shape row) = ap (λ n. 1 + n) (first-same row)
+    pub count-written : (t : Open) → node_count (put_in rs t) ≡ length (written t)
+    count-written (Prim p) = refl
+    count-written Never = refl
+    count-written (Tuple' shape row) = omega (arith, total-written row)
+    count-written (Array' shape row n) = omega (arith, first-written row refl)
+    count-written (NonZero p) = refl
+    count-written (Wrap' w shape row) = omega (arith, first-written row refl)
+    count-written (Named def lives) = refl
+    count-written (Ref' life mutable shape row) = omega (arith, first-written row refl)
 
-    total-same : {m : _} (row : Row_of-Open m) → node_total (put_in_all rs row) ≡ node_total (put_in_all ss row)
-    total-same end_of-Open = refl
-    total-same (more_of-Open t ts) =
-        let a = count-same t in
-        let b = total-same ts in
-        cc
+    total-written : {m : Count} (row : Row_of-Open m) → node_total (put_in_all rs row) ≡ length (row_written row)
+    total-written end_of-Open = refl
+    total-written (more_of-Open t ts) = omega (arith, count-written t, total-written ts, length-append (written t) (row_written ts))
 
-    first-same : {m : _} (row : Row_of-Open m) → node_count (put_in_first rs row) ≡ node_count (put_in_first ss row)
-    first-same end_of-Open = refl
-    first-same (more_of-Open t ts) = count-same t
+    first-written : {m : Count} (row : Row_of-Open m) → m ≡ one_more none_left → node_count (put_in_first rs row) ≡ length (row_written row)
+    first-written end_of-Open e = cc
+    first-written (more_of-Open t ts) e =
+        omega (arith, count-written t, ap length (none-written ts (cc)), length-append (written t) (row_written ts))
 
 module _ (defs regions : ℕ) (some : nat_lt 0 regions ≡ true) (rs : List RegionId) (known : list_all (is_region_known regions) rs ≡ true) where
   param-known : (xs : List RegionId) (k : ℕ) → list_all (is_region_known regions) xs ≡ true → is_region_known regions (unwrap_or (slice_get xs k) (record { 0 = 0 })) ≡ true
@@ -51,32 +77,42 @@ module _ (defs regions : ℕ) (some : nat_lt 0 regions ≡ true) (rs : List Regi
   param-known (x ∷ xs) zero h = first _ _ h
   param-known (x ∷ xs) (suc k) h = param-known xs k (second (is_region_known regions x) _ h)
 
-  life-known : (l : Life) → is_region_known regions (region_of [] l) ≡ true → is_region_known regions (region_of rs l) ≡ true
-  life-known life.Static h = h
+  life-known : (l : Life) → is_life_known regions l ≡ true → is_region_known regions (region_of rs l) ≡ true
+  life-known life.Static h = some
   life-known (life.Declared k) h = h
   life-known (life.Param k) h = param-known rs k known
 
-  lives-known : (ls : List Life) → list_all (is_region_known regions) (map (region_of []) ls) ≡ true → list_all (is_region_known regions) (map (region_of rs) ls) ≡ true
+  lives-known : (ls : List Life) → list_all (is_life_known regions) ls ≡ true → list_all (is_region_known regions) (map (region_of rs) ls) ≡ true
   lives-known [] h = refl
-  lives-known (l ∷ ls) h = both _ _ (life-known l (first _ _ h)) (lives-known ls (second (is_region_known regions (region_of [] l)) _ h))
+  lives-known (l ∷ ls) h = and_from _ _ (life-known l (first _ _ h)) (lives-known ls (second (is_life_known regions l) _ h))
+
+  abbrev heads_known : List Open → Bool
+  heads_known = list_all (is_head_known defs regions)
+
+  behind-known : (ts us : List Open) → heads_known (ts ++ us) ≡ true → (heads_known ts && heads_known us) ≡ true
+  behind-known ts us h = sym (list_all-append (is_head_known defs regions) ts us) ∙ h
 
   mutual
-    unfolding put_in is_known
+    unfolding put_in is_known written
 
-    pub put_in-known : (t : Open) → is_known defs regions (put_in [] t) ≡ true → is_known defs regions (put_in rs t) ≡ true
-    put_in-known (Prim p) h = h
-    put_in-known Never h = h
+    pub put_in-known : (t : Open) → heads_known (written t) ≡ true → is_known defs regions (put_in rs t) ≡ true
+    put_in-known (Prim p) h = refl
+    put_in-known Never h = refl
     put_in-known (Tuple' shape row) h = all-known row h
     put_in-known (Array' shape row n) h = first-known row h
-    put_in-known (NonZero p) h = h
+    put_in-known (NonZero p) h = first _ _ h
     put_in-known (Wrap' w shape row) h = first-known row h
-    put_in-known (Named def ls) h = both _ _ (first _ _ h) (lives-known ls (second (nat_lt def.0 defs) _ h))
-    put_in-known (Ref' l mutable shape row) h = both _ _ (life-known l (first _ _ h)) (first-known row (second (is_region_known regions (region_of [] l)) _ h))
+    put_in-known (Named def ls) h =
+        let head : (nat_lt def.0 defs && list_all (is_life_known regions) ls) ≡ true = first _ _ h in
+        and_from _ _ (first _ _ head) (lives-known ls (second (nat_lt def.0 defs) _ head))
+    put_in-known (Ref' l mutable shape row) h = and_from _ _ (life-known l (first _ _ h)) (first-known row (second (is_life_known regions l) _ h))
 
-    all-known : {m : _} (row : Row_of-Open m) → are_known defs regions (put_in_all [] row) ≡ true → are_known defs regions (put_in_all rs row) ≡ true
-    all-known end_of-Open h = h
-    all-known (more_of-Open t ts) h = both _ _ (put_in-known t (first _ _ h)) (all-known ts (second (is_known defs regions (put_in [] t)) _ h))
+    all-known : {m : Count} (row : Row_of-Open m) → heads_known (row_written row) ≡ true → are_known defs regions (put_in_all rs row) ≡ true
+    all-known end_of-Open h = refl
+    all-known (more_of-Open t ts) h =
+        let parts = behind-known (written t) (row_written ts) h in
+        and_from _ _ (put_in-known t (first _ _ parts)) (all-known ts (second (heads_known (written t)) _ parts))
 
-    first-known : {m : _} (row : Row_of-Open m) → is_known defs regions (put_in_first [] row) ≡ true → is_known defs regions (put_in_first rs row) ≡ true
-    first-known end_of-Open h = h
-    first-known (more_of-Open t ts) h = put_in-known t h
+    first-known : {m : Count} (row : Row_of-Open m) → heads_known (row_written row) ≡ true → is_known defs regions (put_in_first rs row) ≡ true
+    first-known end_of-Open h = refl
+    first-known (more_of-Open t ts) h = put_in-known t (first _ _ (behind-known (written t) (row_written ts) h))

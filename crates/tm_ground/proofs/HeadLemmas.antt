@@ -4,9 +4,9 @@ use Rattle.tm_base.specs.declared.ground.Ground.{Ground, out-Ground}
 use Rattle.tm_base.specs.declared.ground.Ground.TheVariants as ground_is
 use Rattle.tm_base.specs.Whole.{is_head_in_form}
 use Rattle.tm_ground.specs.Closed.{Closed, prim, never, tuple, array, nonzero, wrap, named, ref, no_elements, element}
-use Rattle.tm_ground.specs.InForm.{is_known}
 use Rattle.tm_ground.specs.Numbered.{IsNumbered}
 use Rattle.tm_ground.proofs.ContainsLemmas.{get_or-from_get}
+use Rattle.tm_ground.proofs.FormLemmas.{is_known}
 use Rattle.tm_ground.proofs.OccurringForm.{lt-true}
 
 module _ (types refs : List Closed) (defs regions : ℕ) where

@@ -3,18 +3,19 @@ use Rattle.std.proofs.Common.{◌≡◌, ℕ, zero, suc, ◌+◌, ◌<◌, ◌�
 use Rattle.std.specs.List.{list_all, flat_map}
 use Rattle.std.proofs.lemmas.Bool.Decides.{nat_tests}
 use Rattle.std.proofs.lemmas.List.{map-append}
-use Rattle.std.proofs.lemmas.List.Elements.{All-contains, Contains-append_left, Contains-append_right, Contains-append_cases}
+use Rattle.std.proofs.lemmas.List.Elements.{All-contains, Contains-append_left, Contains-append_right}
 use Rattle.std.proofs.lemmas.List.Sums.{AllPass-from_list_all}
 use Rattle.tm_base.specs.declared.definition.DefId.{DefId}
 use Rattle.tm_base.specs.declared.definition.RegionId.{RegionId}
 use Rattle.tm_names.specs.declared.resolved.Open.{Open}
+use Rattle.tm_names.specs.declared.resolved.OpenAsk.{OpenAsk}
 use Rattle.tm_names.specs.declared.resolved.Resolved.{Resolved}
+use Rattle.tm_names.specs.InForm.{written, is_head_known, is_type_in_form, field_types, asked_types as sides, IsInForm}
 use Rattle.tm_ground.specs.Closed.{Closed, Elements, prim, never, tuple, array, nonzero, wrap, named, ref, no_elements, element, put_in}
-use Rattle.tm_ground.specs.InForm.{node_count, is_region_known, is_known, are_known, is_closed_in_form, all_written, IsInForm}
-use Rattle.tm_ground.specs.Occurs.{listed, parts_in, parts_of, all_fields, written_fields, asked_types, Occurs, is_asked, is_part}
-use Rattle.tm_ground.proofs.ContainsLemmas.{contains-nothing, contains-cons, contains-first, contains-behind}
-use Rattle.tm_ground.proofs.FormLemmas.{first, second, count-same, put_in-known}
-use Rattle.tm_ground.proofs.SizeLemmas.{counts, node_count-parts}
+use Rattle.tm_ground.specs.Occurs.{listed, parts_in, parts_of, all_fields, written_fields, asked_in, asked_types, Occurs, is_asked, is_part}
+use Rattle.tm_ground.proofs.ContainsLemmas.{contains-nothing, contains-cons}
+use Rattle.tm_ground.proofs.FormLemmas.{first, second, is_region_known, is_known, are_known, count-written, put_in-known}
+use Rattle.tm_ground.proofs.SizeLemmas.{node_count, counts, node_count-parts}
 
 le-from : (a b : ℕ) → nat_le a b ≡ true → a ≤ b
 le-from a b h = grind (arith, nat_tests)
@@ -22,39 +23,30 @@ le-from a b h = grind (arith, nat_tests)
 pub lt-true : (a b : ℕ) → a < b → nat_lt a b ≡ true
 lt-true a b h = grind (arith, nat_tests)
 
--- a field with its regions put in, and the same field with `'static` for its parameters
-field-from-map : (rs : List RegionId) (ts : List Open) (c : Closed) → Contains (map (put_in rs) ts) c → (t : Open) × (put_in rs t ≡ c) × Contains (map (put_in []) ts) (put_in [] t)
-field-from-map rs [] c h = absurd (contains-nothing c h)
-field-from-map rs (t ∷ ts) c h =
-    let rest = field-from-map rs ts c in
-    ⊎_elim (λ e. (t, e, contains-first (put_in [] t) _)) (λ i. (let (u, e, j) = rest i in (u, e, contains-behind (put_in [] t) (map (put_in []) ts) (put_in [] u) j))) (contains-cons (put_in rs t) (map (put_in rs) ts) c h)
+-- what is in a list of types with their regions put in comes from one of them
+from-map : (f : Open → Closed) (ts : List Open) (c : Closed) → Contains (map f ts) c → (t : Open) × (f t ≡ c) × Contains ts t
+from-map f [] c h = absurd (contains-nothing c h)
+from-map f (t ∷ ts) c (zero, l, e) = (t, e, (0, omega arith, refl))
+from-map f (t ∷ ts) c (suc k, l, e) =
+    let (u, s, j) = from-map f ts c (k, omega (arith, l), e) in
+    (u, s, (suc j.0, omega (arith, j.1), j.2))
 
-field-from : (rs : List RegionId) (variants : List (List Open)) (c : Closed) → Contains (all_fields rs variants) c → (t : Open) × (put_in rs t ≡ c) × Contains (all_fields [] variants) (put_in [] t)
-field-from rs [] c h = absurd (contains-nothing c h)
-field-from rs (ts ∷ variants) c h =
-    let rest = field-from rs variants c in
-    let here = field-from-map rs ts c in
-    ⊎_elim
-    (λ i. (let (u, e, j) = here i in (u, e, Contains-append_left (map (put_in []) ts) (all_fields [] variants) (put_in [] u) j)))
-    (λ i. (let (u, e, j) = rest i in (u, e, Contains-append_right (map (put_in []) ts) (all_fields [] variants) (put_in [] u) j)))
-    (Contains-append_cases (map (put_in rs) ts) (all_fields rs variants) c h)
+all_fields-map : (rs : List RegionId) (variants : List (List Open)) → all_fields rs variants ≡ map (put_in rs) (flat_map (λ ts. ts) variants)
+all_fields-map rs [] = refl
+all_fields-map rs (ts ∷ variants) = ap (λ others. map (put_in rs) ts ++ others) (all_fields-map rs variants) ∙ sym (map-append (put_in rs) ts (flat_map (λ us. us) variants))
 
-all_fields-map : (variants : List (List Open)) → all_fields [] variants ≡ map (put_in []) (flat_map (λ ts. ts) variants)
-all_fields-map [] = refl
-all_fields-map (ts ∷ variants) = ap (λ others. map (put_in []) ts ++ others) (all_fields-map variants) ∙ sym (map-append (put_in []) ts (flat_map (λ us. us) variants))
+asked_in-map : (asks : List OpenAsk) → asked_in asks ≡ map (put_in []) (flat_map (λ ask. ask.src ∷ ask.dst ∷ []) asks)
+asked_in-map [] = refl
+asked_in-map (ask ∷ asks) = ap (λ others. put_in [] ask.src ∷ put_in [] ask.dst ∷ others) (asked_in-map asks)
 
--- a field of a definition is among all that are written
-written-field : (types : List (List (List Open))) (k : ℕ) (c : Closed) → Contains (all_fields [] (unwrap_or (slice_get types k) [])) c → Contains (map (put_in []) (flat_map (λ vs. flat_map (λ ts. ts) vs) types)) c
-written-field [] k c h = absurd (contains-nothing c h)
-written-field (vs ∷ types) zero c h =
-    let here = subst (λ xs. Contains xs c) (all_fields-map vs) h in
-    subst (λ xs. Contains xs c) (sym (map-append (put_in []) (flat_map (λ ts. ts) vs) _)) (Contains-append_left (map (put_in []) (flat_map (λ ts. ts) vs)) _ c here)
-written-field (vs ∷ types) (suc k) c h =
-    let there = written-field types k c h in
-    subst (λ xs. Contains xs c) (sym (map-append (put_in []) (flat_map (λ ts. ts) vs) _)) (Contains-append_right (map (put_in []) (flat_map (λ ts. ts) vs)) _ c there)
+-- a field of a definition is among those of all
+written-field : (types : List (List (List Open))) (k : ℕ) (t : Open) → Contains (flat_map (λ ts. ts) (unwrap_or (slice_get types k) [])) t → Contains (flat_map (λ vs. flat_map (λ ts. ts) vs) types) t
+written-field [] k t h = absurd (omega (arith, h.1))
+written-field (vs ∷ types) zero t h = Contains-append_left (flat_map (λ ts. ts) vs) _ t h
+written-field (vs ∷ types) (suc k) t h = Contains-append_right (flat_map (λ ts. ts) vs) _ t (written-field types k t h)
 
-passes-at : (p : Closed → Bool) (xs : List Closed) (c : Closed) → list_all p xs ≡ true → Contains xs c → p c ≡ true
-passes-at p xs c h i = All-contains (λ x. p x ≡ true) xs c (AllPass-from_list_all p xs h) i
+passes-at : (p : Open → Bool) (ts : List Open) (t : Open) → list_all p ts ≡ true → Contains ts t → p t ≡ true
+passes-at p ts t h i = All-contains (λ x. p x ≡ true) ts t (AllPass-from_list_all p ts h) i
 
 elements-known : (defs regions : ℕ) (cs : Elements) (d : Closed) → are_known defs regions cs ≡ true → Contains (listed cs) d → is_known defs regions d ≡ true
 unfolding is_known
@@ -89,14 +81,11 @@ count-within (c ∷ cs) d h =
     there : node_count d ≤ counts cs → node_count d ≤ node_count c + counts cs
     there l = omega arith
 
-module _ (resolved : Resolved) (form : IsInForm resolved) where
+module _ (resolved : Resolved) where
   -- its numbers are known, and it is short
   pub record IsFormed (c : Closed) : Type 0 where
     pub known : is_known (length resolved.defs) (length resolved.regions) c ≡ true
     pub short : node_count c ≤ 64
-
-  formed : (c : Closed) → is_closed_in_form resolved c ≡ true → IsFormed c
-  formed c h = record { known = first _ _ h; short = le-from _ _ (second (is_known (length resolved.defs) (length resolved.regions) c) _ h) }
 
   part-formed : (c d : Closed) → IsFormed c → Contains (parts_in c) d → IsFormed d
   part-formed c d f i = record {
@@ -108,20 +97,32 @@ module _ (resolved : Resolved) (form : IsInForm resolved) where
   unfolding is_known
   regions-known def rs f = second (nat_lt def.0 (length resolved.defs)) _ f.known
 
-  field-formed : (def : DefId) (rs : List RegionId) (c : Closed) → IsFormed (named def rs) → Contains (parts_of resolved (named def rs)) c → IsFormed c
-  field-formed def rs c f i =
-      let (t, e, j) = field-from rs (written_fields resolved def) c i in
-      let open_form = formed (put_in [] t) (passes-at (is_closed_in_form resolved) (all_written resolved) (put_in [] t) form.fields_in_form (written-field resolved.types def.0 (put_in [] t) j)) in
-      let known = put_in-known (length resolved.defs) (length resolved.regions) (lt-true 0 (length resolved.regions) form.some_region) rs (regions-known def rs f) t open_form.known in
-      subst IsFormed e (record { known = known; short = omega (arith, open_form.short, count-same rs [] t) })
+  module _ (form : IsInForm resolved) where
+    -- a written type in form with known regions put in
+    put_in-formed : (rs : List RegionId) (ts : List Open) (c : Closed) → list_all (is_region_known (length resolved.regions)) rs ≡ true → Contains (map (put_in rs) ts) c → ((t : Open) → Contains ts t → is_type_in_form resolved t ≡ true) → IsFormed c
+    put_in-formed rs ts c regions i each =
+        let (t, e, j) = from-map (put_in rs) ts c i in
+        let heads = first _ _ (each t j) in
+        let few = le-from (length (written t)) 64 (second (list_all (is_head_known (length resolved.defs) (length resolved.regions)) (written t)) _ (each t j)) in
+        let known = put_in-known (length resolved.defs) (length resolved.regions) (lt-true 0 (length resolved.regions) form.some_region) rs regions t heads in
+        subst IsFormed e (record { known = known; short = omega (arith, few, count-written rs t) })
 
-  pub occurring-formed : (c : Closed) → Occurs resolved c → IsFormed c
-  occurring-formed c (is_asked _ h) = formed c (passes-at (is_closed_in_form resolved) (asked_types resolved) c form.asks_in_form h)
-  occurring-formed c (is_part (named def rs) _ o h) = field-formed def rs c (occurring-formed (named def rs) o) h
-  occurring-formed c (is_part (prim p) _ o h) = absurd (contains-nothing c h)
-  occurring-formed c (is_part never _ o h) = absurd (contains-nothing c h)
-  occurring-formed c (is_part (tuple cs) _ o h) = part-formed (tuple cs) c (occurring-formed (tuple cs) o) h
-  occurring-formed c (is_part (array d n) _ o h) = part-formed (array d n) c (occurring-formed (array d n) o) h
-  occurring-formed c (is_part (nonzero p) _ o h) = absurd (contains-nothing c h)
-  occurring-formed c (is_part (wrap w d) _ o h) = part-formed (wrap w d) c (occurring-formed (wrap w d) o) h
-  occurring-formed c (is_part (ref r m d) _ o h) = part-formed (ref r m d) c (occurring-formed (ref r m d) o) h
+    asked-formed : (c : Closed) → Contains (asked_types resolved) c → IsFormed c
+    asked-formed c i =
+        put_in-formed [] (sides resolved) c refl (subst (λ xs. Contains xs c) (asked_in-map resolved.asks) i) (λ t j. passes-at (is_type_in_form resolved) (sides resolved) t form.asks_in_form j)
+
+    field-formed : (def : DefId) (rs : List RegionId) (c : Closed) → IsFormed (named def rs) → Contains (parts_of resolved (named def rs)) c → IsFormed c
+    field-formed def rs c f i =
+        put_in-formed rs (flat_map (λ ts. ts) (written_fields resolved def)) c (regions-known def rs f) (subst (λ xs. Contains xs c) (all_fields-map rs (written_fields resolved def)) i)
+        (λ t j. passes-at (is_type_in_form resolved) (field_types resolved) t form.fields_in_form (written-field resolved.types def.0 t j))
+
+    pub occurring-formed : (c : Closed) → Occurs resolved c → IsFormed c
+    occurring-formed c (is_asked _ h) = asked-formed c h
+    occurring-formed c (is_part (named def rs) _ o h) = field-formed def rs c (occurring-formed (named def rs) o) h
+    occurring-formed c (is_part (prim p) _ o h) = absurd (contains-nothing c h)
+    occurring-formed c (is_part never _ o h) = absurd (contains-nothing c h)
+    occurring-formed c (is_part (tuple cs) _ o h) = part-formed (tuple cs) c (occurring-formed (tuple cs) o) h
+    occurring-formed c (is_part (array d n) _ o h) = part-formed (array d n) c (occurring-formed (array d n) o) h
+    occurring-formed c (is_part (nonzero p) _ o h) = absurd (contains-nothing c h)
+    occurring-formed c (is_part (wrap w d) _ o h) = part-formed (wrap w d) c (occurring-formed (wrap w d) o) h
+    occurring-formed c (is_part (ref r m d) _ o h) = part-formed (ref r m d) c (occurring-formed (ref r m d) o) h

@@ -17,7 +17,7 @@ use Rattle.tm_ground.specs.declared.ordering.Texted.{Texted}
 use Rattle.tm_ground.specs.Closed.{Closed, put_in}
 use Rattle.tm_ground.specs.ClosedTexts.{closed_text, type_of_texted, AreInOrder, HasItsText}
 use Rattle.tm_ground.specs.Closing.{AreWhole}
-use Rattle.tm_ground.specs.InForm.{IsInForm}
+use Rattle.tm_names.specs.InForm.{IsInForm}
 use Rattle.tm_ground.specs.Keys.{closed_types}
 use Rattle.tm_ground.specs.Limits.{is_ref, OccursAs}
 use Rattle.tm_ground.specs.Rows.{IsWorldOf}

@@ -4,6 +4,7 @@ use Rattle.std.specs.List.{AllZip, list_all}
 use Rattle.std.proofs.lemmas.Bool.Decides.{nat_tests}
 use Rattle.std.proofs.lemmas.List.{length-map}
 use Rattle.std.proofs.lemmas.List.Elements.{All-contains}
+use Rattle.std.proofs.lemmas.Bool.{and_from}
 use Rattle.tm_base.specs.declared.definition.Def.{Def}
 use Rattle.tm_base.specs.declared.definition.NamedRow.{NamedRow}
 use Rattle.tm_base.specs.declared.definition.RefRow.{RefRow}
@@ -12,15 +13,15 @@ use Rattle.tm_base.specs.declared.ground.Ground.{Ground}
 use Rattle.tm_base.specs.Whole.{AreDistinct, has_its_types, is_row_of, are_rows_in_form, are_regions_known}
 use Rattle.tm_names.specs.declared.resolved.Open.{Open}
 use Rattle.tm_names.specs.declared.resolved.Resolved.{Resolved}
+use Rattle.tm_names.specs.InForm.{is_variant_typed, are_defs_typed, IsInForm}
 use Rattle.tm_ground.specs.Belongs.{type_of_row}
 use Rattle.tm_ground.specs.Closed.{Closed, put_in}
 use Rattle.tm_ground.specs.Closing.{AreWhole}
-use Rattle.tm_ground.specs.InForm.{is_known, is_variant_typed, are_defs_typed, IsInForm}
 use Rattle.tm_ground.specs.Limits.{is_named, is_ref, OccursAs}
 use Rattle.tm_ground.specs.Numbered.{IsNumbered}
 use Rattle.tm_ground.specs.Rows.{IsNamedRow, IsRefRow}
 use Rattle.tm_ground.proofs.ContainsLemmas.{contains-first, contains-behind}
-use Rattle.tm_ground.proofs.FormLemmas.{both, first, second}
+use Rattle.tm_ground.proofs.FormLemmas.{first, second, is_known}
 use Rattle.tm_ground.proofs.OccurringForm.{IsFormed, regions-known, occurring-formed}
 
 pub zip-length : {A B : Type 0} (R : A → B → Type 0) (xs : List A) (ys : List B) → AllZip R xs ys → length xs ≡ length ys
@@ -41,7 +42,7 @@ zip-all R p [] [] h each = refl
 zip-all R p [] (y ∷ ys) h each = absurd h
 zip-all R p (x ∷ xs) [] h each = absurd h
 zip-all R p (x ∷ xs) (y ∷ ys) h each =
-    both _ _ (each x y (contains-first x xs) h.0) (zip-all R p xs ys h.1 (λ z w i r. each z w (contains-behind x xs z i) r))
+    and_from _ _ (each x y (contains-first x xs) h.0) (zip-all R p xs ys h.1 (λ z w i r. each z w (contains-behind x xs z i) r))
 
 -- types for each field of each variant, as many as are written
 fields-typed : (P : Closed → Ground → Type 0) (f : Open → Closed) (variants : List Variant) (ts : List (List Open)) (gs : List (List Ground)) → is_variant_typed variants ts ≡ true → AllZip (AllZip P) (map (map f) ts) gs → has_its_types variants gs ≡ true
@@ -52,7 +53,7 @@ fields-typed P f (v ∷ vs) [] gs h z = cc
 fields-typed P f (v ∷ vs) (t ∷ ts) [] h z = absurd z
 fields-typed P f (v ∷ vs) (t ∷ ts) (g ∷ gs) h z =
     let same : length t ≡ length g = sym (length-map t f) ∙ zip-length P (map f t) g z.0 in
-    both _ _ (ap (λ n. length v.fields == n) (sym same) ∙ first _ _ h) (fields-typed P f vs ts gs (second (length v.fields == length t) _ h) z.1)
+    and_from _ _ (ap (λ n. length v.fields == n) (sym same) ∙ first _ _ h) (fields-typed P f vs ts gs (second (length v.fields == length t) _ h) z.1)
 
 row-typed : (P : Closed → Ground → Type 0) (f : Open → Closed) (defs : List Def) (types : List (List (List Open))) (k : ℕ) (row : NamedRow) → are_defs_typed defs types ≡ true → k < length defs → AllZip (AllZip P) (map (map f) (unwrap_or (slice_get types k) [])) row.types → is_row_of (slice_get defs k) row ≡ true
 row-typed P f [] types k row h l z = absurd (omega (arith, l))
@@ -66,27 +67,27 @@ lt-from a b h = grind (arith, nat_tests)
 module _ (resolved : Resolved) (form : IsInForm resolved) (types refs : List Closed) (whole : AreWhole resolved types refs)
     (rows : List NamedRow) (ref_rows : List RefRow)
     (of_rows : AllZip (IsNamedRow types refs resolved) types rows) (of_refs : AllZip (IsRefRow types refs) refs ref_rows) where
-  type-formed : (c : Closed) → Contains types c → IsFormed resolved form c
+  type-formed : (c : Closed) → Contains types c → IsFormed resolved c
   type-formed c h = occurring-formed resolved form c (All-contains (OccursAs is_named resolved) types c whole.rows.all.each h).occurs
 
-  ref-formed : (c : Closed) → Contains refs c → IsFormed resolved form c
+  ref-formed : (c : Closed) → Contains refs c → IsFormed resolved c
   ref-formed c h = occurring-formed resolved form c (All-contains (OccursAs is_ref resolved) refs c whole.refs.all.each h).occurs
 
   row-known : (c : Closed) (row : NamedRow) → Contains types c → IsNamedRow types refs resolved c row → list_all (λ region. nat_lt region.0 (length resolved.regions)) row.regions ≡ true
-  row-known c row h r = regions-known resolved form row.def row.regions (subst (IsFormed resolved form) r.type (type-formed c h))
+  row-known c row h r = regions-known resolved row.def row.regions (subst (IsFormed resolved) r.type (type-formed c h))
 
   ref-known : (c : Closed) (row : RefRow) → Contains refs c → IsRefRow types refs c row → nat_lt row.region.0 (length resolved.regions) ≡ true
   unfolding is_known
-  ref-known c row h r = first _ _ (subst (IsFormed resolved form) r.type (ref-formed c h)).known
+  ref-known c row h r = first _ _ (subst (IsFormed resolved) r.type (ref-formed c h)).known
 
   pub regions-in_form : are_regions_known (length resolved.regions) resolved.bounds rows ref_rows ≡ true
   unfolding are_regions_known
-  regions-in_form = both _ _ (both _ _ form.bounds_known (zip-all _ _ types rows of_rows row-known)) (zip-all _ _ refs ref_rows of_refs ref-known)
+  regions-in_form = and_from _ _ (and_from _ _ form.bounds_known (zip-all _ _ types rows of_rows row-known)) (zip-all _ _ refs ref_rows of_refs ref-known)
 
   pub row-in_form : (c : Closed) (row : NamedRow) → Contains types c → IsNamedRow types refs resolved c row → is_row_of (slice_get resolved.defs row.def.0) row ≡ true
   unfolding is_known
   row-in_form c row h r =
-      let known = (subst (IsFormed resolved form) r.type (type-formed c h)).known in
+      let known = (subst (IsFormed resolved) r.type (type-formed c h)).known in
       row-typed (IsNumbered types refs) (put_in row.regions) resolved.defs resolved.types row.def.0 row form.defs_typed (lt-from row.def.0 (length resolved.defs) (first _ _ known)) r.fields
 
   pub rows-in_form : are_rows_in_form resolved.defs rows ≡ true

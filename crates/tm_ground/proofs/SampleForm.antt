@@ -6,11 +6,10 @@ use Rattle.tm_base.specs.Whole.{are_defs_in_form}
 use Rattle.tm_names.specs.declared.resolved.Life.TheVariants as life
 use Rattle.tm_names.specs.declared.resolved.Open.{Prim, Ref}
 use Rattle.tm_names.specs.declared.resolved.Open.TheBlock.{shape-the_row-Open-1, hidden-the_row-Open-1}
-use Rattle.tm_ground.specs.Closed.{put_in}
-use Rattle.tm_ground.specs.InForm.{IsInForm, is_known, node_count}
+use Rattle.tm_names.specs.InForm.{IsInForm, written}
 
 pub sample_in_form : (name : List ℕ) (assume : Assume) → IsInForm (record { defs = []; types = []; regions = name ∷ []; bounds = []; asks = record { src = Ref life.Static false (Prim primitive.U16); dst = Ref life.Static true (Prim primitive.U8); assume = assume } ∷ [] })
-unfolding put_in shape-the_row-Open-1 hidden-the_row-Open-1 denote.Hole.Carrier.hidden is_known node_count are_defs_in_form
+unfolding shape-the_row-Open-1 hidden-the_row-Open-1 denote.Hole.Carrier.hidden written are_defs_in_form
 sample_in_form name assume = record {
   few_defs = omega arith;
   few_regions = omega arith;

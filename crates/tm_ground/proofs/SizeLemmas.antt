@@ -2,8 +2,20 @@
 use Rattle.std.proofs.Common.{◌≡◌, ℕ, ◌+◌, ◌<◌, refl, sym, ap, ◌∙◌, List, [], ◌∷◌, map, arith, length, drop, take, take_all, ◌-◌, get_or, zero, suc, ◌≤◌, Bool, true, false, if◌then◌else◌}
 use Rattle.tm_names.specs.declared.resolved.Open.{Open}
 use Rattle.tm_ground.specs.Closed.{Closed, Elements, prim, never, tuple, array, nonzero, wrap, named, ref, no_elements, element, put_in}
-use Rattle.tm_ground.specs.InForm.{node_count, node_total}
 use Rattle.tm_ground.specs.Occurs.{is_holding, listed, parts_held, parts_in}
+
+-- how many types are written in a type, itself among them; the fields of a named type aren't
+unfoldable mutual
+  pub node_count : Closed → ℕ
+  node_count (tuple cs) = 1 + node_total cs
+  node_count (array c n) = 1 + node_count c
+  node_count (wrap w c) = 1 + node_count c
+  node_count (ref region mutable c) = 1 + node_count c
+  node_count c = 1
+
+  pub node_total : Elements → ℕ
+  node_total no_elements = 0
+  node_total (element c cs) = node_count c + node_total cs
 
 -- how many are written in several types
 abbrev pub counts : List Closed → ℕ

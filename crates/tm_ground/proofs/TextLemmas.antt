@@ -16,11 +16,11 @@ use Rattle.tm_base.proofs.GroundLemmas.{spelled_all, spell-Tuple, spell-Array, s
 use Rattle.tm_names.specs.declared.resolved.Resolved.{Resolved}
 use Rattle.tm_ground.specs.Closed.{Closed, Elements, prim, never, tuple, array, nonzero, wrap, named, ref, no_elements, element}
 use Rattle.tm_ground.specs.ClosedTexts.{closed_text, closed_texts}
-use Rattle.tm_ground.specs.InForm.{node_count, node_total}
 use Rattle.tm_ground.specs.Limits.{is_ref}
 use Rattle.tm_ground.specs.Numbered.{IsNumbered, EachNumbered}
 use Rattle.tm_ground.specs.Rows.{IsNamedRow, IsRefRow, IsWorldOf}
 use Rattle.tm_ground.proofs.EndsLemmas.{followed, count-some}
+use Rattle.tm_ground.proofs.SizeLemmas.{node_count, node_total}
 use Rattle.tm_ground.proofs.StandsLemmas.{zip-get}
 
 module _ (resolved : Resolved) (types refs : List Closed) (bounds : List Bound) (rows : List NamedRow) (ref_rows : List RefRow)

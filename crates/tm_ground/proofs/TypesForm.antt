@@ -3,6 +3,7 @@ use Rattle.std.proofs.Common.{◌≡◌, ℕ, zero, suc, ◌+◌, ◌<◌, Bool,
 use Rattle.std.specs.List.{AllZip, list_all, flat_map, range_with_len}
 use Rattle.std.proofs.lemmas.List.Elements.{All-contains, Contains-append_left, Contains-append_right}
 use Rattle.std.proofs.lemmas.List.Folds.{list_all-append}
+use Rattle.std.proofs.lemmas.Bool.{and_from}
 use Rattle.tm_base.specs.declared.ask.Ask.{Ask}
 use Rattle.tm_base.specs.declared.definition.NamedRow.{NamedRow}
 use Rattle.tm_base.specs.declared.definition.RefRow.{RefRow}
@@ -18,14 +19,13 @@ use Rattle.tm_names.specs.declared.resolved.Resolved.{Resolved}
 use Rattle.tm_ground.specs.Belongs.{type_of_row}
 use Rattle.tm_ground.specs.Closed.{Closed, Elements, prim, never, tuple, array, nonzero, wrap, named, ref, no_elements, element, put_in}
 use Rattle.tm_ground.specs.Closing.{AreWhole}
-use Rattle.tm_ground.specs.InForm.{IsInForm}
+use Rattle.tm_names.specs.InForm.{IsInForm}
 use Rattle.tm_ground.specs.Limits.{is_named, is_ref, OccursAs, depth_passes, PassesDepth}
 use Rattle.tm_ground.specs.Numbered.{IsNumbered, EachNumbered}
 use Rattle.tm_ground.specs.Occurs.{listed, field_types, sides_of, asked_in, Occurs, is_asked, is_part}
 use Rattle.tm_ground.specs.Rows.{IsNamedRow, IsRefRow, IsAsk}
 use Rattle.tm_ground.proofs.ContainsLemmas.{contains-first, contains-behind}
 use Rattle.tm_ground.proofs.EndsLemmas.{ends-all}
-use Rattle.tm_ground.proofs.FormLemmas.{both}
 use Rattle.tm_ground.proofs.GrowLemmas.{contains-from_get}
 use Rattle.tm_ground.proofs.HeadLemmas.{head-in_form}
 use Rattle.tm_ground.proofs.NumberedOnce.{one-type}
@@ -67,7 +67,7 @@ all-map p f (x ∷ xs) = ap (λ b. p (f x) && b) (all-map p f xs)
 
 all-range : (p : ℕ → Bool) (a n : ℕ) → ((k : ℕ) → k < a + n → p k ≡ true) → list_all p (range_with_len a n) ≡ true
 all-range p a zero each = refl
-all-range p a (suc n) each = both _ _ (each a (omega arith)) (all-range p (a + 1) n (λ k l. each k (omega (arith, l))))
+all-range p a (suc n) each = and_from _ _ (each a (omega arith)) (all-range p (a + 1) n (λ k l. each k (omega (arith, l))))
 
 module _ (resolved : Resolved) (form : IsInForm resolved) (types refs : List Closed) (whole : AreWhole resolved types refs) (shallow : ¬ PassesDepth resolved)
     (rows : List NamedRow) (ref_rows : List RefRow) (asks : List Ask)
@@ -89,7 +89,7 @@ module _ (resolved : Resolved) (form : IsInForm resolved) (types refs : List Clo
       let head = head-in_form types refs (length resolved.defs) (length resolved.regions) c g h formed.known in
       let typed = row-in_form resolved form types refs whole rows ref_rows of_rows of_refs in
       let deep = whole-at resolved types refs rows of_rows typed (contains-from_get types) 64 c g o h (not-deep c o) in
-      both _ _ (both _ _ (rw (sym (zip-length _ types rows of_rows), sym (zip-length _ refs ref_rows of_refs)) head) (ap not deep)) (ends-all types refs ref_rows of_refs 64 c g h formed.short)
+      and_from _ _ (and_from _ _ (rw (sym (zip-length _ types rows of_rows), sym (zip-length _ refs ref_rows of_refs)) head) (ap not deep)) (ends-all types refs ref_rows of_refs 64 c g h formed.short)
 
   abbrev pass_all : Ground → Bool
   pass_all g = list_all passes (written_types g)
@@ -98,25 +98,25 @@ module _ (resolved : Resolved) (form : IsInForm resolved) (types refs : List Clo
     unfolding IsNumbered
 
     written-pass : (c : Closed) (g : Ground) → Occurs resolved c → IsNumbered types refs c g → pass_all g ≡ true
-    written-pass (prim p) g o h = rw (h, written-Prim p) (both _ _ (type-passes (prim p) (ground_is.Prim p) o refl) refl)
-    written-pass never g o h = rw (h, written-Never) (both _ _ (type-passes never ground_is.Never o refl) refl)
-    written-pass (tuple no_elements) g o h = rw (h, written-Unit) (both _ _ (type-passes (tuple no_elements) ground_is.Unit o refl) refl)
+    written-pass (prim p) g o h = rw (h, written-Prim p) (and_from _ _ (type-passes (prim p) (ground_is.Prim p) o refl) refl)
+    written-pass never g o h = rw (h, written-Never) (and_from _ _ (type-passes never ground_is.Never o refl) refl)
+    written-pass (tuple no_elements) g o h = rw (h, written-Unit) (and_from _ _ (type-passes (tuple no_elements) ground_is.Unit o refl) refl)
     written-pass (tuple (element c cs)) g o (x, xs, e, a, b) =
-        rw (e, written_types-Tuple (x ∷ xs)) (both _ _ (type-passes (tuple (element c cs)) (ground_is.Tuple (x ∷ xs)) o (x, xs, refl, a, b))
-        (rw (list_all-append passes (written_types x) (flat_map written_types xs)) (both _ _ (written-pass c x (is_part (tuple (element c cs)) c o (contains-first c (listed cs))) a) (each-pass cs xs (λ d i. is_part (tuple (element c cs)) d o (contains-behind c (listed cs) d i)) b))))
+        rw (e, written_types-Tuple (x ∷ xs)) (and_from _ _ (type-passes (tuple (element c cs)) (ground_is.Tuple (x ∷ xs)) o (x, xs, refl, a, b))
+        (rw (list_all-append passes (written_types x) (flat_map written_types xs)) (and_from _ _ (written-pass c x (is_part (tuple (element c cs)) c o (contains-first c (listed cs))) a) (each-pass cs xs (λ d i. is_part (tuple (element c cs)) d o (contains-behind c (listed cs) d i)) b))))
     written-pass (array c n) g o (x, e, a) =
-        rw (e, written_types-Array x n) (both _ _ (type-passes (array c n) (ground_is.Array x n) o (x, refl, a)) (written-pass c x (is_part (array c n) c o (contains-first c [])) a))
-    written-pass (nonzero p) g o h = rw (h, written-NonZero p) (both _ _ (type-passes (nonzero p) (ground_is.NonZero p) o refl) refl)
+        rw (e, written_types-Array x n) (and_from _ _ (type-passes (array c n) (ground_is.Array x n) o (x, refl, a)) (written-pass c x (is_part (array c n) c o (contains-first c [])) a))
+    written-pass (nonzero p) g o h = rw (h, written-NonZero p) (and_from _ _ (type-passes (nonzero p) (ground_is.NonZero p) o refl) refl)
     written-pass (wrap w c) g o (x, e, a) =
-        rw (e, written_types-Wrap w x) (both _ _ (type-passes (wrap w c) (ground_is.Wrap w x) o (x, refl, a)) (written-pass c x (is_part (wrap w c) c o (contains-first c [])) a))
-    written-pass (named def rs) g o (id, e, at) = rw (e, written-Named id) (both _ _ (type-passes (named def rs) (ground_is.Named id) o (id, refl, at)) refl)
-    written-pass (ref r m c) g o (x, e, at) = rw (e, written-Ref x) (both _ _ (type-passes (ref r m c) (ground_is.Ref x) o (x, refl, at)) refl)
+        rw (e, written_types-Wrap w x) (and_from _ _ (type-passes (wrap w c) (ground_is.Wrap w x) o (x, refl, a)) (written-pass c x (is_part (wrap w c) c o (contains-first c [])) a))
+    written-pass (named def rs) g o (id, e, at) = rw (e, written-Named id) (and_from _ _ (type-passes (named def rs) (ground_is.Named id) o (id, refl, at)) refl)
+    written-pass (ref r m c) g o (x, e, at) = rw (e, written-Ref x) (and_from _ _ (type-passes (ref r m c) (ground_is.Ref x) o (x, refl, at)) refl)
 
     each-pass : (cs : Elements) (gs : List Ground) → ((d : Closed) → Contains (listed cs) d → Occurs resolved d) → EachNumbered types refs cs gs → list_all passes (flat_map written_types gs) ≡ true
     each-pass no_elements gs o h = rw h refl
     each-pass (element c cs) [] o h = absurd h
     each-pass (element c cs) (g ∷ gs) o (a, b) =
-        rw (list_all-append passes (written_types g) (flat_map written_types gs)) (both _ _ (written-pass c g (o c (contains-first c (listed cs))) a) (each-pass cs gs (λ d i. o d (contains-behind c (listed cs) d i)) b))
+        rw (list_all-append passes (written_types g) (flat_map written_types gs)) (and_from _ _ (written-pass c g (o c (contains-first c (listed cs))) a) (each-pass cs gs (λ d i. o d (contains-behind c (listed cs) d i)) b))
 
   zip-pass : (cs : List Closed) (gs : List Ground) → AllZip (IsNumbered types refs) cs gs → ((d : Closed) → Contains cs d → Occurs resolved d) → list_all pass_all gs ≡ true
   zip-pass cs gs z o = zip-all (IsNumbered types refs) pass_all cs gs z (λ c g i h. written-pass c g (o c i) h)
@@ -126,7 +126,7 @@ module _ (resolved : Resolved) (form : IsInForm resolved) (types refs : List Clo
   fields-pass [] (g ∷ gs) z o = absurd z
   fields-pass (cs ∷ css) [] z o = absurd z
   fields-pass (cs ∷ css) (g ∷ gs) z o =
-      rw (list_all-append pass_all g (flat_map (λ ts. ts) gs)) (both _ _ (zip-pass cs g z.0 (λ d i. o d (Contains-append_left cs _ d i))) (fields-pass css gs z.1 (λ d i. o d (Contains-append_right cs _ d i))))
+      rw (list_all-append pass_all g (flat_map (λ ts. ts) gs)) (and_from _ _ (zip-pass cs g z.0 (λ d i. o d (Contains-append_left cs _ d i))) (fields-pass css gs z.1 (λ d i. o d (Contains-append_right cs _ d i))))
 
   row-passes : (c : Closed) (row : NamedRow) → Contains types c → IsNamedRow types refs resolved c row → list_all pass_all (flat_map (λ ts. ts) row.types) ≡ true
   row-passes c row i r =
@@ -143,8 +143,8 @@ module _ (resolved : Resolved) (form : IsInForm resolved) (types refs : List Clo
   asks-pass [] (n ∷ news) z o = absurd z
   asks-pass (s ∷ some) [] z o = absurd z
   asks-pass (s ∷ some) (n ∷ news) z o =
-      both _ _ (written-pass (put_in [] s.src) n.src (o (put_in [] s.src) (contains-first (put_in [] s.src) (put_in [] s.dst ∷ asked_in some))) z.0.src)
-      (both _ _ (written-pass (put_in [] s.dst) n.dst (o (put_in [] s.dst) (contains-behind (put_in [] s.src) (put_in [] s.dst ∷ asked_in some) (put_in [] s.dst) (contains-first (put_in [] s.dst) (asked_in some)))) z.0.dst)
+      and_from _ _ (written-pass (put_in [] s.src) n.src (o (put_in [] s.src) (contains-first (put_in [] s.src) (put_in [] s.dst ∷ asked_in some))) z.0.src)
+      (and_from _ _ (written-pass (put_in [] s.dst) n.dst (o (put_in [] s.dst) (contains-behind (put_in [] s.src) (put_in [] s.dst ∷ asked_in some) (put_in [] s.dst) (contains-first (put_in [] s.dst) (asked_in some)))) z.0.dst)
       (asks-pass some news z.1 (λ d i. o d (Contains-append_right (sides_of s) (asked_in some) d i))))
 
   name-numbered : (x : Closed) (k : ℕ) → is_named x ≡ true → slice_get types k ≡ Some x → IsNumbered types refs x (ground_is.Named (record { 0 = k }))
@@ -177,7 +177,7 @@ module _ (resolved : Resolved) (form : IsInForm resolved) (types refs : List Clo
       let s = flat_map (λ (ask : Ask). ask.src ∷ ask.dst ∷ []) asks in
       let n = map (λ k. ground_is.Named (record { 0 = k })) (range_with_len 0 (length rows)) in
       list_all-append passes n (flat_map written_types (f ++ p ++ s))
-      ∙ both _ _ names (all-flat_map passes written_types (f ++ p ++ s) ∙ list_all-append pass_all (f ++ p) s ∙ both _ _ (list_all-append pass_all f p ∙ both _ _ fields pointees) sides)
+      ∙ and_from _ _ names (all-flat_map passes written_types (f ++ p ++ s) ∙ list_all-append pass_all (f ++ p) s ∙ and_from _ _ (list_all-append pass_all f p ∙ and_from _ _ fields pointees) sides)
 
   -- no reference row is twice
   pub ref-rows-distinct : AreDistinct ref_rows

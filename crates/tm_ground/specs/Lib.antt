@@ -2,7 +2,6 @@ pub mod Closed
 pub mod Occurs
 pub mod Limits
 pub mod Belongs
-pub mod InForm
 pub mod Written
 pub mod Growing
 pub mod Keys

@@ -1,6 +1,6 @@
 ghost use Rattle.std.specs.Prelude.{IfOk, IfErr};
 ghost use Rattle.tm_ground.specs.Belongs.{BelongsToFile};
-ghost use Rattle.tm_ground.specs.InForm.{IsInForm};
+ghost use Rattle.tm_names.specs.InForm.{IsInForm};
 ghost use Rattle.tm_ground.specs.Limits.{HasCause, IsWithinLimits};
 
 use crate::closing::{is_too_deep, occurring_named, occurring_refs};

@@ -5,7 +5,7 @@ ghost use Rattle.tm_base.specs.Worlds.{tables_of};
 ghost use Rattle.tm_ground.specs.Closed.{put_in};
 ghost use Rattle.tm_ground.specs.ClosedTexts.{type_of_texted, AreInOrder, HasItsText};
 ghost use Rattle.tm_ground.specs.Closing.{AreWhole};
-ghost use Rattle.tm_ground.specs.InForm.{IsInForm};
+ghost use Rattle.tm_names.specs.InForm.{IsInForm};
 ghost use Rattle.tm_ground.specs.Keys.{closed_types, named_types};
 ghost use Rattle.tm_ground.specs.Limits.{PassesDepth};
 

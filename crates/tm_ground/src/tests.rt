@@ -1,5 +1,5 @@
 ghost use Rattle.std.specs.Prelude.{◌≡◌, ◌∷◌, [], IfOk};
-ghost use Rattle.tm_ground.specs.InForm.{IsInForm};
+ghost use Rattle.tm_names.specs.InForm.{IsInForm};
 ghost use Rattle.tm_names.specs.declared.resolved.Open.{Prim, Ref};
 ghost use Rattle.tm_names.specs.declared.resolved.Life.TheVariants.{Static};
 

@@ -1,6 +1,6 @@
 ghost use Rattle.std.specs.Prelude.{◌≡◌, IfOk};
 ghost use Rattle.tm_ground.specs.Closing.{AreWhole};
-ghost use Rattle.tm_ground.specs.InForm.{IsInForm};
+ghost use Rattle.tm_names.specs.InForm.{IsInForm};
 ghost use Rattle.tm_ground.specs.Keys.{closed_types, named_types};
 ghost use Rattle.tm_ground.specs.Limits.{PassesDepth};
 ghost use Rattle.tm_ground.specs.Rows.{IsWorldOf};
