@@ -5,6 +5,7 @@ use Rattle.std.specs.Cmp.Lexicographic.{slice_cmp}
 use Rattle.std.specs.List.Sorted.{IsSorted}
 use Rattle.std.specs.Ordering.{nat_cmp}
 use Rattle.std.proofs.lemmas.List.Elements.{All-contains, All-cons}
+use Rattle.std.proofs.lemmas.Slice.Zip.{AllZip-long}
 use Rattle.tm_base.specs.declared.ground.Ground.{Ground}
 use Rattle.tm_base.specs.declared.ground.Ground as ground_is
 use Rattle.tm_base.specs.declared.world.World.{World}
@@ -22,7 +23,6 @@ use Rattle.tm_ground.specs.Occurs.{field_types}
 use Rattle.tm_ground.specs.Rows.{IsNamedRow, IsRefRow, IsAsk, IsWorldOf}
 use Rattle.tm_ground.proofs.GrowLemmas.{contains-from_get}
 use Rattle.tm_ground.proofs.OccurringForm.{occurring-formed}
-use Rattle.tm_ground.proofs.RowForm.{zip-length}
 use Rattle.tm_ground.proofs.StandsLemmas.{stands}
 use Rattle.tm_ground.proofs.TextLemmas.{ref-text}
 
@@ -76,7 +76,7 @@ module _ (resolved : Resolved) (form : IsInForm resolved) (types refs : List Clo
   texts-are : ref_texts resolved world ≡ map (closed_text resolved) refs
   unfolding text-of-number
   texts-are =
-      let count : length world.refs ≡ length refs = sym (zip-length _ refs world.refs w.ref_rows) in
+      let count : length world.refs ≡ length refs = AllZip-long _ refs world.refs w.ref_rows in
       ap (λ n. map text-of-number (range_with_len 0 n)) count ∙ by-places text-of-number (closed_text resolved) 0 refs text-at
 
   pub belongs : AreInOrder resolved refs → BelongsToFile resolved world

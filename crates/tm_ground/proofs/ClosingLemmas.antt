@@ -1,5 +1,5 @@
 -- The search for the named types that occur, which goes through the list that it fills.
-use Rattle.std.proofs.Common.{◌≡◌, ℕ, zero, suc, ◌+◌, ◌<◌, ◌≤◌, sym, ap, subst, ◌∙◌, ⊎_elim, ◌⊎◌, List, [], ◌∷◌, ◌++◌, length, Contains, get_or, Some, None, Err, slice_get, arith, All}
+use Rattle.std.proofs.Common.{◌≡◌, ℕ, zero, suc, ◌+◌, ◌<◌, ◌≤◌, sym, ap, subst, ◌∙◌, ⊎_elim, List, [], ◌∷◌, ◌++◌, length, Contains, get_or, Some, None, Err, slice_get, arith, All}
 use Rattle.std.specs.List.{flat_map}
 use Rattle.std.proofs.lemmas.List.Elements.{Contains-append_cases, Contains-get_or}
 use Rattle.tm_base.specs.Whole.{AreDistinct}
@@ -13,7 +13,7 @@ use Rattle.tm_ground.specs.Limits.{is_named, OccursAs, AreMoreThan, PassesTypes}
 use Rattle.tm_ground.specs.Occurs.{parts_of, asked_types, is_asked, is_part}
 use Rattle.tm_ground.specs.Written.{named_in}
 use Rattle.tm_ground.proofs.ContainsLemmas.{contains-nothing, contains-at}
-use Rattle.tm_ground.proofs.GrowLemmas.{within-trans, grows-old, contains-from_get}
+use Rattle.tm_ground.proofs.GrowLemmas.{below-or-last, within-trans, grows-old, contains-from_get}
 use Rattle.tm_ground.proofs.OccursLemmas.{kept-occur, kept-itself, all-held}
 
 -- no type is twice in the empty list
@@ -94,11 +94,8 @@ module _ (resolved : Resolved) where
             let one : Some c ≡ Some whole = sym here ∙ ap (λ j. slice_get found j) same ∙ at in
             let equal : c ≡ whole = cc in
             subst (λ d. IsWithin (flat_map named_in (parts_of resolved d)) new) (sym equal) a.has)
-            (last k done l);
+            (below-or-last k done l);
       }
-    where
-      last : (k done : ℕ) → k < done + 1 → (k < done) ⊎ (k ≡ done)
-      last k done l = grind arith
 
   pub closing-passes : (done : ℕ) (found : List Closed) (whole : Closed) → IsClosing done found → slice_get found done ≡ Some whole → Overflows 1024 found (flat_map named_in (parts_of resolved whole)) → PassesTypes resolved
   closing-passes done found whole s at o =

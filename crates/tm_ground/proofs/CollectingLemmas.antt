@@ -1,5 +1,5 @@
 -- The search for the reference types that occur, which goes through the list of named types.
-use Rattle.std.proofs.Common.{◌≡◌, ℕ, ◌+◌, ◌<◌, ◌≤◌, sym, ap, subst, ◌∙◌, ⊎_elim, ◌⊎◌, List, [], length, Contains, Some, Err, slice_get, arith}
+use Rattle.std.proofs.Common.{◌≡◌, ℕ, ◌+◌, ◌<◌, ◌≤◌, sym, ap, subst, ◌∙◌, ⊎_elim, List, [], length, Contains, Some, Err, slice_get, arith}
 use Rattle.std.specs.List.{flat_map}
 use Rattle.std.proofs.lemmas.List.Elements.{All-contains}
 use Rattle.tm_base.specs.Whole.{AreDistinct}
@@ -15,7 +15,7 @@ use Rattle.tm_ground.specs.Numbered.{HasNumbers}
 use Rattle.tm_ground.specs.Written.{refs_in, written_in}
 use Rattle.tm_ground.proofs.ClosingLemmas.{none-distinct, grown-occur, all-from_contains, more-than}
 use Rattle.tm_ground.proofs.ContainsLemmas.{contains-nothing, contains-at, contains-filter}
-use Rattle.tm_ground.proofs.GrowLemmas.{within-trans, grows-old, contains-from_get}
+use Rattle.tm_ground.proofs.GrowLemmas.{below-or-last, within-trans, grows-old, contains-from_get}
 use Rattle.tm_ground.proofs.OccursLemmas.{written-occurs, kept-occur, kept-itself, all-held}
 
 module _ (resolved : Resolved) (named : List Closed) where
@@ -68,11 +68,8 @@ module _ (resolved : Resolved) (named : List Closed) (whole : IsWhole 1024 (Occu
             let one : Some d ≡ Some c = sym e ∙ ap (λ j. slice_get named j) same ∙ at in
             let equal : d ≡ c = cc in
             subst (λ x. IsWithin (flat_map refs_in (parts_of resolved x)) new) (sym equal) a.has)
-            (last k done l);
+            (below-or-last k done l);
       }
-    where
-      last : (k done : ℕ) → k < done + 1 → (k < done) ⊎ (k ≡ done)
-      last k done l = grind arith
 
   pub collecting-passes : (done : ℕ) (refs : List Closed) (c : Closed) → IsCollecting resolved named done refs → slice_get named done ≡ Some c → Overflows 64 refs (flat_map refs_in (parts_of resolved c)) → PassesRefs resolved
   collecting-passes done refs c s at o = more-than 64 OccursRef refs _ s.distinct s.occur (parts-occur done c at) o

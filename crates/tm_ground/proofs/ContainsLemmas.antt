@@ -2,6 +2,7 @@
 use Rattle.std.proofs.Common.{◌≡◌, ℕ, zero, suc, ◌<◌, Bool, true, false, cond, refl, sym, ap, subst, ◌∙◌, ◌⊎◌, inl, inr, ⊎_elim, List, [], ◌∷◌, length, get_or, Contains, filter, Some, slice_get, arith, true≢false}
 use Rattle.std.specs.List.{flat_map}
 use Rattle.std.proofs.lemmas.List.Elements.{Contains-append_left, Contains-append_right, Contains-append_cases}
+use Rattle.std.proofs.lemmas.Option.{slice_get-get_or}
 use Rattle.tm_ground.specs.Closed.{Closed}
 
 pub contains-nothing : (x : Closed) → Contains [] x → ⊥
@@ -49,14 +50,9 @@ flat_map-contains f (z ∷ zs) y x h i =
     let rest = flat_map-contains f zs y x in
     ⊎_elim (λ s. Contains-append_left (f z) (flat_map f zs) x (subst (λ w. Contains (f w) x) (sym s) i)) (λ j. Contains-append_right (f z) (flat_map f zs) x (rest j i)) (contains-cons z zs y h)
 
-pub get-contains : (xs : List Closed) (i : ℕ) (x : Closed) → i < length xs → slice_get xs i ≡ Some (get_or xs i x)
-get-contains [] i x h = absurd (omega (arith, h))
-get-contains (y ∷ ys) zero x h = refl
-get-contains (y ∷ ys) (suc i) x h = get-contains ys i x (omega (arith, h))
-
 -- where a type stands
 pub contains-at : (xs : List Closed) (x : Closed) → Contains xs x → (i : ℕ) × (i < length xs) × (slice_get xs i ≡ Some x)
-contains-at xs x (i, l, e) = (i, l, get-contains xs i x l ∙ ap (λ (c : Closed). Some c) e)
+contains-at xs x (i, l, e) = (i, l, slice_get-get_or xs i x l ∙ ap (λ (c : Closed). Some c) e)
 
 pub get_or-from_get : (xs : List Closed) (i : ℕ) (x : Closed) → slice_get xs i ≡ Some x → (i < length xs) × (x ≡ get_or xs i x)
 get_or-from_get [] i x h = cc

@@ -2,6 +2,7 @@
 use Rattle.std.proofs.Common.{◌≡◌, ℕ, zero, suc, ◌+◌, ◌<◌, ◌≤◌, Bool, true, false, ◌||◌, refl, sym, ap, ◌∙◌, List, [], ◌∷◌, ◌++◌, map, length, Some, slice_get, unwrap_or, arith, if◌then◌else◌, drop, get_or, ⊎_elim, ◌⊎◌, length-append}
 use Rattle.std.proofs.lemmas.List.{drop_all}
 use Rattle.std.specs.List.{list_any, flat_map}
+use Rattle.std.proofs.lemmas.List.Folds.{list_any-append}
 use Rattle.tm_base.specs.declared.definition.DefId.{DefId}
 use Rattle.tm_base.specs.declared.definition.RegionId.{RegionId}
 use Rattle.tm_names.specs.declared.resolved.Open.{Open, Row_of-Open, end_of-Open, more_of-Open, Prim, Never, Tuple', Array', NonZero, Wrap', Named, Ref'}
@@ -53,14 +54,6 @@ list_any-agree p q same (x ∷ xs) =
     let a = same x in
     let b = list_any-agree p q same xs in
     cc
-
-pub list_any-append : {X : Type 0} (p : X → Bool) (xs ys : List X) → list_any p (xs ++ ys) ≡ (list_any p xs || list_any p ys)
-list_any-append p [] ys = refl
-list_any-append p (x ∷ xs) ys = by (p x) (list_any-append p xs ys)
-  where
-    by : (b : Bool) → list_any p (xs ++ ys) ≡ (list_any p xs || list_any p ys) → (b || list_any p (xs ++ ys)) ≡ ((b || list_any p xs) || list_any p ys)
-    by true e = refl
-    by false e = e
 
 module _ (resolved : Resolved) where
   abbrev Passes : ℕ → Closed → Bool

@@ -1,11 +1,15 @@
 -- How lists to which types are added grow.
-use Rattle.std.proofs.Common.{◌≡◌, ◌≢◌, ℕ, ◌+◌, refl, sym, ap, subst, ◌∙◌, List, [], ◌∷◌, ◌++◌, length, append_assoc, append-nil, arith, ⊎_elim, Contains, length-append, zero, suc, map, Some, slice_get}
+use Rattle.std.proofs.Common.{◌≡◌, ◌≢◌, ℕ, ◌+◌, ◌<◌, ◌⊎◌, refl, sym, ap, subst, ◌∙◌, List, [], ◌∷◌, ◌++◌, length, append_assoc, append-nil, arith, ⊎_elim, Contains, length-append, map, Some, slice_get}
 use Rattle.std.proofs.lemmas.List.Elements.{Contains-append_left, Contains-append_right, Contains-append_cases, Contains-push_cases}
 use Rattle.std.proofs.lemmas.List.{get_or_default, length-map, map-append}
 use Rattle.std.proofs.lemmas.List.Quantifiers.{all_pairs_push}
 use Rattle.tm_ground.specs.Closed.{Closed}
-use Rattle.tm_ground.proofs.ContainsLemmas.{contains-nothing}
+use Rattle.tm_ground.proofs.ContainsLemmas.{contains-nothing, get_or-from_get}
 use Rattle.tm_ground.specs.Growing.{IsWithin, Grows, Adds, Overflows}
+
+-- the places done so far, and the one that is done now
+pub below-or-last : (k done : ℕ) → k < done + 1 → (k < done) ⊎ (k ≡ done)
+below-or-last k done l = grind arith
 
 pub within-self : (xs : List Closed) → IsWithin xs xs
 within-self xs = record { within = λ c h. h }
@@ -97,13 +101,9 @@ overflows-new limit old x absent full = record {
 }
 
 pub contains-from_get : (xs : List Closed) (i : ℕ) (x : Closed) → slice_get xs i ≡ Some x → Contains xs x
-contains-from_get [] i x h = cc
-contains-from_get (y ∷ ys) zero x h =
-    let same : y ≡ x = cc in
-    (0, omega arith, same)
-contains-from_get (y ∷ ys) (suc i) x h =
-    let (k, l, e) = contains-from_get ys i x h in
-    (suc k, omega (arith, l), e)
+contains-from_get xs i x h =
+    let at = get_or-from_get xs i x h in
+    (i, at.0, sym at.1)
 
 -- items that stand for types, of which one is pushed
 module _ {X : Type 0} (type_of : X → Closed) (limit : ℕ) (items : List X) (x : Closed) where

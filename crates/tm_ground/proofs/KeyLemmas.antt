@@ -5,20 +5,17 @@ use Rattle.std.proofs.lemmas.Slice.Eq.{bytes_eq-Decides}
 use Rattle.std.specs.List.{list_any}
 use Rattle.indexmap.specs.IndexSet.{insert_key}
 use Rattle.std.proofs.lemmas.List.Quantifiers.{position-Some}
+use Rattle.std.proofs.lemmas.Bool.{and_parts, or_parts}
 use Rattle.tm_base.specs.declared.definition.DefId.{DefId}
 use Rattle.tm_base.specs.declared.definition.RegionId.{RegionId}
 use Rattle.tm_ground.specs.declared.named_set.Key.{Key}
 use Rattle.tm_ground.specs.Closed.{Closed}
 use Rattle.tm_ground.specs.Keys.{numbered_regions, type_of_key}
 
-get-within : {X Y : Type 0} (f : X → Y) (xs : List X) (i : ℕ) (d : X) → i < length xs → slice_get (map f xs) i ≡ Some (f (get_or xs i d))
+pub get-within : {X Y : Type 0} (f : X → Y) (xs : List X) (i : ℕ) (d : X) → i < length xs → slice_get (map f xs) i ≡ Some (f (get_or xs i d))
 get-within f [] i d h = absurd (omega (arith, h))
 get-within f (x ∷ xs) zero d h = refl
 get-within f (x ∷ xs) (suc i) d h = get-within f xs i d (omega (arith, h))
-
-either_false : (a b : Bool) → (a || b) ≡ false → (a ≡ false) × (b ≡ false)
-either_false true b h = cc
-either_false false b h = (refl, h)
 
 -- where a test is passed by the keys of one type alone
 module _ {X : Type 0} (f : X → Closed) (test : X → Bool) (sought : Closed)
@@ -38,7 +35,7 @@ module _ {X : Type 0} (f : X → Closed) (test : X → Bool) (sought : Closed)
   pub none-absent : (xs : List X) → list_any test xs ≡ false → ¬ Contains (map f xs) sought
   none-absent [] h = λ e. omega (arith, e.1)
   none-absent (x ∷ xs) h =
-      let parts = either_false (test x) (list_any test xs) h in
+      let parts = or_parts (test x) (list_any test xs) h in
       λ e. none-absent xs parts.1 (elsewhere x xs e.0 e.1 e.2 parts.0)
 
 numbered-same : (ms ns : List ℕ) → numbered_regions ms ≡ numbered_regions ns → ms ≡ ns
@@ -54,17 +51,13 @@ numbered-same (m ∷ ms) (n ∷ ns) e =
     let number : m ≡ n = ap (λ (r : RegionId). r.0) first in
     cc
 
-both_true : (a b : Bool) → (a && b) ≡ true → (a ≡ true) × (b ≡ true)
-both_true true b h = (refl, h)
-both_true false b h = cc
-
 -- what a comparison of keys answers
 abbrev pub key_test : Key → Key → Bool
 key_test a b = nat_eq a.def b.def && bytes_eq a.regions.items b.regions.items
 
 pub key-sound : (a b : Key) → key_test a b ≡ true → type_of_key b ≡ type_of_key a
 key-sound a b h =
-    let parts = both_true (nat_eq a.def b.def) (bytes_eq a.regions.items b.regions.items) h in
+    let parts = and_parts (nat_eq a.def b.def) (bytes_eq a.regions.items b.regions.items) h in
     let def : a.def ≡ b.def = (Decides-eqb a.def b.def).0 parts.0 in
     let regions : a.regions.items ≡ b.regions.items = (bytes_eq-Decides a.regions.items b.regions.items).0 parts.1 in
     cc

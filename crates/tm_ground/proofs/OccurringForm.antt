@@ -1,7 +1,7 @@
 -- In a file in form each type that occurs is in form.
-use Rattle.std.proofs.Common.{◌≡◌, ℕ, zero, suc, ◌+◌, ◌<◌, ◌≤◌, Bool, true, refl, sym, ap, subst, ◌∙◌, ⊎_elim, List, [], ◌∷◌, ◌++◌, map, length, Contains, slice_get, unwrap_or, nat_lt, nat_le, arith}
+use Rattle.std.proofs.Common.{◌≡◌, ℕ, zero, suc, ◌+◌, ◌≤◌, Bool, true, refl, sym, ap, subst, ◌∙◌, ⊎_elim, List, [], ◌∷◌, ◌++◌, map, length, Contains, slice_get, unwrap_or, nat_lt, arith}
 use Rattle.std.specs.List.{list_all, flat_map}
-use Rattle.std.proofs.lemmas.Bool.Decides.{nat_tests}
+use Rattle.std.proofs.lemmas.Bool.{leb-true, lt-ltb}
 use Rattle.std.proofs.lemmas.List.{map-append}
 use Rattle.std.proofs.lemmas.List.Elements.{All-contains, Contains-append_left, Contains-append_right}
 use Rattle.std.proofs.lemmas.List.Sums.{AllPass-from_list_all}
@@ -16,12 +16,6 @@ use Rattle.tm_ground.specs.Occurs.{listed, parts_in, parts_of, all_fields, writt
 use Rattle.tm_ground.proofs.ContainsLemmas.{contains-nothing, contains-cons}
 use Rattle.tm_ground.proofs.FormLemmas.{first, second, is_region_known, is_known, are_known, count-written, put_in-known}
 use Rattle.tm_ground.proofs.SizeLemmas.{node_count, counts, node_count-parts}
-
-le-from : (a b : ℕ) → nat_le a b ≡ true → a ≤ b
-le-from a b h = grind (arith, nat_tests)
-
-pub lt-true : (a b : ℕ) → a < b → nat_lt a b ≡ true
-lt-true a b h = grind (arith, nat_tests)
 
 -- what is in a list of types with their regions put in comes from one of them
 from-map : (f : Open → Closed) (ts : List Open) (c : Closed) → Contains (map f ts) c → (t : Open) × (f t ≡ c) × Contains ts t
@@ -103,8 +97,8 @@ module _ (resolved : Resolved) where
     put_in-formed rs ts c regions i each =
         let (t, e, j) = from-map (put_in rs) ts c i in
         let heads = first _ _ (each t j) in
-        let few = le-from (length (written t)) 64 (second (list_all (is_head_known (length resolved.defs) (length resolved.regions)) (written t)) _ (each t j)) in
-        let known = put_in-known (length resolved.defs) (length resolved.regions) (lt-true 0 (length resolved.regions) form.some_region) rs regions t heads in
+        let few = leb-true (length (written t)) 64 (second (list_all (is_head_known (length resolved.defs) (length resolved.regions)) (written t)) _ (each t j)) in
+        let known = put_in-known (length resolved.defs) (length resolved.regions) (lt-ltb 0 (length resolved.regions) form.some_region) rs regions t heads in
         subst IsFormed e (record { known = known; short = omega (arith, few, count-written rs t) })
 
     asked-formed : (c : Closed) → Contains (asked_types resolved) c → IsFormed c

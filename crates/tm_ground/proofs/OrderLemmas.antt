@@ -1,5 +1,5 @@
 -- References in the order of their texts.
-use Rattle.std.proofs.Common.{◌≡◌, ℕ, zero, suc, ◌+◌, ◌<◌, refl, sym, ap, subst, ◌∙◌, List, [], ◌∷◌, ◌++◌, map, length, get_or, take, All, Some, slice_get, arith}
+use Rattle.std.proofs.Common.{◌≡◌, ℕ, suc, ◌+◌, ◌<◌, refl, sym, ap, subst, ◌∙◌, List, [], ◌∷◌, ◌++◌, map, length, get_or, take, All, Some, slice_get, arith}
 use Rattle.std.specs.Cmp.Lexicographic.{slice_cmp}
 use Rattle.std.specs.List.Sorted.{IsPermutation, IsSorted, IsSortedByKey}
 use Rattle.std.specs.declared.cmp.Ordering.{Ordering}
@@ -21,6 +21,7 @@ use Rattle.tm_names.specs.InForm.{IsInForm}
 use Rattle.tm_ground.specs.Keys.{closed_types}
 use Rattle.tm_ground.specs.Limits.{is_ref, OccursAs}
 use Rattle.tm_ground.specs.Rows.{IsWorldOf}
+use Rattle.tm_ground.proofs.KeyLemmas.{get-within}
 use Rattle.tm_ground.proofs.NumberLemmas.{contains-map}
 use Rattle.tm_ground.proofs.OccurringForm.{occurring-formed}
 use Rattle.tm_ground.proofs.PigeonLemmas.{whole-again}
@@ -28,9 +29,7 @@ use Rattle.tm_ground.proofs.TextLemmas.{ref-text}
 
 -- the closed type at the place of a written one
 get-closed : (ts : List Open) (i : ℕ) (t : Open) → i < length ts → t ≡ get_or ts i t → slice_get (closed_types ts) i ≡ Some (put_in [] t)
-get-closed [] i t l e = absurd (omega (arith, l))
-get-closed (u ∷ ts) zero t l e = ap (λ (c : Closed). Some c) (ap (put_in []) (sym e))
-get-closed (u ∷ ts) (suc i) t l e = get-closed ts i t (omega (arith, l)) e
+get-closed ts i t l e = get-within (put_in []) ts i t l ∙ ap (λ (u : Open). Some (put_in [] u)) (sym e)
 
 -- the text of the reference at a place
 pub text-at : (resolved : Resolved) → IsInForm resolved → (types : List Closed) (ts : List Open) → AreWhole resolved types (closed_types ts) → (world : World) → IsWorldOf resolved types (closed_types ts) world → (i : ℕ) (t : Open) → i < length ts → t ≡ get_or ts i t → text_of (tables_of world) (ground_is.Ref (record { 0 = i })) ≡ closed_text resolved (put_in [] t)

@@ -1,10 +1,11 @@
 -- Rows of the types that occur are in form: their regions are known, and they have their fields' types.
 use Rattle.std.proofs.Common.{◌≡◌, ℕ, zero, suc, ◌<◌, Bool, true, ◌==◌, refl, sym, ap, subst, ◌∙◌, List, [], ◌∷◌, map, length, Contains, slice_get, get_or, unwrap_or, nat_lt, arith}
 use Rattle.std.specs.List.{AllZip, list_all}
-use Rattle.std.proofs.lemmas.Bool.Decides.{nat_tests}
 use Rattle.std.proofs.lemmas.List.{length-map}
 use Rattle.std.proofs.lemmas.List.Elements.{All-contains}
 use Rattle.std.proofs.lemmas.Bool.{and_from}
+use Rattle.std.proofs.lemmas.Bool.{ltb-true}
+use Rattle.std.proofs.lemmas.Slice.Zip.{AllZip-long}
 use Rattle.tm_base.specs.declared.definition.Def.{Def}
 use Rattle.tm_base.specs.declared.definition.NamedRow.{NamedRow}
 use Rattle.tm_base.specs.declared.definition.RefRow.{RefRow}
@@ -23,12 +24,6 @@ use Rattle.tm_ground.specs.Rows.{IsNamedRow, IsRefRow}
 use Rattle.tm_ground.proofs.ContainsLemmas.{contains-first, contains-behind}
 use Rattle.tm_ground.proofs.FormLemmas.{first, second, is_known}
 use Rattle.tm_ground.proofs.OccurringForm.{IsFormed, regions-known, occurring-formed}
-
-pub zip-length : {A B : Type 0} (R : A → B → Type 0) (xs : List A) (ys : List B) → AllZip R xs ys → length xs ≡ length ys
-zip-length R [] [] h = refl
-zip-length R [] (y ∷ ys) h = absurd h
-zip-length R (x ∷ xs) [] h = absurd h
-zip-length R (x ∷ xs) (y ∷ ys) h = ap (λ n. suc n) (zip-length R xs ys h.1)
 
 pub zip-at : {A B : Type 0} (R : A → B → Type 0) (xs : List A) (ys : List B) (i : ℕ) (x : A) (y : B) → AllZip R xs ys → i < length xs → R (get_or xs i x) (get_or ys i y)
 zip-at R [] ys i x y h l = absurd (omega (arith, l))
@@ -52,7 +47,7 @@ fields-typed P f [] (t ∷ ts) gs h z = cc
 fields-typed P f (v ∷ vs) [] gs h z = cc
 fields-typed P f (v ∷ vs) (t ∷ ts) [] h z = absurd z
 fields-typed P f (v ∷ vs) (t ∷ ts) (g ∷ gs) h z =
-    let same : length t ≡ length g = sym (length-map t f) ∙ zip-length P (map f t) g z.0 in
+    let same : length t ≡ length g = sym (length-map t f) ∙ sym (AllZip-long P (map f t) g z.0) in
     and_from _ _ (ap (λ n. length v.fields == n) (sym same) ∙ first _ _ h) (fields-typed P f vs ts gs (second (length v.fields == length t) _ h) z.1)
 
 row-typed : (P : Closed → Ground → Type 0) (f : Open → Closed) (defs : List Def) (types : List (List (List Open))) (k : ℕ) (row : NamedRow) → are_defs_typed defs types ≡ true → k < length defs → AllZip (AllZip P) (map (map f) (unwrap_or (slice_get types k) [])) row.types → is_row_of (slice_get defs k) row ≡ true
@@ -60,9 +55,6 @@ row-typed P f [] types k row h l z = absurd (omega (arith, l))
 row-typed P f (d ∷ defs) [] k row h l z = cc
 row-typed P f (d ∷ defs) (ts ∷ types) zero row h l z = fields-typed P f d.variants ts row.types (first _ _ h) z
 row-typed P f (d ∷ defs) (ts ∷ types) (suc k) row h l z = row-typed P f defs types k row (second (is_variant_typed d.variants ts) _ h) (omega (arith, l)) z
-
-lt-from : (a b : ℕ) → nat_lt a b ≡ true → a < b
-lt-from a b h = grind (arith, nat_tests)
 
 module _ (resolved : Resolved) (form : IsInForm resolved) (types refs : List Closed) (whole : AreWhole resolved types refs)
     (rows : List NamedRow) (ref_rows : List RefRow)
@@ -88,7 +80,7 @@ module _ (resolved : Resolved) (form : IsInForm resolved) (types refs : List Clo
   unfolding is_known
   row-in_form c row h r =
       let known = (subst (IsFormed resolved) r.type (type-formed c h)).known in
-      row-typed (IsNumbered types refs) (put_in row.regions) resolved.defs resolved.types row.def.0 row form.defs_typed (lt-from row.def.0 (length resolved.defs) (first _ _ known)) r.fields
+      row-typed (IsNumbered types refs) (put_in row.regions) resolved.defs resolved.types row.def.0 row form.defs_typed (ltb-true row.def.0 (length resolved.defs) (first _ _ known)) r.fields
 
   pub rows-in_form : are_rows_in_form resolved.defs rows ≡ true
   unfolding are_rows_in_form
@@ -98,7 +90,7 @@ module _ (resolved : Resolved) (form : IsInForm resolved) (types refs : List Clo
   pub rows-distinct : AreDistinct rows
   rows-distinct = record {
     apart = λ i j d k l e.
-        let m : j < length types = omega (arith, l, zip-length _ types rows of_rows) in
+        let m : j < length types = omega (arith, l, AllZip-long _ types rows of_rows) in
         let a = zip-at (IsNamedRow types refs resolved) types rows i (type_of_row d) d of_rows (omega (arith, k, m)) in
         let b = zip-at (IsNamedRow types refs resolved) types rows j (type_of_row d) d of_rows m in
         whole.rows.all.distinct.apart i j (type_of_row d) k m (a.type ∙ ap type_of_row e ∙ sym b.type);

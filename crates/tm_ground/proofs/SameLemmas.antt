@@ -24,7 +24,6 @@ closed-same (named def regions) (named other others) h r e = cc
 closed-same (ref region mutable c) (ref other flag d) h r e = cc
 closed-same _ _ h r e = cc
 
--- what a comparison of heads, regions and parts answers
 -- a test isn't passed and failed
 pub never_both : (r : Bool) → IsTrue r → r ≡ false → ⊥
 never_both true t e = cc
@@ -33,5 +32,6 @@ never_both false t e = cc
 pub differs : (a b : Closed) {X : Type 0} (f : Closed → X) → (f a ≡ f b → ⊥) → IsTrue false ↔ (a ≡ b)
 differs a b f h = (λ t. absurd (never_both false t refl), λ e. absurd (h (ap f e)))
 
+-- what a comparison of heads, regions and parts answers
 pub agrees : (a b : Closed) (r : Bool) → head_of a ≡ head_of b → regions_given a ≡ regions_given b → IsTrue r ↔ (parts_in a ≡ parts_in b) → IsTrue r ↔ (a ≡ b)
 agrees a b r h g e = (λ t. closed-same a b h g (e.0 t), λ s. e.1 (ap parts_in s))

@@ -3,6 +3,8 @@ use Rattle.std.proofs.Common.{◌≡◌, ℕ, zero, suc, Bool, true, false, ◌|
 use Rattle.std.specs.List.{AllZip, list_any, flat_map}
 use Rattle.std.proofs.lemmas.Bool.Decides.{Decides-eqb}
 use Rattle.std.proofs.lemmas.List.Elements.{Contains-append_left, Contains-append_right}
+use Rattle.std.proofs.lemmas.Bool.{or_from}
+use Rattle.std.proofs.lemmas.List.Folds.{list_any-append}
 use Rattle.tm_base.specs.declared.definition.Def.{Def}
 use Rattle.tm_base.specs.declared.definition.Field.{Field}
 use Rattle.tm_base.specs.declared.definition.NamedRow.{NamedRow}
@@ -22,12 +24,8 @@ use Rattle.tm_ground.specs.Numbered.{IsNumbered, EachNumbered}
 use Rattle.tm_ground.specs.Occurs.{is_holding, listed, parts_of, field_types, Occurs, is_part}
 use Rattle.tm_ground.specs.Rows.{IsNamedRow}
 use Rattle.tm_ground.proofs.ContainsLemmas.{contains-first, contains-behind}
-use Rattle.tm_ground.proofs.DepthLemmas.{list_any-append}
 use Rattle.tm_ground.proofs.FormLemmas.{first, second}
 use Rattle.tm_ground.proofs.StandsLemmas.{zip-get}
-
-or-false : (a b : Bool) → a ≡ false → b ≡ false → (a || b) ≡ false
-or-false a b h i = rw (h, i) refl
 
 first-false : (a b : Bool) → (a || b) ≡ false → a ≡ false
 first-false true b h = h
@@ -72,7 +70,7 @@ module _ (resolved : Resolved) (types refs : List Closed) (rows : List NamedRow)
     elements-whole no_elements gs h o e = rw h refl
     elements-whole (element c cs) [] h o e = absurd h
     elements-whole (element c cs) (g ∷ gs) (a, b) o e =
-        or-false _ _ (below c g (o c (contains-first c (listed cs))) a (first-false _ _ e)) (elements-whole cs gs b (λ d i. o d (contains-behind c (listed cs) d i)) (second-false (depth_passes resolved n c) _ e))
+        or_from _ _ (below c g (o c (contains-first c (listed cs))) a (first-false _ _ e)) (elements-whole cs gs b (λ d i. o d (contains-behind c (listed cs) d i)) (second-false (depth_passes resolved n c) _ e))
 
     fields-whole : (fs : List Field) (cs : List Closed) (gs : List Ground) → length fs ≡ length gs → AllZip (IsNumbered types refs) cs gs → ((d : Closed) → Contains cs d → Occurs resolved d) → list_any (depth_passes resolved n) cs ≡ false → some_field is_too_deep (expanded_fields part fs gs) ≡ false
     unfolding some_part
@@ -80,7 +78,7 @@ module _ (resolved : Resolved) (types refs : List Closed) (rows : List NamedRow)
     fields-whole (f ∷ fs) cs [] l z o e = absurd (omega (arith, l))
     fields-whole (f ∷ fs) [] (g ∷ gs) l z o e = absurd z
     fields-whole (f ∷ fs) (c ∷ cs) (g ∷ gs) l z o e =
-        or-false _ _ (below c g (o c (contains-first c cs)) z.0 (first-false _ _ e)) (fields-whole fs cs gs (omega (arith, l)) z.1 (λ d i. o d (contains-behind c cs d i)) (second-false (depth_passes resolved n c) _ e))
+        or_from _ _ (below c g (o c (contains-first c cs)) z.0 (first-false _ _ e)) (fields-whole fs cs gs (omega (arith, l)) z.1 (λ d i. o d (contains-behind c cs d i)) (second-false (depth_passes resolved n c) _ e))
 
     variants-whole : (vs : List Variant) (css : List (List Closed)) (gs : List (List Ground)) → has_its_types vs gs ≡ true → AllZip (AllZip (IsNumbered types refs)) css gs → ((d : Closed) → Contains (flat_map (λ cs. cs) css) d → Occurs resolved d) → list_any (depth_passes resolved n) (flat_map (λ cs. cs) css) ≡ false → some_variant is_too_deep (variants_of part vs gs) ≡ false
     unfolding some_part
@@ -90,7 +88,7 @@ module _ (resolved : Resolved) (types refs : List Closed) (rows : List NamedRow)
     variants-whole (v ∷ vs) (cs ∷ css) (g ∷ gs) h z o e =
         let split = sym (list_any-append (depth_passes resolved n) cs (flat_map (λ xs. xs) css)) ∙ e in
         let same = (Decides-eqb (length v.fields) (length g)).0 (first _ _ h) in
-        or-false _ _
+        or_from _ _
         (fields-whole v.fields cs g same z.0 (λ d i. o d (Contains-append_left cs _ d i)) (first-false _ _ split))
         (variants-whole vs css gs (second (length v.fields == length g) _ h) z.1 (λ d i. o d (Contains-append_right cs _ d i)) (second-false (list_any (depth_passes resolved n) cs) _ split))
 

@@ -1,7 +1,8 @@
 -- The search for a type that is too deep, through the questions and the fields of named types.
-use Rattle.std.proofs.Common.{◌≡◌, ℕ, ◌+◌, ◌<◌, ◌≤◌, Bool, true, false, ◌||◌, true≢false, refl, sym, ap, ◌∙◌, ⊎_elim, ◌⊎◌, inl, inr, List, [], ◌∷◌, length, Contains, Some, slice_get, arith}
+use Rattle.std.proofs.Common.{◌≡◌, ℕ, ◌+◌, ◌<◌, ◌≤◌, Bool, true, false, ◌||◌, true≢false, refl, sym, ap, ◌∙◌, ⊎_elim, List, [], ◌∷◌, length, Contains, Some, slice_get, arith}
 use Rattle.std.specs.List.{list_any, flat_map}
 use Rattle.std.proofs.lemmas.List.Elements.{All-contains}
+use Rattle.std.proofs.lemmas.Bool.{or_cases}
 use Rattle.tm_names.specs.declared.resolved.Resolved.{Resolved}
 use Rattle.tm_ground.specs.Closed.{Closed}
 use Rattle.tm_ground.specs.Closing.{IsWhole}
@@ -12,18 +13,14 @@ use Rattle.tm_ground.specs.Occurs.{parts_of, asked_types, Occurs, is_asked, is_p
 use Rattle.tm_ground.specs.Written.{written_in}
 use Rattle.tm_ground.proofs.ContainsLemmas.{contains-nothing, contains-cons, contains-first, contains-behind, contains-filter, contains-flat_map, contains-at}
 use Rattle.tm_ground.proofs.DepthLemmas.{list_any-agree, passes-exact}
-use Rattle.tm_ground.proofs.GrowLemmas.{contains-from_get}
+use Rattle.tm_ground.proofs.GrowLemmas.{below-or-last, contains-from_get}
 use Rattle.tm_ground.proofs.OccursLemmas.{written-occurs, kept, kept-itself, all-held}
-
-either_true : (a b : Bool) → (a || b) ≡ true → (a ≡ true) ⊎ (b ≡ true)
-either_true true b h = inl refl
-either_true false b h = inr h
 
 pub any-found : (p : Closed → Bool) (xs : List Closed) → list_any p xs ≡ true → (x : Closed) × Contains xs x × (p x ≡ true)
 any-found p [] h = cc
 any-found p (x ∷ xs) h =
     let rest = any-found p xs in
-    ⊎_elim (λ e. (x, contains-first x xs, e)) (λ e. (let (y, i, j) = rest e in (y, contains-behind x xs y i, j))) (either_true (p x) (list_any p xs) h)
+    ⊎_elim (λ e. (x, contains-first x xs, e)) (λ e. (let (y, i, j) = rest e in (y, contains-behind x xs y i, j))) (or_cases (p x) (list_any p xs) h)
 
 pub any-true : (p : Closed → Bool) (xs : List Closed) (x : Closed) → Contains xs x → p x ≡ true → list_any p xs ≡ true
 any-true p [] x h e = absurd (contains-nothing x h)
@@ -80,10 +77,7 @@ module _ (resolved : Resolved) (tables : List (List Bool)) (exact : AreDepths re
         let one : Some d ≡ Some c = sym h ∙ ap (λ j. slice_get named j) same ∙ at in
         let equal : d ≡ c = cc in
         ap (λ x. list_any (deep_within tables) (parts_of resolved x)) equal ∙ e)
-        (last k done l)
-      where
-        last : (k done : ℕ) → k < done + 1 → (k < done) ⊎ (k ≡ done)
-        last k done l = grind arith
+        (below-or-last k done l)
 
     pub shallow-ends : (done : ℕ) → list_any (deep_within tables) (asked_types resolved) ≡ false → IsShallow resolved tables named done → length named ≤ done → ¬ PassesDepth resolved
     shallow-ends done asked s over = λ p.

@@ -2,8 +2,10 @@
 use Rattle.std.proofs.Common.{◌≡◌, ℕ, zero, suc, ◌+◌, ◌<◌, Bool, true, false, not, ◌&&◌, refl, sym, ap, subst, ◌∙◌, List, [], ◌∷◌, ◌++◌, map, length, Contains, Some, slice_get, get_or, arith}
 use Rattle.std.specs.List.{AllZip, list_all, flat_map, range_with_len}
 use Rattle.std.proofs.lemmas.List.Elements.{All-contains, Contains-append_left, Contains-append_right}
-use Rattle.std.proofs.lemmas.List.Folds.{list_all-append}
+use Rattle.std.proofs.lemmas.List.Folds.{list_all-append, list_all-map}
 use Rattle.std.proofs.lemmas.Bool.{and_from}
+use Rattle.std.proofs.lemmas.Option.{slice_get-get_or}
+use Rattle.std.proofs.lemmas.Slice.Zip.{AllZip-long}
 use Rattle.tm_base.specs.declared.ask.Ask.{Ask}
 use Rattle.tm_base.specs.declared.definition.NamedRow.{NamedRow}
 use Rattle.tm_base.specs.declared.definition.RefRow.{RefRow}
@@ -30,7 +32,7 @@ use Rattle.tm_ground.proofs.GrowLemmas.{contains-from_get}
 use Rattle.tm_ground.proofs.HeadLemmas.{head-in_form}
 use Rattle.tm_ground.proofs.NumberedOnce.{one-type}
 use Rattle.tm_ground.proofs.OccurringForm.{occurring-formed}
-use Rattle.tm_ground.proofs.RowForm.{zip-length, zip-at, zip-all, row-in_form}
+use Rattle.tm_ground.proofs.RowForm.{zip-at, zip-all, row-in_form}
 use Rattle.tm_ground.proofs.ShallowForm.{whole-at}
 
 written-Prim : (p : Primitive) → written_types (ground_is.Prim p) ≡ ground_is.Prim p ∷ []
@@ -61,10 +63,6 @@ all-flat_map : {X Y : Type 0} (p : Y → Bool) (f : X → List Y) (xs : List X) 
 all-flat_map p f [] = refl
 all-flat_map p f (x ∷ xs) = list_all-append p (f x) (flat_map f xs) ∙ ap (λ b. list_all p (f x) && b) (all-flat_map p f xs)
 
-all-map : {X Y : Type 0} (p : Y → Bool) (f : X → Y) (xs : List X) → list_all p (map f xs) ≡ list_all (λ x. p (f x)) xs
-all-map p f [] = refl
-all-map p f (x ∷ xs) = ap (λ b. p (f x) && b) (all-map p f xs)
-
 all-range : (p : ℕ → Bool) (a n : ℕ) → ((k : ℕ) → k < a + n → p k ≡ true) → list_all p (range_with_len a n) ≡ true
 all-range p a zero each = refl
 all-range p a (suc n) each = and_from _ _ (each a (omega arith)) (all-range p (a + 1) n (λ k l. each k (omega (arith, l))))
@@ -89,7 +87,7 @@ module _ (resolved : Resolved) (form : IsInForm resolved) (types refs : List Clo
       let head = head-in_form types refs (length resolved.defs) (length resolved.regions) c g h formed.known in
       let typed = row-in_form resolved form types refs whole rows ref_rows of_rows of_refs in
       let deep = whole-at resolved types refs rows of_rows typed (contains-from_get types) 64 c g o h (not-deep c o) in
-      and_from _ _ (and_from _ _ (rw (sym (zip-length _ types rows of_rows), sym (zip-length _ refs ref_rows of_refs)) head) (ap not deep)) (ends-all types refs ref_rows of_refs 64 c g h formed.short)
+      and_from _ _ (and_from _ _ (rw (AllZip-long _ types rows of_rows, AllZip-long _ refs ref_rows of_refs) head) (ap not deep)) (ends-all types refs ref_rows of_refs 64 c g h formed.short)
 
   abbrev pass_all : Ground → Bool
   pass_all g = list_all passes (written_types g)
@@ -154,23 +152,18 @@ module _ (resolved : Resolved) (form : IsInForm resolved) (types refs : List Clo
 
   name-passes : (k : ℕ) → k < length rows → passes (ground_is.Named (record { 0 = k })) ≡ true
   name-passes k l =
-      let inside : k < length types = omega (arith, l, zip-length _ types rows of_rows) in
+      let inside : k < length types = omega (arith, l, AllZip-long _ types rows of_rows) in
       let x = get_or types k never in
-      let at : slice_get types k ≡ Some x = get-at types k never inside in
+      let at : slice_get types k ≡ Some x = slice_get-get_or types k never inside in
       let o = All-contains (OccursAs is_named resolved) types x whole.rows.all.each (contains-from_get types k x at) in
       type-passes x (ground_is.Named (record { 0 = k })) o.occurs (name-numbered x k o.of_kind at)
-    where
-      get-at : (xs : List Closed) (i : ℕ) (d : Closed) → i < length xs → slice_get xs i ≡ Some (get_or xs i d)
-      get-at [] i d h = absurd (omega (arith, h))
-      get-at (y ∷ ys) zero d h = refl
-      get-at (y ∷ ys) (suc i) d h = get-at ys i d (omega (arith, h))
 
   pub types-in_form : are_types_in_form resolved.defs rows ref_rows asks ≡ true
   unfolding are_types_in_form
   types-in_form =
-      let names = all-map passes (λ k. ground_is.Named (record { 0 = k })) (range_with_len 0 (length rows)) ∙ all-range _ 0 (length rows) (λ k l. name-passes k (omega (arith, l))) in
+      let names = list_all-map passes (λ k. ground_is.Named (record { 0 = k })) (range_with_len 0 (length rows)) ∙ all-range _ 0 (length rows) (λ k l. name-passes k (omega (arith, l))) in
       let fields = all-flat_map pass_all (λ (row : NamedRow). flat_map (λ ts. ts) row.types) rows ∙ zip-all _ _ types rows of_rows row-passes in
-      let pointees = all-map pass_all (λ (row : RefRow). row.pointee) ref_rows ∙ zip-all _ _ refs ref_rows of_refs ref-passes in
+      let pointees = list_all-map pass_all (λ (row : RefRow). row.pointee) ref_rows ∙ zip-all _ _ refs ref_rows of_refs ref-passes in
       let sides = asks-pass resolved.asks asks of_asks (λ d i. is_asked d i) in
       let f = flat_map (λ (row : NamedRow). flat_map (λ ts. ts) row.types) rows in
       let p = map (λ (row : RefRow). row.pointee) ref_rows in
@@ -183,7 +176,7 @@ module _ (resolved : Resolved) (form : IsInForm resolved) (types refs : List Clo
   pub ref-rows-distinct : AreDistinct ref_rows
   ref-rows-distinct = record {
     apart = λ i j d k l e.
-        let m : j < length refs = omega (arith, l, zip-length _ refs ref_rows of_refs) in
+        let m : j < length refs = omega (arith, l, AllZip-long _ refs ref_rows of_refs) in
         let a = zip-at (IsRefRow types refs) refs ref_rows i never d of_refs (omega (arith, k, m)) in
         let b = zip-at (IsRefRow types refs) refs ref_rows j never d of_refs m in
         let same : a.pointee ≡ b.pointee = one-type types refs a.pointee b.pointee (get_or ref_rows j d).pointee (subst (λ row. IsNumbered types refs a.pointee row.pointee) e a.numbered) b.numbered in

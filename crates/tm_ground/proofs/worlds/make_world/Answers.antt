@@ -1,6 +1,7 @@
 use Rattle.std.proofs.Common.{◌∙◌, arith}
+use Rattle.std.proofs.lemmas.Slice.Zip.{AllZip-long}
 use Rattle.tm_ground.specs.Keys.{closed_types, named_types}
-use Rattle.tm_ground.proofs.RowForm.{zip-length, regions-in_form, rows-in_form, rows-distinct}
+use Rattle.tm_ground.proofs.RowForm.{regions-in_form, rows-in_form, rows-distinct}
 use Rattle.tm_ground.proofs.TypesForm.{types-in_form, ref-rows-distinct}
 use Rattle.tm_ground.proofs.worlds.make_world.Goals as goal
 
@@ -19,9 +20,9 @@ invariant_of-result c =
     record {
       few_defs = rw defs form.few_defs;
       few_regions = rw regions form.few_regions;
-      few_named = omega (arith, zip-length _ types c.in_ok-named.named of_rows, c.requires.whole.rows.few);
-      few_refs = omega (arith, zip-length _ refs c.in_ok-refs.refs of_refs, c.requires.whole.refs.few);
-      few_questions = omega (arith, zip-length _ file.asks c.in_ok-questions.questions of_asks, form.few_asks);
+      few_named = omega (arith, AllZip-long _ types c.in_ok-named.named of_rows, c.requires.whole.rows.few);
+      few_refs = omega (arith, AllZip-long _ refs c.in_ok-refs.refs of_refs, c.requires.whole.refs.few);
+      few_questions = omega (arith, AllZip-long _ file.asks c.in_ok-questions.questions of_asks, form.few_asks);
       regions_known = rw (regions, bounds) (regions-in_form file form types refs c.requires.whole c.in_ok-named.named c.in_ok-refs.refs of_rows of_refs);
       defs_in_form = rw defs form.defs_in_form;
       values_distinct = rw defs form.values_distinct;
