@@ -1,15 +1,17 @@
 -- A type of the grammar has the words that its bytes say, and one covers another exactly where each
 -- of its words, fitted, is one of the other's.
-use Rattle.std.proofs.Common.{◌≡◌, ℕ, zero, suc, ◌+◌, ◌-◌, ◌*◌, ◌<◌, ◌≤◌, inl, inr, refl, sym, ap, ◌∙◌, subst, Bool, true, false, nat_le, Option, Some, None, [], ◌∷◌, ◌++◌, length, take, replicate, arith, zero-add, zero-mul, ◌↔◌, if◌then◌else◌}
+use Rattle.std.proofs.Common.{◌≡◌, ℕ, zero, suc, ◌+◌, ◌-◌, ◌*◌, ◌<◌, ◌≤◌, inl, inr, refl, sym, ap, ◌∙◌, subst, Bool, true, false, nat_le, Option, Some, None, List, [], ◌∷◌, ◌++◌, length, take, replicate, arith, zero-add, zero-mul, ◌↔◌, if◌then◌else◌}
 use Rattle.std.proofs.lemmas.List.Elements.{All-head, All-tail, All-cons, All-nil}
 use Rattle.tm_base.specs.declared.cell.Cell.{Cell}
 use Rattle.tm_base.specs.declared.cell.Cell.TheVariants.{Byte, Uninit, Ptr}
+use Rattle.tm_base.specs.declared.definition.Def.{Def}
+use Rattle.tm_base.specs.declared.definition.NamedRow.{NamedRow}
 use Rattle.tm_base.specs.declared.ground.Ground.{Ground, out-Ground}
 use Rattle.tm_base.specs.declared.ground.Ground.TheOpen.{Ground-F}
 use Rattle.tm_base.specs.declared.ground.Primitive.{Primitive}
 use Rattle.tm_base.specs.declared.ground.Primitive.TheVariants as p
 use Rattle.tm_base.specs.Cells.{Word, IsByte, number_of, fit, Times}
-use Rattle.tm_base.specs.Expanded.{Expanded, prim, array, level, expanded_within}
+use Rattle.tm_base.specs.Expanded.{Expanded, prim, array, level, expanded, expanded_within}
 use Rattle.tm_base.specs.Layout.{prim_size, layout_of, size_of}
 use Rattle.tm_base.specs.Valid.{AreBytes, PrimValid, Valid}
 use Rattle.tm_run.specs.declared.bytes.Bytes.{Bytes}
@@ -22,7 +24,6 @@ use Rattle.tm_base.specs.declared.tree.Tree.{Range, Repeat}
 use Rattle.tm_run.specs.Questions.{nothing_assumed}
 use Rattle.tm_auto.specs.Automata.{Automaton, equal}
 use Rattle.tm_run.specs.Comparing.{AllFree, HasFreeWords, EveryFits}
-use Rattle.tm_run.specs.Verdicts.{closed_type}
 use Rattle.tm_run.specs.Bytes.{HasWordsOf, UpTo, prim_bytes, element_bytes, repeated, bytes_in, bytes_of}
 
 Some-injective : {T : Type 0} (x y : T) → Some x ≡ Some y → x ≡ y
@@ -165,40 +166,42 @@ array-HasBytes t n one h = record {
   words = λ A keep w. Times-bytes one.most one.count n (Valid A keep t) (h.words A keep) w;
 }
 
-element-HasBytes : (n : ℕ) (g : Ground) (bytes : Bytes) → element_bytes (out-Ground g) ≡ Some bytes → HasBytes (expanded_within (suc n) [] [] g) bytes
-unfolding expanded_within
-element-HasBytes n g bytes h = by (out-Ground g) h
-  where
-    by : (x : Ground-F Ground) → element_bytes x ≡ Some bytes → HasBytes (level (expanded_within n [] []) [] [] x) bytes
-    by (Ground-F.Prim q) h = prim-HasBytes q bytes h
-    by (Ground-F.Never) h = cc
-    by (Ground-F.Unit) h = cc
-    by (Ground-F.Tuple gs) h = cc
-    by (Ground-F.Array e k) h = cc
-    by (Ground-F.Named id) h = cc
-    by (Ground-F.NonZero q) h = cc
-    by (Ground-F.Wrap w e) h = cc
-    by (Ground-F.Ref r) h = cc
+-- whichever definitions and named types there are: a type that is some bytes names none
+module _ (defs : List Def) (rows : List NamedRow) where
+  element-HasBytes : (n : ℕ) (g : Ground) (bytes : Bytes) → element_bytes (out-Ground g) ≡ Some bytes → HasBytes (expanded_within (suc n) defs rows g) bytes
+  unfolding expanded_within
+  element-HasBytes n g bytes h = by (out-Ground g) h
+    where
+      by : (x : Ground-F Ground) → element_bytes x ≡ Some bytes → HasBytes (level (expanded_within n defs rows) defs rows x) bytes
+      by (Ground-F.Prim q) h = prim-HasBytes q bytes h
+      by (Ground-F.Never) h = cc
+      by (Ground-F.Unit) h = cc
+      by (Ground-F.Tuple gs) h = cc
+      by (Ground-F.Array e k) h = cc
+      by (Ground-F.Named id) h = cc
+      by (Ground-F.NonZero q) h = cc
+      by (Ground-F.Wrap w e) h = cc
+      by (Ground-F.Ref r) h = cc
 
-within-HasBytes : (n : ℕ) (g : Ground) (bytes : Bytes) → bytes_of g ≡ Some bytes → HasBytes (expanded_within (suc (suc n)) [] [] g) bytes
-unfolding expanded_within
-within-HasBytes n g bytes h = by (out-Ground g) h
-  where
-    by : (x : Ground-F Ground) → bytes_in x ≡ Some bytes → HasBytes (level (expanded_within (suc n) [] []) [] [] x) bytes
-    by (Ground-F.Prim q) h = prim-HasBytes q bytes h
-    by (Ground-F.Never) h = cc
-    by (Ground-F.Unit) h = cc
-    by (Ground-F.Tuple gs) h = cc
-    by (Ground-F.Array e k) h =
-        let (one, found, same) = repeated-some k (element_bytes (out-Ground e)) bytes h in
-        subst (λ (b : Bytes). HasBytes (array (expanded_within (suc n) [] [] e) k) b) (sym same) (array-HasBytes (expanded_within (suc n) [] [] e) k one (element-HasBytes n e one found))
-    by (Ground-F.Named id) h = cc
-    by (Ground-F.NonZero q) h = cc
-    by (Ground-F.Wrap w e) h = cc
-    by (Ground-F.Ref r) h = cc
+  within-HasBytes : (n : ℕ) (g : Ground) (bytes : Bytes) → bytes_of g ≡ Some bytes → HasBytes (expanded_within (suc (suc n)) defs rows g) bytes
+  unfolding expanded_within
+  within-HasBytes n g bytes h = by (out-Ground g) h
+    where
+      by : (x : Ground-F Ground) → bytes_in x ≡ Some bytes → HasBytes (level (expanded_within (suc n) defs rows) defs rows x) bytes
+      by (Ground-F.Prim q) h = prim-HasBytes q bytes h
+      by (Ground-F.Never) h = cc
+      by (Ground-F.Unit) h = cc
+      by (Ground-F.Tuple gs) h = cc
+      by (Ground-F.Array e k) h =
+          let (one, found, same) = repeated-some k (element_bytes (out-Ground e)) bytes h in
+          subst (λ (b : Bytes). HasBytes (array (expanded_within (suc n) defs rows e) k) b) (sym same) (array-HasBytes (expanded_within (suc n) defs rows e) k one (element-HasBytes n e one found))
+      by (Ground-F.Named id) h = cc
+      by (Ground-F.NonZero q) h = cc
+      by (Ground-F.Wrap w e) h = cc
+      by (Ground-F.Ref r) h = cc
 
-pub closed-HasBytes : (g : Ground) (bytes : Bytes) → bytes_of g ≡ Some bytes → HasBytes (closed_type g) bytes
-closed-HasBytes g bytes h = within-HasBytes 62 g bytes h
+  pub closed-HasBytes : (g : Ground) (bytes : Bytes) → bytes_of g ≡ Some bytes → HasBytes (expanded defs rows g) bytes
+  closed-HasBytes g bytes h = within-HasBytes 62 g bytes h
 
 -- where nothing is assumed, a value of some bytes may be taken as one of others exactly where each word, fitted, is one
 pub fits-Transmutes : (A : ℕ → ℕ → Type 0) (s t : Expanded) (src dst : Bytes) → HasBytes s src → HasBytes t dst

@@ -18,10 +18,9 @@ use Rattle.tm_report.specs.declared.fault.At.{At}
 use Rattle.tm_report.specs.declared.fault.FileFault.{FileFault}
 use Rattle.tm_report.specs.declared.fault.FileFault.TheVariants.{NotUtf8, NoToken, BadNumber, OpenComment, Unexpected, EndOfFile, Passed, Names, NotYet}
 use Rattle.tm_run.specs.Examined.{AreTokensOf, IsOnlyFault, no_token_at}
-use Rattle.tm_run.specs.Faults.{BeginsAt, EndsTooSoon, GoesBeyond, HasFault, HasNameFault, HasNameFaultAt, HasTextFault, IsNotUtf8, LacksToken, PassesLimit, PassesLimitAtToken, StopsAtToken, start_of, status_of_fault}
+use Rattle.tm_run.specs.Faults.{BeginsAt, EndsTooSoon, GoesBeyond, HasFault, HasNameFault, HasNameFaultAt, HasTextFault, IsNotUtf8, LacksToken, PassesLimit, PassesLimitAtToken, PassesLimitOnTypes, StopsAtToken, start_of, status_of_fault}
 use Rattle.tm_run.specs.Files.{HasSoundNames, IsResolved, IsSpelled, file_bytes}
 use Rattle.tm_run.specs.Places.{at_byte}
-use Rattle.tm_run.specs.Questions.{questions_of}
 use Rattle.tm_run.specs.declared.status.Status.TheVariants.{BadText, Limit, IllFormed}
 
 -- what holds of the fault of each cause holds of each fault
@@ -34,6 +33,7 @@ module _ (file : List ℕ) (P : FileFault → Type 0) where
     pub passes : (kind : LimitKind) (byte : ℕ) → PassesLimitAtToken file kind byte → P (Passed kind (Some (at_byte file byte)))
     pub long : file_bytes < length file → P (Passed FileBytes None)
     pub names : (why : NameWhy) (byte : ℕ) → HasNameFaultAt file why byte → P (Names why (at_byte file byte))
+    pub limits : (kind : LimitKind) → PassesLimitOnTypes file kind → P (Passed kind None)
     pub beyond : GoesBeyond file → P NotYet
 
   pub by_cause : ByCause → (fault : FileFault) → HasFault file fault → P fault
@@ -43,7 +43,8 @@ module _ (file : List ℕ) (P : FileFault → Type 0) where
   by_cause by (OpenComment at) (place, h) = subst (λ (at : At). P (OpenComment at)) (sym place) (by.lacks at.byte why.OpenComment h)
   by_cause by (Unexpected at) (place, h) = subst (λ (at : At). P (Unexpected at)) (sym place) (by.stops at.byte h)
   by_cause by (EndOfFile at) (place, h) = subst (λ (at : At). P (EndOfFile at)) (sym place) (by.ends h)
-  by_cause by (Passed kind None) (k, h) = subst (λ (kind : LimitKind). P (Passed kind None)) (sym k) (by.long h)
+  by_cause by (Passed kind None) (inl (k, h)) = subst (λ (kind : LimitKind). P (Passed kind None)) (sym k) (by.long h)
+  by_cause by (Passed kind None) (inr h) = by.limits kind h
   by_cause by (Passed kind (Some at)) (place, h) = subst (λ (at : At). P (Passed kind (Some at))) (sym place) (by.passes kind at.byte h)
   by_cause by (Names why at) (place, h) = subst (λ (at : At). P (Names why at)) (sym place) (by.names why at.byte h)
   by_cause by NotYet h = by.beyond h
@@ -66,9 +67,10 @@ limit_cause file = by_cause file (λ fault. status_of_fault fault ≡ Limit → 
   lacks = λ byte why h e. let text = status_of_lacks (at_byte file byte) why in cc;
   stops = λ byte h e. cc;
   ends = λ h e. cc;
-  passes = λ kind byte h e. inr (kind, byte, h);
+  passes = λ kind byte h e. inr (inl (kind, byte, h));
   long = λ h e. inl h;
   names = λ why byte h e. cc;
+  limits = λ kind h e. inr (inr (kind, h));
   beyond = λ h e. cc;
 })
 
@@ -81,6 +83,7 @@ text_cause file = by_cause file (λ fault. status_of_fault fault ≡ BadText →
   passes = λ kind byte h e. cc;
   long = λ h e. cc;
   names = λ why byte h e. cc;
+  limits = λ kind h e. cc;
   beyond = λ h e. inr (inr (inr (inr h)));
 })
 
@@ -93,13 +96,15 @@ name_cause file = by_cause file (λ fault. status_of_fault fault ≡ IllFormed �
   passes = λ kind byte h e. cc;
   long = λ h e. cc;
   names = λ why byte h e. (why, byte, h);
+  limits = λ kind h e. cc;
   beyond = λ h e. cc;
 })
 
 -- a file with a cause has a fault of its status
 pub cause_limit : (file : List ℕ) → PassesLimit file → (fault : FileFault) × HasFault file fault × (status_of_fault fault ≡ Limit)
-cause_limit file (inl long) = (Passed FileBytes None, (refl, long), refl)
-cause_limit file (inr (kind, byte, h)) = (Passed kind (Some (at_byte file byte)), (refl, h), refl)
+cause_limit file (inl long) = (Passed FileBytes None, inl (refl, long), refl)
+cause_limit file (inr (inl (kind, byte, h))) = (Passed kind (Some (at_byte file byte)), (refl, h), refl)
+cause_limit file (inr (inr (kind, h))) = (Passed kind None, inr h, refl)
 
 pub cause_text : (file : List ℕ) → HasTextFault file → (fault : FileFault) × HasFault file fault × (status_of_fault fault ≡ BadText)
 cause_text file (inl (byte, h)) = (NotUtf8 (at_byte file byte), (refl, h), refl)
@@ -115,7 +120,7 @@ cause_name file (why, byte, h) = (Names why (at_byte file byte), (refl, h), refl
 -- too many bytes are the one fault
 pub long_only : (file : List ℕ) → file_bytes < length file → IsOnlyFault file (Passed FileBytes None)
 long_only file long = record {
-  has = (refl, long);
+  has = inl (refl, long);
   only = by_cause file (λ other. other ≡ Passed FileBytes None) (record {
     not_utf8 = λ byte h. absurd (omega arith);
     lacks = λ byte why h. absurd (omega arith);
@@ -124,6 +129,7 @@ long_only file long = record {
     passes = λ kind byte h. let lexed = h.lexed in absurd (omega arith);
     long = λ h. refl;
     names = λ why byte h. let lexed = h.spelled.lexed in absurd (omega arith);
+    limits = λ kind h. let lexed = h.names.spelled.lexed in absurd (omega arith);
     beyond = λ h. let lexed = h.names.spelled.lexed in absurd (omega arith);
   });
   refused = λ h. let lexed = h.names.spelled.lexed in absurd (omega arith);
@@ -142,9 +148,10 @@ broken_only file byte broken = record {
     passes = λ kind byte h. absurd (broken.broken h.lexed.utf8);
     long = λ h. let short = broken.short in absurd (omega arith);
     names = λ why found h. absurd (broken.broken h.spelled.lexed.utf8);
+    limits = λ kind h. absurd (broken.broken h.names.spelled.lexed.utf8);
     beyond = λ h. absurd (broken.broken h.names.spelled.lexed.utf8);
   });
-  refused = λ h. broken.broken h.names.spelled.lexed.utf8;
+  refused = λ h. absurd (broken.broken h.names.spelled.lexed.utf8);
 }
 
 -- a byte at which no token begins is the one fault
@@ -161,15 +168,19 @@ lacks_only file byte why lacks no_tokens same = record {
     passes = λ kind found h. absurd (no_tokens h.tokens h.lexed.tokenizes);
     long = λ h. let short = lacks.short in absurd (omega arith);
     names = λ because found h. absurd (no_tokens h.spelled.tokens h.spelled.lexed.tokenizes);
+    limits = λ kind h. absurd (no_tokens h.names.spelled.tokens h.names.spelled.lexed.tokenizes);
     beyond = λ h. absurd (no_tokens h.names.spelled.tokens h.names.spelled.lexed.tokenizes);
   });
-  refused = λ h. no_tokens h.names.spelled.tokens h.names.spelled.lexed.tokenizes;
+  refused = λ h. absurd (no_tokens h.names.spelled.tokens h.names.spelled.lexed.tokenizes);
 }
 
 -- what a file spells, and that no name is at fault, is so by its tokens
 module _ (file : List ℕ) (tokens : List Token) (are : AreTokensOf file tokens) where
   pub spelled_by : (parsed : Parsed) → IsSpelled file parsed → SpellsFile (terminals_of file tokens) parsed
   spelled_by parsed h = subst (λ (ts : List Token). SpellsFile (terminals_of file ts) parsed) (are.only h.tokens h.lexed.tokenizes) h.spelled
+
+  pub resolved_by : (resolved : Resolved) (h : IsResolved file resolved) → SpellsFile (terminals_of file tokens) h.parsed
+  resolved_by resolved h = spelled_by h.parsed h.spelled
 
   pub sound_by : (resolved : Resolved) (h : IsResolved file resolved) → HasSoundNames file tokens h.parsed
   sound_by resolved h = subst (λ (ts : List Token). HasSoundNames file ts h.parsed) (are.only h.spelled.tokens h.spelled.lexed.tokenizes) h.sound
@@ -183,7 +194,8 @@ module _ (file : List ℕ) (tokens : List Token) (are : AreTokensOf file tokens)
         → P (Passed kind (Some (at_byte file byte)))
     pub names : (why : NameWhy) (place : ℕ) (parsed : Parsed) → SpellsFile (terminals_of file tokens) parsed → IsFirstFault (name_at file tokens) parsed why place
         → P (Names why (at_byte file (start_of file (slice_get tokens place))))
-    pub beyond : (parsed : Parsed) → SpellsFile (terminals_of file tokens) parsed → HasSoundNames file tokens parsed → questions_of parsed ≡ None → P NotYet
+    pub limits : (kind : LimitKind) → PassesLimitOnTypes file kind → P (Passed kind None)
+    pub beyond : GoesBeyond file → P NotYet
 
   pub by_tokens : ByTokens → (fault : FileFault) → HasFault file fault → P fault
   by_tokens by = by_cause file P (record {
@@ -202,5 +214,6 @@ module _ (file : List ℕ) (tokens : List Token) (are : AreTokensOf file tokens)
         (subst (λ (ts : List Token). P (Names why (at_byte file (start_of file (slice_get ts h.place))))) (sym e)
         (by.names why h.place h.parsed (spelled_by file tokens are h.parsed h.spelled)
         (subst (λ (ts : List Token). IsFirstFault (name_at file ts) h.parsed why h.place) e h.first)));
-    beyond = λ h. by.beyond h.names.parsed (spelled_by file tokens are h.names.parsed h.names.spelled) (sound_by file tokens are h.resolved h.names) h.beyond;
+    limits = by.limits;
+    beyond = by.beyond;
   })

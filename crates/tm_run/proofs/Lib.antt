@@ -1,9 +1,10 @@
-pub mod AskLemmas
 pub mod BytesLemmas
+pub mod ClosingLemmas
 pub mod CompareLemmas
 pub mod FaultLemmas
 pub mod FitLemmas
 pub mod LeavingLemmas
+pub mod QuestionLemmas
 pub mod RunLemmas
 pub mod TokenLemmas
 pub mod VerdictLemmas

@@ -2,14 +2,14 @@
 use Rattle.std.proofs.Common.{◌≡◌, ◌≢◌, ◌∙◌, ℕ, ◌<◌, ◌≤◌, ◌⊎◌, inl, inr, ◌↔◌, refl, sym, ap, subst, Bool, true, false, if◌then◌else◌, Option, Some, None, List, [], length, drop, arith, length-drop}
 use Rattle.std.specs.List.{list_all}
 use Rattle.std.proofs.lemmas.List.{nil_from_length}
-use Rattle.tm_base.specs.declared.ask.Ask.{Ask}
 use Rattle.tm_base.specs.declared.limit.LimitKind.TheVariants.{FileBytes}
+use Rattle.tm_base.specs.declared.world.World.{World}
 use Rattle.tm_io.specs.Faults.{Rose}
 use Rattle.tm_io.specs.Told.{TakesAll, TakesPast, AddsAll, AddsPrefix}
 use Rattle.tm_report.specs.FaultLines.{line_of}
 use Rattle.tm_report.specs.declared.fault.FileFault.{FileFault}
 use Rattle.tm_report.specs.declared.fault.FileFault.TheVariants.{NotUtf8, NoToken, BadNumber, OpenComment, Unexpected, EndOfFile, Passed, Names, NotYet}
-use Rattle.tm_run.specs.Examined.{AreQuestionsOf, IsOnlyFault}
+use Rattle.tm_run.specs.Examined.{IsAnsweredWorld, IsOnlyFault}
 use Rattle.tm_run.specs.Faults.{HasNameFault, HasTextFault, PassesLimit, status_of_fault}
 use Rattle.tm_run.specs.Outcomes.{usage_line, IsReport, IsFileOutcome, IsOutcome, IsSettled, IsTold}
 use Rattle.tm_run.specs.Report.{is_yes, report_of, status_of}
@@ -51,25 +51,27 @@ settled_fault fault = by (fault_status fault)
 fault_decides : (file : List ℕ) (fault : FileFault) → IsOnlyFault file fault → Decides file (status_of_fault fault) (line_of fault)
 fault_decides file fault one = record {
   outcome = inr (record { fault = fault; has = one.has; status_is = refl; text_is = refl });
-  accepted = λ a. absurd (one.refused a);
-  faulted = λ other h. sym (ap status_of_fault (one.only other h));
+  accepted = λ a today. absurd (today (one.refused a));
+  faulted = λ other h. (sym (ap status_of_fault (one.only other h)), sym (ap line_of (one.only other h)));
 }
 
--- answers to the questions of a file decide it
-pub report_decides : (file : List ℕ) (asks : List Ask) (verdicts : List Verdict) (status : Status) (text : List ℕ) → AreQuestionsOf file asks → AreTrueVerdicts asks verdicts
-    → status ≡ status_of verdicts → text ≡ report_of verdicts → Decides file status text
-report_decides file asks verdicts status text are answered status_is text_is = record {
+-- answers to the questions of a file's world decide it
+pub report_decides : (file : List ℕ) (world : World) (verdicts : List Verdict) (status : Status) (text : List ℕ) → IsAnsweredWorld file world
+    → AreTrueVerdicts world world.questions verdicts → status ≡ status_of verdicts → text ≡ report_of verdicts → Decides file status text
+report_decides file world verdicts status text w answered status_is text_is = record {
   outcome = inl report;
-  accepted = λ a. report;
-  faulted = λ fault has. absurd (are.faultless fault has);
+  accepted = λ a today. report;
+  faulted = λ fault has. absurd (w.faultless fault has);
 }
   where
     report : IsReport file status text
     report = record {
-      resolved = are.resolved;
-      names = are.names;
-      asks = asks;
-      questions = are.questions;
+      resolved = w.resolved;
+      names = w.names;
+      limits = w.limits;
+      world = world;
+      belongs = w.belongs;
+      today = w.today;
       verdicts = verdicts;
       answered = answered;
       status_is = status_is;
@@ -94,21 +96,21 @@ not_of_report file status text report = by (report_status report.verdicts)
 -- what is decided of a file
 module _ (file : List ℕ) (status : Status) (text : List ℕ) (d : Decides file status text) where
   decides_limit : status ≡ Limit ↔ PassesLimit file
-  decides_limit = (λ e. by e d.outcome, λ h. let (fault, has, is) = cause_limit file h in d.faulted fault has ∙ is)
+  decides_limit = (λ e. by e d.outcome, λ h. let (fault, has, is) = cause_limit file h in (d.faulted fault has).0 ∙ is)
     where
       by : status ≡ Limit → IsFileOutcome file status text → PassesLimit file
       by e (inl report) = absurd ((not_of_report file status text report).1 e)
       by e (inr refusal) = limit_cause file refusal.fault refusal.has (sym refusal.status_is ∙ e)
 
   decides_text : status ≡ BadText ↔ HasTextFault file
-  decides_text = (λ e. by e d.outcome, λ h. let (fault, has, is) = cause_text file h in d.faulted fault has ∙ is)
+  decides_text = (λ e. by e d.outcome, λ h. let (fault, has, is) = cause_text file h in (d.faulted fault has).0 ∙ is)
     where
       by : status ≡ BadText → IsFileOutcome file status text → HasTextFault file
       by e (inl report) = absurd ((not_of_report file status text report).2 e)
       by e (inr refusal) = text_cause file refusal.fault refusal.has (sym refusal.status_is ∙ e)
 
   decides_formed : status ≡ IllFormed ↔ HasNameFault file
-  decides_formed = (λ e. by e d.outcome, λ h. let (fault, has, is) = cause_name file h in d.faulted fault has ∙ is)
+  decides_formed = (λ e. by e d.outcome, λ h. let (fault, has, is) = cause_name file h in (d.faulted fault has).0 ∙ is)
     where
       by : status ≡ IllFormed → IsFileOutcome file status text → HasNameFault file
       by e (inl report) = absurd ((not_of_report file status text report).3 e)
@@ -152,8 +154,9 @@ module _ {W : Type 0} (words : List W) (left left' : Option (List ℕ)) (reads r
       → (writes < writes' → status ≡ WriteFault) → Runs words left left' reads reads' written written' writes writes' status
   all_written status text w adds part risen =
       let (no_read, no_write, no_memory) = settled_status status w.settled in record {
-        headline = λ file r a. (text, (w.decides file r.in_form r.told).accepted a, adds);
+        headline = λ file r a today. (text, (w.decides file r.in_form r.told).accepted a today, adds);
         outcome = λ file told s. (text, w.outcome file told, adds);
+        fault = λ file r fault h. let (status_is, text_is) = (w.decides file r.in_form r.told).faulted fault h in (status_is, subst (λ (line : List ℕ). AddsAll written written' line) text_is adds);
         usage = λ s. w.usage;
         limit = λ file r. decides_limit file status text (w.decides file r.in_form r.told);
         bad_text = λ file r. decides_text file status text (w.decides file r.in_form r.told);
@@ -171,8 +174,9 @@ module _ {W : Type 0} (words : List W) (left left' : Option (List ℕ)) (reads r
 
   write_failed : (status : Status) (text : List ℕ) → Writes status text → AddsPrefix written written' text → Rose writes writes' → Runs words left left' reads reads' written written' writes writes' WriteFault
   write_failed status text w part rose = record {
-    headline = λ file r a. absurd r.settled;
+    headline = λ file r a today. absurd r.settled;
     outcome = λ file told s. absurd s;
+    fault = λ file r fault h. absurd r.settled;
     usage = λ s. absurd s;
     limit = λ file r. absurd r.settled;
     bad_text = λ file r. absurd r.settled;
@@ -203,8 +207,9 @@ module _ {W : Type 0} (words : List W) (left left' : Option (List ℕ)) (reads r
   -- reading failed
   pub read_failed : length words ≡ 0 → Rose reads reads' → written' ≡ written → writes' ≡ writes → Runs words left left' reads reads' written written' writes writes' ReadFault
   read_failed in_form rose same count = record {
-    headline = λ file r a. absurd r.settled;
+    headline = λ file r a today. absurd r.settled;
     outcome = λ file told s. absurd s;
+    fault = λ file r fault h. absurd r.settled;
     usage = λ s. absurd s;
     limit = λ file r. absurd r.settled;
     bad_text = λ file r. absurd r.settled;
@@ -223,8 +228,9 @@ module _ {W : Type 0} (words : List W) (left left' : Option (List ℕ)) (reads r
   -- memory was wanting
   pub no_memory : length words ≡ 0 → reads' ≡ reads → written' ≡ written → writes' ≡ writes → Runs words left left' reads reads' written written' writes writes' Memory
   no_memory in_form unrisen same count = record {
-    headline = λ file r a. absurd r.settled;
+    headline = λ file r a today. absurd r.settled;
     outcome = λ file told s. absurd s;
+    fault = λ file r fault h. absurd r.settled;
     usage = λ s. absurd s;
     limit = λ file r. absurd r.settled;
     bad_text = λ file r. absurd r.settled;

@@ -11,21 +11,20 @@ use Rattle.tm_lex.specs.declared.fault.LexWhy.{LexWhy}
 use Rattle.tm_lex.specs.declared.token.Token.{Token}
 use Rattle.tm_names.specs.Faults.{IsFirstFault}
 use Rattle.tm_names.specs.Written.{name_at}
+use Rattle.tm_names.specs.Resolutions.{resolved_of}
 use Rattle.tm_names.specs.declared.fault.NameErr.TheVariants as name_err
 use Rattle.tm_names.specs.declared.resolved.Resolved.{Resolved}
 use Rattle.tm_parse.specs.Parsing.{PassesLimitAt, SpellsFile, StopsAt}
 use Rattle.tm_parse.specs.Spelling.{terminals_of}
 use Rattle.tm_parse.specs.declared.parsed.Parsed.{Parsed}
 use Rattle.tm_parse.specs.declared.parsing.ParseErr.TheVariants as parse_err
-use Rattle.tm_base.specs.declared.ask.Ask.{Ask}
 use Rattle.tm_report.specs.declared.fault.At.{At}
-use Rattle.tm_report.specs.declared.fault.FileFault.TheVariants.{Unexpected, EndOfFile, Passed, Names, NotYet}
-use Rattle.tm_run.specs.Examined.{AreQuestionsOf, AreTokensOf, IsOnlyFault, IsParsedOf, IsResolvedOf, fault_at, no_token_at}
+use Rattle.tm_report.specs.declared.fault.FileFault.TheVariants.{Unexpected, EndOfFile, Passed, Names}
+use Rattle.tm_run.specs.Examined.{AreTokensOf, IsLateFault, IsMeaningOf, IsOnlyFault, IsParsedOf, IsResolvedOf, fault_at, no_token_at}
 use Rattle.tm_run.specs.Faults.{BeginsAt, HasFault, LacksToken, start_of}
-use Rattle.tm_run.specs.Files.{HasSoundNames, IsAccepted, IsResolved, IsSpelled}
+use Rattle.tm_run.specs.Files.{HasSoundNames, IsResolved, IsSpelled}
 use Rattle.tm_run.specs.Places.{at_byte}
-use Rattle.tm_run.specs.Questions.{questions_of}
-use Rattle.tm_run.proofs.FaultLemmas.{by_tokens, lacks_only, sound_by, spelled_by}
+use Rattle.tm_run.proofs.FaultLemmas.{by_tokens, lacks_only, resolved_by, sound_by}
 
 -- the lexer's fault
 pub lexer_fault : (file : List ℕ) (byte : ℕ) (why : LexWhy) → LacksToken file byte why
@@ -55,10 +54,6 @@ stopping_end file tokens place h past =
     omega (arith, length-append h.front h.rest)
 
 module _ (file : List ℕ) (tokens : List Token) (are : AreTokensOf file tokens) where
-  -- a file that is accepted is spelled by these tokens
-  accepted_by : (h : IsAccepted file) → SpellsFile (terminals_of file tokens) h.names.parsed
-  accepted_by h = spelled_by file tokens are h.names.parsed h.names.spelled
-
   -- the place where a token begins
   abbrev pub here : ℕ → At
   here place = at_byte file (start_of file (slice_get tokens place))
@@ -96,12 +91,16 @@ module _ (file : List ℕ) (tokens : List Token) (are : AreTokensOf file tokens)
       stops = λ byte p begins h. at_token byte p begins (same p (faults p h));
       ends = λ h. at_end (same (length tokens) (faults (length tokens) h));
       passes = λ kind byte p begins h. absurd (neither kind p (limits kind p h));
-      names = λ why p v h first. let m = files v h in cc;
-      beyond = λ v h sound e. let m = files v h in cc;
+      names = λ why p v h first. absurd (none v h);
+      limits = λ kind h. absurd (none h.names.parsed (resolved_by file tokens are h.resolved h.names));
+      beyond = λ h. absurd (none h.names.parsed (resolved_by file tokens are h.resolved h.names));
     });
-    refused = λ h. let m = files h.names.parsed (accepted_by h) in cc;
+    refused = λ h. absurd (none h.names.parsed (resolved_by file tokens are h.resolved h.names));
   }
     where
+      none : (v : Parsed) → SpellsFile (terminals_of file tokens) v → ⊥
+      none v h = let m = files v h in cc
+
       same : (p : ℕ) → (parse_err.At place ≡ parse_err.At p) ⊎ (parse_err.At place ≡ parse_err.Memory) → place ≡ p
       same p (inl e) = cc
       same p (inr e) = cc
@@ -129,12 +128,16 @@ module _ (file : List ℕ) (tokens : List Token) (are : AreTokensOf file tokens)
       stops = λ byte p begins h. absurd (neither p (faults p h));
       ends = λ h. absurd (neither (length tokens) (faults (length tokens) h));
       passes = λ k byte p begins h. at_token k byte p begins (limits k p h);
-      names = λ why p v h first. let m = files v h in cc;
-      beyond = λ v h sound e. let m = files v h in cc;
+      names = λ why p v h first. absurd (none v h);
+      limits = λ kind h. absurd (none h.names.parsed (resolved_by file tokens are h.resolved h.names));
+      beyond = λ h. absurd (none h.names.parsed (resolved_by file tokens are h.resolved h.names));
     });
-    refused = λ h. let m = files h.names.parsed (accepted_by h) in cc;
+    refused = λ h. absurd (none h.names.parsed (resolved_by file tokens are h.resolved h.names));
   }
     where
+      none : (v : Parsed) → SpellsFile (terminals_of file tokens) v → ⊥
+      none v h = let m = files v h in cc
+
       neither : (p : ℕ) → (parse_err.Limit kind place ≡ parse_err.At p) ⊎ (parse_err.Limit kind place ≡ parse_err.Memory) → ⊥
       neither p (inl e) = cc
       neither p (inr e) = cc
@@ -170,11 +173,15 @@ module _ (file : List ℕ) (tokens : List Token) (are : AreTokensOf file tokens)
         ends = λ h. absurd (is.goes_on (length tokens) h);
         passes = λ kind byte p begins h. absurd (is.within kind p h);
         names = λ other there v h f. same other there (faults other there (first_in other there v h f));
-        beyond = λ v h sound e. absurd ((sound_in v h sound).none why place first.fault);
+        limits = λ kind h. absurd (unsound h.resolved h.names);
+        beyond = λ h. absurd (unsound h.resolved h.names);
       });
-      refused = λ h. (sound_in h.names.parsed (accepted_by h) (sound_by file tokens are h.resolved h.names)).none why place first.fault;
+      refused = λ h. absurd (unsound h.resolved h.names);
     }
       where
+        unsound : (resolved : Resolved) → IsResolved file resolved → ⊥
+        unsound resolved h = (sound_in h.parsed (resolved_by file tokens are resolved h) (sound_by file tokens are resolved h)).none why place first.fault
+
         same : (other : NameWhy) (there : ℕ) → (name_err.Fault why place ≡ name_err.Fault other there) ⊎ (name_err.Fault why place ≡ name_err.Memory)
             → Names other (here there) ≡ Names why (here place)
         same other there (inl e) =
@@ -189,32 +196,22 @@ module _ (file : List ℕ) (tokens : List Token) (are : AreTokensOf file tokens)
       no_name_fault : (why : NameWhy) (place : ℕ) (v : Parsed) → SpellsFile (terminals_of file tokens) v → IsFirstFault (name_at file tokens) v why place → ⊥
       no_name_fault why place v h first = means.sound.none why place (first_in why place v h first).fault
 
-      -- what goes beyond today's questions
-      pub beyond_only : questions_of parsed ≡ None → IsOnlyFault file NotYet
-      beyond_only none = record {
-        has = record { resolved = resolved; names = names; beyond = none };
-        only = by_tokens file tokens are (λ other. other ≡ NotYet) (record {
-          stops = λ byte p begins h. absurd (is.goes_on p h);
-          ends = λ h. absurd (is.goes_on (length tokens) h);
-          passes = λ kind byte p begins h. absurd (is.within kind p h);
-          names = λ why p v h first. absurd (no_name_fault why p v h first);
-          beyond = λ v h sound e. refl;
-        });
-        refused = λ h. let same = is.only h.names.parsed (accepted_by h) in
-            let some = h.questions in let e = ap questions_of same in cc;
-      }
+      same_meaning : (other : Resolved) → IsResolved file other → other ≡ resolved
+      same_meaning other h =
+          h.means ∙ ap (λ ts. resolved_of (name_at file ts) h.parsed) (are.only h.spelled.tokens h.spelled.lexed.tokenizes)
+          ∙ ap (resolved_of (name_at file tokens)) (is.only h.parsed (resolved_by file tokens are other h)) ∙ sym means.means
 
-      -- the questions of a file that goes nowhere beyond
-      pub questions_only : (asks : List Ask) → questions_of parsed ≡ Some asks → AreQuestionsOf file asks
-      questions_only asks some = record {
-        resolved = resolved;
+      -- what the file's names mean
+      pub meaning : IsMeaningOf file resolved
+      meaning = record {
         names = names;
-        questions = some;
-        faultless = by_tokens file tokens are (λ fault. ⊥) (record {
+        only = same_meaning;
+        faultless = by_tokens file tokens are (IsLateFault file) (record {
           stops = λ byte p begins h. is.goes_on p h;
           ends = λ h. is.goes_on (length tokens) h;
           passes = λ kind byte p begins h. is.within kind p h;
           names = no_name_fault;
-          beyond = λ v h sound none. let e = ap questions_of (is.only v h) in cc;
+          limits = λ kind h. h;
+          beyond = λ h. h;
         });
       }

@@ -1,7 +1,12 @@
 -- What the steps of examining a file find: what is found is all that there is, and a fault is the only one.
-use Rattle.std.specs.Prelude.{◌≡◌, ℕ, Some, None, Option, List, length, All, ⊤}
-use Rattle.tm_base.specs.declared.ask.Ask.{Ask}
+use Rattle.std.specs.Prelude.{◌≡◌, ℕ, IsTrue, Some, None, Option, List, length, All, ⊤}
 use Rattle.tm_base.specs.declared.limit.LimitKind.{LimitKind}
+use Rattle.tm_base.specs.declared.limit.LimitKind.TheVariants.{NamedTypes, References, Depth}
+use Rattle.tm_base.specs.declared.world.World.{World}
+use Rattle.tm_ground.specs.Belongs.{BelongsToFile}
+use Rattle.tm_ground.specs.Limits.{IsWithinLimits}
+use Rattle.tm_ground.specs.declared.fault.GroundErr.{GroundErr}
+use Rattle.tm_ground.specs.declared.fault.GroundErr.TheVariants as ground_err
 use Rattle.tm_lex.specs.Lexes.{IsFault, Tokenizes, IsPieceOf}
 use Rattle.tm_lex.specs.declared.fault.LexWhy.{LexWhy}
 use Rattle.tm_lex.specs.declared.fault.LexWhy.TheVariants as why
@@ -15,18 +20,18 @@ use Rattle.tm_parse.specs.declared.parsed.Parsed.{Parsed}
 use Rattle.tm_report.specs.declared.fault.At.{At}
 use Rattle.tm_report.specs.declared.fault.FileFault.{FileFault}
 use Rattle.tm_report.specs.declared.fault.FileFault.TheVariants as fault
-use Rattle.tm_run.specs.Faults.{HasFault}
+use Rattle.tm_run.specs.Faults.{GoesBeyond, HasFault, PassesLimitOnTypes}
 use Rattle.tm_run.specs.Files.{HasSoundNames, IsAccepted, IsLexed, IsResolved}
 use Rattle.tm_run.specs.Places.{at_byte}
-use Rattle.tm_run.specs.Questions.{questions_of}
-use Rattle.tm_run.specs.declared.examining.Stop.{Stop}
-use Rattle.tm_run.specs.declared.examining.Stop.TheVariants.{Fault, Memory}
+use Rattle.tm_run.specs.Questions.{is_answered_today}
+use Rattle.tm_run.specs.declared.stop.Stop.{Stop}
+use Rattle.tm_run.specs.declared.stop.Stop.TheVariants.{Fault, Memory}
 
--- the file's one fault, beside which it has no report
+-- the file's one fault; such a file is accepted only where it asks what isn't answered today
 pub record IsOnlyFault (file : List ℕ) (fault : FileFault) : Type 0 where
   pub has : HasFault file fault
   pub only : (other : FileFault) → HasFault file other → other ≡ fault
-  pub refused : IsAccepted file → ⊥
+  pub refused : IsAccepted file → GoesBeyond file
 
 -- the file stops there; a want of memory may come for any
 abbrev pub IsStop : List ℕ → Stop → Type 0
@@ -64,9 +69,30 @@ pub record IsResolvedOf (file : List ℕ) (tokens : List Token) (parsed : Parsed
   pub sound : HasSoundNames file tokens parsed
   pub means : resolved ≡ resolved_of (name_at file tokens) parsed
 
--- the file's questions, beside which it has no fault
-pub record AreQuestionsOf (file : List ℕ) (asks : List Ask) : Type 0 where
+-- a fault that is told when the types are closed: of their limits, or of what isn't answered today
+abbrev pub IsLateFault : List ℕ → FileFault → Type 0
+IsLateFault file (fault.Passed kind None) = PassesLimitOnTypes file kind
+IsLateFault file fault.NotYet = GoesBeyond file
+IsLateFault file _ = ⊥
+
+-- what the file's names mean, beside which it has no fault before its types are closed
+pub record IsMeaningOf (file : List ℕ) (resolved : Resolved) : Type 0 where
+  pub names : IsResolved file resolved
+  pub only : (other : Resolved) → IsResolved file other → other ≡ resolved
+  pub faultless : (fault : FileFault) → HasFault file fault → IsLateFault file fault
+
+-- how a file stops whose types can't be closed
+abbrev pub stop_of : GroundErr → Stop
+stop_of ground_err.TooManyTypes = Fault (fault.Passed NamedTypes None)
+stop_of ground_err.TooManyRefs = Fault (fault.Passed References None)
+stop_of ground_err.TooDeep = Fault (fault.Passed Depth None)
+stop_of ground_err.Memory = Memory
+
+-- the world of a file, where all that it asks is answered today, and it has no fault
+pub record IsAnsweredWorld (file : List ℕ) (world : World) : Type 0 where
   pub resolved : Resolved
   pub names : IsResolved file resolved
-  pub questions : questions_of names.parsed ≡ Some asks
+  pub limits : IsWithinLimits resolved
+  pub belongs : BelongsToFile resolved world
+  pub today : IsTrue (is_answered_today world)
   pub faultless : (fault : FileFault) → HasFault file fault → ⊥

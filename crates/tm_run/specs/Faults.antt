@@ -1,9 +1,13 @@
 -- Why a file gets no report.
-use Rattle.std.specs.Prelude.{◌≡◌, ℕ, ◌<◌, ◌≤◌, ◌⊎◌, Option, Some, None, List, length, slice_get, IsUtf8}
+use Rattle.std.specs.Prelude.{◌≡◌, ℕ, ◌<◌, ◌≤◌, ◌⊎◌, IsFalse, Option, Some, None, List, length, slice_get, IsUtf8}
 use Rattle.std.specs.Str.{IsValidUpTo}
 use Rattle.tm_base.specs.declared.limit.LimitKind.{LimitKind}
-use Rattle.tm_base.specs.declared.limit.LimitKind.TheVariants.{FileBytes}
+use Rattle.tm_base.specs.declared.limit.LimitKind.TheVariants.{FileBytes, NamedTypes, References, Depth}
 use Rattle.tm_base.specs.declared.limit.NameWhy.{NameWhy}
+use Rattle.tm_base.specs.declared.world.World.{World}
+use Rattle.tm_ground.specs.Belongs.{BelongsToFile}
+use Rattle.tm_ground.specs.Limits.{HasCause, IsWithinLimits}
+use Rattle.tm_ground.specs.declared.fault.GroundErr.TheVariants.{TooManyTypes, TooManyRefs, TooDeep}
 use Rattle.tm_lex.specs.Lexes.{IsFault}
 use Rattle.tm_lex.specs.declared.fault.LexWhy.{LexWhy}
 use Rattle.tm_lex.specs.declared.fault.LexWhy.TheVariants as why
@@ -18,7 +22,7 @@ use Rattle.tm_report.specs.declared.fault.FileFault.{FileFault}
 use Rattle.tm_report.specs.declared.fault.FileFault.TheVariants.{NotUtf8, NoToken, BadNumber, OpenComment, Unexpected, EndOfFile, Passed, Names, NotYet}
 use Rattle.tm_run.specs.Files.{file_bytes, IsLexed, IsResolved, IsSpelled}
 use Rattle.tm_run.specs.Places.{IsPlaceIn, at_byte}
-use Rattle.tm_run.specs.Questions.{questions_of}
+use Rattle.tm_run.specs.Questions.{is_answered_today}
 use Rattle.tm_run.specs.declared.status.Status.{Status}
 use Rattle.tm_run.specs.declared.status.Status.TheVariants.{BadText, Limit, IllFormed}
 
@@ -75,11 +79,27 @@ pub record HasNameFaultAt (file : List ℕ) (why : NameWhy) (byte : ℕ) : Type 
   pub first : IsFirstFault (name_at file spelled.tokens) parsed why place
   pub begins : start_of file (slice_get spelled.tokens place) ≡ byte
 
--- the file is resolved, and has what isn't answered today
+-- of the limits on closed types, the first that is passed is of the kind
+abbrev pub IsFirstLimit : Resolved → LimitKind → Type 0
+IsFirstLimit resolved NamedTypes = HasCause resolved TooManyTypes
+IsFirstLimit resolved References = HasCause resolved TooManyRefs
+IsFirstLimit resolved Depth = HasCause resolved TooDeep
+IsFirstLimit resolved _ = ⊥
+
+-- the file is resolved, and the first limit that the types of its questions pass is of the kind
+pub record PassesLimitOnTypes (file : List ℕ) (kind : LimitKind) : Type 0 where
+  pub resolved : Resolved
+  pub names : IsResolved file resolved
+  pub first : IsFirstLimit resolved kind
+
+-- the file is accepted, and its world has what isn't answered today
 pub record GoesBeyond (file : List ℕ) : Type 0 where
   pub resolved : Resolved
   pub names : IsResolved file resolved
-  pub beyond : questions_of names.parsed ≡ None
+  pub limits : IsWithinLimits resolved
+  pub world : World
+  pub belongs : BelongsToFile resolved world
+  pub beyond : IsFalse (is_answered_today world)
 
 -- the file has the fault, at its place
 abbrev pub HasFault : List ℕ → FileFault → Type 0
@@ -89,7 +109,7 @@ HasFault file (BadNumber at) = IsPlaceIn file at × LacksToken file at.byte why.
 HasFault file (OpenComment at) = IsPlaceIn file at × LacksToken file at.byte why.OpenComment
 HasFault file (Unexpected at) = IsPlaceIn file at × StopsAtToken file at.byte
 HasFault file (EndOfFile at) = (at ≡ at_byte file (length file)) × EndsTooSoon file
-HasFault file (Passed kind None) = (kind ≡ FileBytes) × (file_bytes < length file)
+HasFault file (Passed kind None) = ((kind ≡ FileBytes) × (file_bytes < length file)) ⊎ PassesLimitOnTypes file kind
 HasFault file (Passed kind (Some at)) = IsPlaceIn file at × PassesLimitAtToken file kind at.byte
 HasFault file (Names why at) = IsPlaceIn file at × HasNameFaultAt file why at.byte
 HasFault file NotYet = GoesBeyond file
@@ -112,9 +132,11 @@ HasTextFault file =
     ((byte : ℕ) × IsNotUtf8 file byte) ⊎ ((byte : ℕ) × (why : LexWhy) × LacksToken file byte why)
     ⊎ ((byte : ℕ) × StopsAtToken file byte) ⊎ EndsTooSoon file ⊎ GoesBeyond file
 
--- the file has too many bytes, or one of its tokens is the first that passes a limit
+-- the file has too many bytes, or one of its tokens is the first that passes a limit, or its closed types pass one
 abbrev pub PassesLimit : List ℕ → Type 0
-PassesLimit file = (file_bytes < length file) ⊎ ((kind : LimitKind) × (byte : ℕ) × PassesLimitAtToken file kind byte)
+PassesLimit file =
+    (file_bytes < length file) ⊎ ((kind : LimitKind) × (byte : ℕ) × PassesLimitAtToken file kind byte)
+    ⊎ ((kind : LimitKind) × PassesLimitOnTypes file kind)
 
 -- the file is spelled, and has a name fault
 abbrev pub HasNameFault : List ℕ → Type 0

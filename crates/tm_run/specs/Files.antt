@@ -1,6 +1,7 @@
--- Question files: the bytes that are UTF-8, lex, spell a file of the grammar, and have no name at fault.
-use Rattle.std.specs.Prelude.{◌≡◌, ℕ, ◌≤◌, Some, List, length, IsUtf8}
-use Rattle.tm_base.specs.declared.ask.Ask.{Ask}
+-- Question files: the bytes that are UTF-8, lex, spell a file of the grammar, have no name at fault, and lead
+-- to closed types within their limits.
+use Rattle.std.specs.Prelude.{◌≡◌, ℕ, ◌≤◌, List, length, IsUtf8}
+use Rattle.tm_ground.specs.Limits.{IsWithinLimits}
 use Rattle.tm_lex.specs.Lexes.{Tokenizes}
 use Rattle.tm_lex.specs.declared.token.Token.{Token}
 use Rattle.tm_names.specs.Faults.{HasNoFault}
@@ -10,7 +11,6 @@ use Rattle.tm_names.specs.declared.resolved.Resolved.{Resolved}
 use Rattle.tm_parse.specs.Parsing.{SpellsFile}
 use Rattle.tm_parse.specs.Spelling.{terminals_of}
 use Rattle.tm_parse.specs.declared.parsed.Parsed.{Parsed}
-use Rattle.tm_run.specs.Questions.{questions_of}
 
 -- the greatest number of bytes that a file has
 abbrev pub file_bytes : ℕ
@@ -39,9 +39,8 @@ pub record IsResolved (file : List ℕ) (resolved : Resolved) : Type 0 where
   pub sound : HasSoundNames file spelled.tokens parsed
   pub means : resolved ≡ resolved_of (name_at file spelled.tokens) parsed
 
--- the file is resolved, and has nothing but questions that are answered today
+-- the file is resolved, and the closed types that its questions lead to pass no limit
 pub record IsAccepted (file : List ℕ) : Type 0 where
   pub resolved : Resolved
   pub names : IsResolved file resolved
-  pub asks : List Ask
-  pub questions : questions_of names.parsed ≡ Some asks
+  pub limits : IsWithinLimits resolved

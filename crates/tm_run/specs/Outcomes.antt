@@ -1,13 +1,15 @@
 -- What a run comes to: a status, and the bytes that are written.
-use Rattle.std.specs.Prelude.{◌≡◌, ℕ, ◌<◌, ◌⊎◌, Option, Some, List, ◌++◌, length, codes}
-use Rattle.tm_base.specs.declared.ask.Ask.{Ask}
+use Rattle.std.specs.Prelude.{◌≡◌, ℕ, ◌<◌, ◌⊎◌, IsTrue, Option, Some, List, ◌++◌, length, codes}
+use Rattle.tm_base.specs.declared.world.World.{World}
+use Rattle.tm_ground.specs.Belongs.{BelongsToFile}
+use Rattle.tm_ground.specs.Limits.{IsWithinLimits}
 use Rattle.tm_io.specs.Told.{AddsAll, AddsPrefix}
 use Rattle.tm_names.specs.declared.resolved.Resolved.{Resolved}
 use Rattle.tm_report.specs.FaultLines.{line_of}
 use Rattle.tm_report.specs.declared.fault.FileFault.{FileFault}
 use Rattle.tm_run.specs.Faults.{HasFault, status_of_fault}
 use Rattle.tm_run.specs.Files.{IsResolved}
-use Rattle.tm_run.specs.Questions.{questions_of}
+use Rattle.tm_run.specs.Questions.{is_answered_today}
 use Rattle.tm_run.specs.Report.{line_end, report_of, status_of}
 use Rattle.tm_run.specs.Verdicts.{AreTrueVerdicts}
 use Rattle.tm_run.specs.declared.status.Status.{Status}
@@ -17,16 +19,18 @@ use Rattle.tm_run.specs.declared.verdict.Verdict.{Verdict}
 abbrev pub usage_line : List ℕ
 usage_line = codes "usage: transmute_report" ++ line_end
 
--- The headline: the file is resolved and has nothing but these questions; each is answered yes exactly where
--- every valid word of its source, fitted, is a valid word of its target; and the text is the report on these
--- answers.
+-- The headline: the file is resolved, its closed types pass no limit, and all that its world asks is
+-- answered today; each question is answered yes exactly where every valid word of its source, fitted, is a
+-- valid word of its target; and the text is the report on these answers.
 pub record IsReport (file : List ℕ) (status : Status) (text : List ℕ) : Type 0 where
   pub resolved : Resolved
   pub names : IsResolved file resolved
-  pub asks : List Ask
-  pub questions : questions_of names.parsed ≡ Some asks
+  pub limits : IsWithinLimits resolved
+  pub world : World
+  pub belongs : BelongsToFile resolved world
+  pub today : IsTrue (is_answered_today world)
   pub verdicts : List Verdict
-  pub answered : AreTrueVerdicts asks verdicts
+  pub answered : AreTrueVerdicts world world.questions verdicts
   pub status_is : status ≡ status_of verdicts
   pub text_is : text ≡ report_of verdicts
 
@@ -81,3 +85,7 @@ WritesPrefix words file before now = (status : Status) × (text : List ℕ) × I
 -- the whole report was written
 abbrev pub WritesReport : List ℕ → Status → Option (List ℕ) → Option (List ℕ) → Type 0
 WritesReport file status before now = (text : List ℕ) × IsReport file status text × AddsAll before now text
+
+-- the status is that of the fault, and its whole line was written
+abbrev pub WritesFault : FileFault → Status → Option (List ℕ) → Option (List ℕ) → Type 0
+WritesFault fault status before now = (status ≡ status_of_fault fault) × AddsAll before now (line_of fault)

@@ -4,9 +4,9 @@ use Rattle.tm_io.specs.Faults.{Rose}
 use Rattle.tm_io.specs.Told.{AddsAll, AddsPrefix}
 use Rattle.tm_report.specs.FaultLines.{line_of}
 use Rattle.tm_report.specs.declared.fault.FileFault.{FileFault}
-use Rattle.tm_run.specs.Faults.{HasFault, HasNameFault, HasTextFault, PassesLimit, status_of_fault}
+use Rattle.tm_run.specs.Faults.{GoesBeyond, HasFault, HasNameFault, HasTextFault, PassesLimit, status_of_fault}
 use Rattle.tm_run.specs.Files.{IsAccepted}
-use Rattle.tm_run.specs.Outcomes.{IsFileOutcome, IsReport, IsSettled, IsTold, IsRead, WritesOutcome, WritesPrefix, WritesReport}
+use Rattle.tm_run.specs.Outcomes.{IsFileOutcome, IsReport, IsSettled, IsTold, IsRead, WritesOutcome, WritesFault, WritesPrefix, WritesReport}
 use Rattle.tm_run.specs.declared.status.Status.{Status}
 use Rattle.tm_run.specs.declared.status.Status.TheVariants.{Usage, BadText, Limit, ReadFault, WriteFault, Memory, IllFormed}
 
@@ -25,12 +25,12 @@ abbrev pub Declines : FileFault → Option (List ℕ) → Option (List ℕ) → 
 Declines fault written written' faults faults' result =
     Finishes (status_of_fault fault) (line_of fault) written written' faults faults' result ⊎ WantsMemory written written' faults faults' result
 
--- The outcome of a file, and no other is: the report on it where it is accepted, and the status of its fault
--- where it has one.
+-- The outcome of a file, and no other is: the report on it where it is accepted and all that it asks is
+-- answered today, and the status and the line of its fault where it has one.
 pub record Decides (file : List ℕ) (status : Status) (text : List ℕ) : Type 0 where
   pub outcome : IsFileOutcome file status text
-  pub accepted : IsAccepted file → IsReport file status text
-  pub faulted : (fault : FileFault) → HasFault file fault → status ≡ status_of_fault fault
+  pub accepted : IsAccepted file → ¬ GoesBeyond file → IsReport file status text
+  pub faulted : (fault : FileFault) → HasFault file fault → (status ≡ status_of_fault fault) × (text ≡ line_of fault)
 
 -- The outcome of a file is written, or memory is wanting.
 abbrev pub Answers : List ℕ → Option (List ℕ) → Option (List ℕ) → ℕ → ℕ → Status → Type 0
@@ -40,8 +40,9 @@ Answers file written written' faults faults' result =
 
 module _ {W : Type 0} (words : List W) (left left' : Option (List ℕ)) (reads reads' : ℕ) (written written' : Option (List ℕ)) (writes writes' : ℕ) where
   pub record Runs (status : Status) : Type 0 where
-    pub headline : (file : List ℕ) → IsRead words left file status → IsAccepted file → WritesReport file status written written'
+    pub headline : (file : List ℕ) → IsRead words left file status → IsAccepted file → ¬ GoesBeyond file → WritesReport file status written written'
     pub outcome : (file : List ℕ) → IsTold words left file → IsSettled status → WritesOutcome words file status written written'
+    pub fault : (file : List ℕ) → IsRead words left file status → (fault : FileFault) → HasFault file fault → WritesFault fault status written written'
     pub usage : IsSettled status → (status ≡ Usage ↔ (0 < length words))
     pub limit : (file : List ℕ) → IsRead words left file status → (status ≡ Limit ↔ PassesLimit file)
     pub bad_text : (file : List ℕ) → IsRead words left file status → (status ≡ BadText ↔ HasTextFault file)

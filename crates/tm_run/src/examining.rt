@@ -1,41 +1,19 @@
 ghost use Rattle.std.specs.Prelude.{◌≡◌, ◌≤◌, IfOk, IfErr, length, slice_get};
-ghost use Rattle.tm_run.specs.Examined.{AreQuestionsOf, AreTokensOf, IsParsedOf, IsResolvedOf, IsStop, fault_at, no_token_at};
+ghost use Rattle.tm_names.specs.InForm.{IsInForm};
+ghost use Rattle.tm_run.specs.Examined.{AreTokensOf, IsAnsweredWorld, IsMeaningOf, IsParsedOf, IsResolvedOf, IsStop, fault_at, no_token_at};
 ghost use Rattle.tm_run.specs.Faults.{start_of};
 ghost use Rattle.tm_run.specs.Places.{at_byte};
-ghost use Rattle.tm_run.specs.declared.examining.Stop.TheVariants as stop_is;
 
+use crate::closing::world;
 use crate::places::at;
-use crate::questions::questions;
-use std::alloc::{AllocError, Global};
+use crate::stop::Stop;
+use std::alloc::Global;
 use std::str;
-use tm_base::{Ask, List, Memory};
+use tm_base::World;
 use tm_lex::{LexErr, LexWhy, Token, lex};
 use tm_names::{NameErr, Resolved, check};
 use tm_parse::{ParseErr, Parsed, parse};
 use tm_report::{At, FileFault};
-
-/// Why there is no report: the file's fault, or memory was wanting.
-#[derive(Clone, Copy, Debug)]
-pub enum Stop {
-    Fault(FileFault),
-    Memory,
-}
-
-impl From<Memory> for Stop {
-    ghost from_gives = { λ _ stop. stop ≡ stop_is.Memory };
-
-    fn from(_: Memory) -> Stop {
-        Stop::Memory
-    }
-}
-
-impl From<AllocError> for Stop {
-    ghost from_gives = { λ _ stop. stop ≡ stop_is.Memory };
-
-    fn from(_: AllocError) -> Stop {
-        Stop::Memory
-    }
-}
 
 /// The text of a file.
 fn decoded(file: &[u8]) -> Result<&str, Stop>
@@ -121,11 +99,12 @@ fn parsed(alloc: Global, text: &str, tokens: &[Token]) -> Result<Parsed, Stop>
     }
 }
 
-/// What the names of a text mean.
+/// What the names of what a text spells mean.
 fn resolved(alloc: Global, text: &str, tokens: &[Token], parsed: &Parsed) -> Result<Resolved, Stop>
     requires short { length text.now ≤ 1048576 }
     requires parsed { IsParsedOf text.now tokens.now parsed.now }
     ensures resolved { IfOk result (IsResolvedOf text.now tokens.now parsed.now) }
+    ensures in_form { IfOk result IsInForm }
     ensures stop { IfErr result (IsStop text.now) }
 {
     match check(alloc, text, tokens, parsed) {
@@ -138,27 +117,25 @@ fn resolved(alloc: Global, text: &str, tokens: &[Token], parsed: &Parsed) -> Res
     }
 }
 
-/// The questions of a text.
-fn asks(alloc: Global, text: &str) -> Result<List<Ask>, Stop>
+/// What the names of a text mean.
+fn meaning(alloc: Global, text: &str) -> Result<Resolved, Stop>
     requires { length text.now ≤ 1048576 }
-    ensures questions { IfOk result (AreQuestionsOf text.now) }
+    ensures meaning { IfOk result (IsMeaningOf text.now) }
+    ensures in_form { IfOk result IsInForm }
     ensures stop { IfErr result (IsStop text.now) }
 {
     let tokens = tokens(alloc, text)?;
     let parsed = parsed(alloc, text, &tokens)?;
-    let _resolved = resolved(alloc, text, &tokens, &parsed)?;
-    match questions(alloc, &parsed)? {
-        Some(asks) => Ok(asks),
-        None => Err(Stop::Fault(FileFault::NotYet)),
-    }
+    resolved(alloc, text, &tokens, &parsed)
 }
 
-/// The questions of a file of at most 1,048,576 bytes, or the one fault for which it gets no report.
-pub fn examine(alloc: Global, file: &[u8]) -> Result<List<Ask>, Stop>
+/// The world of a file of at most 1,048,576 bytes, or the one fault for which it gets no report.
+pub fn examine(alloc: Global, file: &[u8]) -> Result<World, Stop>
     requires { length file.now ≤ 1048576 }
-    ensures questions { IfOk result (AreQuestionsOf file.now) }
+    ensures world { IfOk result (IsAnsweredWorld file.now) }
     ensures stop { IfErr result (IsStop file.now) }
 {
     let text = decoded(file)?;
-    asks(alloc, text)
+    let resolved = meaning(alloc, text)?;
+    world(alloc, &resolved)
 }

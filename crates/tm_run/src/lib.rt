@@ -2,6 +2,7 @@
 #![tactic(auto)]
 
 mod bytes;
+mod closing;
 mod comparing;
 mod examining;
 mod places;
@@ -9,6 +10,7 @@ mod questions;
 mod report;
 mod running;
 mod status;
+mod stop;
 #[cfg(test)]
 mod tests;
 mod verdict;

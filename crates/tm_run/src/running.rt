@@ -2,14 +2,15 @@ ghost use Rattle.std.specs.Prelude.{◌≡◌, ◌≢◌, ℕ, ◌<◌, ◌≤�
 ghost use Rattle.tm_io.specs.Faults.{Rose};
 ghost use Rattle.tm_io.specs.Told.{AddsAll};
 ghost use Rattle.tm_run.specs.Examined.{IsStop};
-ghost use Rattle.tm_run.specs.Faults.{HasNameFault, HasTextFault, PassesLimit};
+ghost use Rattle.tm_run.specs.Faults.{GoesBeyond, HasFault, HasNameFault, HasTextFault, PassesLimit};
 ghost use Rattle.tm_run.specs.Files.{IsAccepted};
-ghost use Rattle.tm_run.specs.Outcomes.{IsSettled, IsTold, IsRead, WritesOutcome, WritesPrefix, WritesReport};
+ghost use Rattle.tm_run.specs.Outcomes.{IsSettled, IsTold, IsRead, WritesFault, WritesOutcome, WritesPrefix, WritesReport};
 ghost use Rattle.tm_run.specs.Runs.{Answers, Decides, Declines, Finishes, Runs};
 
-use crate::examining::{Stop, examine};
+use crate::examining::examine;
 use crate::report::{report, status};
 use crate::status::{Status, fault_status};
+use crate::stop::Stop;
 use crate::verdict::verdicts;
 use std::alloc::Global;
 use tm_base::LimitKind;
@@ -30,15 +31,18 @@ const TOO_LONG: FileFault = FileFault::Passed(LimitKind::FileBytes, None);
 /// read, up to one byte past the most that a file may have. All that is to be written is made before
 /// the first byte is. What a question file is, and what is written, is told in docs/QUESTION_FILES.md.
 pub fn run<S: Source, K: Sink>(alloc: Global, words: &[String], src: &mut S, out: &mut K) -> Status
-    // Each question of an accepted file is answered yes exactly where every valid word of its source,
-    // fitted, is a valid word of its target. `WritesReport` says it.
-    ensures headline { (file : List ℕ) → IsRead words.now (S.left src.old) file result → IsAccepted file → WritesReport file result (K.written out.old) (K.written out.new) }
+    // Each question of an accepted file that asks nothing beyond today's is answered yes exactly where every
+    // valid word of its source, fitted, is a valid word of its target. `WritesReport` says it.
+    ensures headline { (file : List ℕ) → IsRead words.now (S.left src.old) file result → IsAccepted file → ¬ GoesBeyond file → WritesReport file result (K.written out.old) (K.written out.new) }
 
     // What is written, in each case, and what the status is then.
     ensures outcome { (file : List ℕ) → IsTold words.now (S.left src.old) file → IsSettled result → WritesOutcome words.now file result (K.written out.old) (K.written out.new) }
     ensures part { (file : List ℕ) → IsTold words.now (S.left src.old) file → result ≡ Status.WriteFault → WritesPrefix words.now file (K.written out.old) (K.written out.new) }
     ensures silent_fault { result ≡ Status.ReadFault → K.written out.new ≡ K.written out.old }
     ensures silent_memory { result ≡ Status.Memory → K.written out.new ≡ K.written out.old }
+
+    // A file with a fault gets its line and its status.
+    ensures fault { (file : List ℕ) → IsRead words.now (S.left src.old) file result → (fault : FileFault) → HasFault file fault → WritesFault fault result (K.written out.old) (K.written out.new) }
 
     // The cause of each status.
     ensures usage { IsSettled result → (result ≡ Status.Usage ↔ (0 < length words.now)) }
@@ -91,8 +95,8 @@ fn judged(alloc: Global, file: &[u8]) -> Result<(Status, String), Stop>
     ensures report { IfOk result (λ outcome. Decides file.now outcome.0 (string_bytes outcome.1)) }
     ensures stop { IfErr result (IsStop file.now) }
 {
-    let asks = examine(alloc, file)?;
-    let verdicts = verdicts(alloc, asks.as_slice())?;
+    let world = examine(alloc, file)?;
+    let verdicts = verdicts(alloc, &world)?;
     let text = report(alloc, &verdicts)?;
     Ok((status(&verdicts), text))
 }

@@ -1,4 +1,5 @@
 use super::*;
+use std::alloc::{AllocError, Global};
 use std::test::Fail;
 use tm_io::{Failed, MemSink, MemSource, Sink, Source, read_all};
 
@@ -51,6 +52,16 @@ fn answers_with_ample_memory(rt: HostRuntime) -> Result<(), Fail> {
     for (file, status, report) in [
         ("", Status::AllYes, "0 yes, 0 no, 0 refused\n"),
         (
+            "lifetime 'a; struct S<'b> { pub to: &'b S<'b> }",
+            Status::AllYes,
+            "0 yes, 0 no, 0 refused\n",
+        ),
+        (
+            "struct S; ask u8 => u8;",
+            Status::AllYes,
+            "1: yes\n1 yes, 0 no, 0 refused\n",
+        ),
+        (
             "ask [u16; 2] => u32; ask u32 => [bool; 4];",
             Status::Mixed,
             "1: yes\n2: no\n1 yes, 1 no, 0 refused\n",
@@ -75,7 +86,8 @@ fn says_where_a_file_is_wrong(rt: HostRuntime) -> Result<(), Fail> {
             "\nask u8\n=> u8 u8;",
             "unexpected token at byte 14, line 3\n",
         ),
-        ("struct S;", "not built yet\n"),
+        ("struct S; ask S => u8;", "not built yet\n"),
+        ("ask &'static u8 => u8;", "not built yet\n"),
         ("ask u8 => u8 assume safety;", "not built yet\n"),
         ("ask [u8; 4097] => u8;", "not built yet\n"),
     ] {
@@ -123,6 +135,49 @@ fn a_byte_outside_of_text_is_named(rt: HostRuntime) -> Result<(), Fail> {
 fn a_token_past_a_limit_is_named(rt: HostRuntime) -> Result<(), Fail> {
     let line = "limit array-length 4294967295 passed at byte 9, line 1\n";
     assert!(rt; ends(&rt, b"ask [u8; 4294967296] => u8;", Status::Limit, line)?);
+    Ok(())
+}
+
+/// A file whose questions lead to so many reference types.
+fn references(alloc: Global, count: u32) -> Result<String, AllocError> {
+    let mut file = String::new(alloc);
+    for length in 0..count {
+        let question = format!(in alloc; "ask &'static [u8; {length}] => u8;\n")?;
+        file.push_str(question.as_str())?;
+    }
+    Ok(file)
+}
+
+/// A file whose question has a type that is so many types deep, where it is one at least.
+fn deep(alloc: Global, depth: u32) -> Result<String, AllocError> {
+    let mut file = String::from_str(alloc, "struct S1;\n")?;
+    for level in 1..depth {
+        let next = level.saturating_add(1);
+        let structure = format!(in alloc; "struct S{next} {{ pub part: S{level} }}\n")?;
+        file.push_str(structure.as_str())?;
+    }
+    let question = format!(in alloc; "ask u8 => S{depth};\n")?;
+    file.push_str(question.as_str())?;
+    Ok(file)
+}
+
+#[test]
+fn too_many_references_are_named(rt: HostRuntime) -> Result<(), Fail> {
+    let most = references(rt.alloc(), 64)?;
+    assert!(rt; ends(&rt, most.as_bytes(), Status::BadText, "not built yet\n")?);
+    let passed = references(rt.alloc(), 65)?;
+    let line = "limit references 64 passed\n";
+    assert!(rt; ends(&rt, passed.as_bytes(), Status::Limit, line)?);
+    Ok(())
+}
+
+#[test]
+fn a_type_that_is_too_deep_is_named(rt: HostRuntime) -> Result<(), Fail> {
+    let most = deep(rt.alloc(), 64)?;
+    assert!(rt; ends(&rt, most.as_bytes(), Status::BadText, "not built yet\n")?);
+    let passed = deep(rt.alloc(), 65)?;
+    let line = "limit depth 64 passed\n";
+    assert!(rt; ends(&rt, passed.as_bytes(), Status::Limit, line)?);
     Ok(())
 }
 

@@ -1,11 +1,11 @@
-ghost use Rattle.std.specs.Prelude.{◌≡◌, All, IfOk};
+ghost use Rattle.std.specs.Prelude.{IsTrue, IfOk};
+ghost use Rattle.tm_run.specs.Questions.{is_answerable, is_answered_today};
 ghost use Rattle.tm_run.specs.Verdicts.{AreTrueVerdicts, IsTrueVerdict};
-ghost use Rattle.tm_run.specs.Questions.{IsAnswerable};
 
 use crate::bytes::{automaton, bytes_of};
 use crate::comparing::every_word_fits;
 use std::alloc::Global;
-use tm_base::{Ask, Memory};
+use tm_base::{Ask, Memory, World};
 
 /// The answer to a question.
 #[derive(Clone, Copy, PartialEq, Eq, Debug)]
@@ -14,10 +14,10 @@ pub enum Verdict {
     No,
 }
 
-/// Answers a question.
+/// Answers a question. Its types name no definition, so that it has one answer in every world.
 fn answer(alloc: Global, ask: &Ask) -> Result<Verdict, Memory>
-    requires { IsAnswerable ask.now }
-    ensures { IfOk result (λ verdict. IsTrueVerdict ask.now verdict) }
+    requires { IsTrue (is_answerable ask.now) }
+    ensures { (world : World) → IfOk result (IsTrueVerdict world ask.now) }
 {
     let Some(src) = bytes_of(&ask.src) else {
         unreachable!();
@@ -34,13 +34,14 @@ fn answer(alloc: Global, ask: &Ask) -> Result<Verdict, Memory>
     Ok(Verdict::Yes)
 }
 
-/// Answers each question, in order.
-pub fn verdicts(alloc: Global, asks: &[Ask]) -> Result<Vec<Verdict>, Memory>
-    requires { All IsAnswerable asks.now }
-    ensures { IfOk result (λ answers. AreTrueVerdicts asks.now answers.items) }
+/// Answers each question of a world, in order.
+pub fn verdicts(alloc: Global, world: &World) -> Result<Vec<Verdict>, Memory>
+    requires { IsTrue (is_answered_today world.now) }
+    ensures { IfOk result (λ answers. AreTrueVerdicts world.now world.now.questions answers.items) }
 {
     let mut answers = Vec::new(alloc);
-    for ask in asks {
+    let questions = world.questions.as_slice();
+    for ask in questions {
         let verdict = answer(alloc, ask)?;
         match answers.push(verdict) {
             Ok(()) => {}

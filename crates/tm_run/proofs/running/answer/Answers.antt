@@ -1,6 +1,6 @@
 use Rattle.std.proofs.Common.{subst}
 use Rattle.tm_run.specs.Examined.{IsStop}
-use Rattle.tm_run.specs.declared.examining.Stop.{Stop}
+use Rattle.tm_run.specs.declared.stop.Stop.{Stop}
 use Rattle.tm_run.proofs.RunLemmas.{refused}
 use Rattle.tm_run.proofs.running.answer.Goals as goal
 

@@ -1,8 +1,9 @@
 use Rattle.std.proofs.Common.{◌≡◌, ℕ, Bool, true, false, sym}
 use Rattle.tm_base.specs.Transmutes.{Transmutes, holds}
 use Rattle.tm_run.specs.Questions.{nothing_assumed}
-use Rattle.tm_run.specs.Verdicts.{closed_type}
+use Rattle.tm_run.specs.Verdicts.{type_in}
 use Rattle.tm_run.proofs.BytesLemmas.{closed-HasBytes, HasFreeWords-bytes, EveryFits-bytes, bytes-EveryFits, fits-Transmutes, Transmutes-fits}
+use Rattle.tm_run.proofs.QuestionLemmas.{assumes-nothing}
 use Rattle.tm_run.proofs.verdict.answer.Goals as goal
 
 pub every_word_fits-requires : goal.every_word_fits-requires
@@ -13,27 +14,27 @@ every_word_fits-requires c = record {
 }
 
 pub returns-then-not-fits : goal.returns-then-not-fits
-returns-then-not-fits c = λ h.
+returns-then-not-fits c = λ world h.
     let ask = c.args.ask.now in
     let from = c.in-Some.src in
     let to = c.in-Some-bytes_of.dst in
-    let src = closed-HasBytes ask.src from (sym c.in-Some.ensures.bytes) in
-    let dst = closed-HasBytes ask.dst to (sym c.in-Some-bytes_of.ensures.bytes) in
+    let src = closed-HasBytes world.defs world.named ask.src from (sym c.in-Some.ensures.bytes) in
+    let dst = closed-HasBytes world.defs world.named ask.dst to (sym c.in-Some-bytes_of.ensures.bytes) in
     let all : ℕ → ℕ → Bool = λ x t. true in
-    let may : Transmutes (holds all) nothing_assumed (closed_type ask.src) (closed_type ask.dst) = rw c.requires.assume at (h all) in
+    let may : Transmutes (holds all) nothing_assumed (type_in world ask.src) (type_in world ask.dst) = rw (assumes-nothing c.args.ask.now c.requires) at (h all) in
     let every = bytes-EveryFits c.in_ok-src.src c.in_ok-dst.dst from to c.in_ok-src.ensures.words c.in_ok-dst.ensures.words c.in_ok-dst.ensures.size
-    (Transmutes-fits (holds all) (closed_type ask.src) (closed_type ask.dst) from to src dst may) in
+    (Transmutes-fits (holds all) (type_in world ask.src) (type_in world ask.dst) from to src dst may) in
     let fits : c.in_ok-fits.fits ≡ true = c.in_ok-fits.ensures.1 every in
     let stops : c.in_ok-fits.fits ≡ false = c.if-not-fits.true in
     cc
 
 pub returns : goal.returns
-returns c = λ A.
+returns c = λ world A.
     let ask = c.args.ask.now in
     let from = c.in-Some.src in
     let to = c.in-Some-bytes_of.dst in
-    let src = closed-HasBytes ask.src from (sym c.in-Some.ensures.bytes) in
-    let dst = closed-HasBytes ask.dst to (sym c.in-Some-bytes_of.ensures.bytes) in
+    let src = closed-HasBytes world.defs world.named ask.src from (sym c.in-Some.ensures.bytes) in
+    let dst = closed-HasBytes world.defs world.named ask.dst to (sym c.in-Some-bytes_of.ensures.bytes) in
     let every = c.in_ok-fits.ensures.0 c.if-not-fits.false in
-    rw c.requires.assume (fits-Transmutes (holds A) (closed_type ask.src) (closed_type ask.dst) from to src dst
+    rw (assumes-nothing c.args.ask.now c.requires) (fits-Transmutes (holds A) (type_in world ask.src) (type_in world ask.dst) from to src dst
     (EveryFits-bytes c.in_ok-src.src c.in_ok-dst.dst from to c.in_ok-src.ensures.words c.in_ok-dst.ensures.words c.in_ok-dst.ensures.size every))

@@ -1,0 +1,45 @@
+ghost use Rattle.std.specs.Prelude.{◌≡◌};
+ghost use Rattle.tm_run.specs.Examined.{stop_of};
+ghost use Rattle.tm_run.specs.declared.stop.Stop.TheVariants as stop_is;
+
+use std::alloc::AllocError;
+use tm_base::{LimitKind, Memory};
+use tm_ground::GroundErr;
+use tm_report::FileFault;
+
+/// Why there is no report: the file's fault, or memory was wanting.
+#[derive(Clone, Copy, Debug)]
+pub enum Stop {
+    Fault(FileFault),
+    Memory,
+}
+
+impl From<Memory> for Stop {
+    ghost from_gives = { λ _ stop. stop ≡ stop_is.Memory };
+
+    fn from(_: Memory) -> Stop {
+        Stop::Memory
+    }
+}
+
+impl From<AllocError> for Stop {
+    ghost from_gives = { λ _ stop. stop ≡ stop_is.Memory };
+
+    fn from(_: AllocError) -> Stop {
+        Stop::Memory
+    }
+}
+
+impl From<GroundErr> for Stop {
+    ghost from_gives = { λ err stop. stop ≡ stop_of err };
+
+    fn from(err: GroundErr) -> Stop {
+        let kind = match err {
+            GroundErr::TooManyTypes => LimitKind::NamedTypes,
+            GroundErr::TooManyRefs => LimitKind::References,
+            GroundErr::TooDeep => LimitKind::Depth,
+            GroundErr::Memory => return Stop::Memory,
+        };
+        Stop::Fault(FileFault::Passed(kind, None))
+    }
+}
