@@ -1,14 +1,35 @@
-ghost use Rattle.std.specs.Prelude.{◌≡◌, IfOk};
+ghost use Rattle.std.specs.Prelude.{◌≡◌, ℕ, List, None, Some, IfOk, OnOk, if◌then◌else◌};
+ghost use Rattle.std.specs.HashMap.{get_by};
+ghost use Rattle.std.specs.Option.{option_or};
+ghost use Rattle.std.specs.Str.{bytes_eq};
 ghost use Rattle.tm_names.specs.Indexing.{IsIndexed};
 ghost use Rattle.tm_names.specs.Holding.{first_named};
 ghost use Rattle.tm_names.specs.Source.{names_in};
 
 use crate::indexed::Definitions;
 use crate::source::{Source, name};
+use indexmap::IndexMap;
 use std::alloc::Global;
-use std::collections::HashMap;
 use tm_base::Memory;
 use tm_parse::Decl;
+
+/// Notes a definition's number under its name, where no earlier one has the name.
+fn note<'a>(
+    firsts: &mut IndexMap<&'a [u8], usize>,
+    name: &'a [u8],
+    number: usize,
+) -> Result<(), Memory>
+    ensures { OnOk result ((bytes : List ℕ) → get_by (λ key. bytes_eq bytes key.now) firsts.new
+        ≡ option_or (get_by (λ key. bytes_eq bytes key.now) firsts.old) (if bytes_eq name.now bytes then Some number else None)) }
+{
+    if firsts.contains_key(name) {
+        return Ok(());
+    }
+    match firsts.insert(name, number) {
+        Ok(_) => Ok(()),
+        Err(_) => Err(Memory),
+    }
+}
 
 /// Definitions with the first of each name.
 pub fn indexed<'a>(
@@ -19,12 +40,10 @@ pub fn indexed<'a>(
     ensures decls { IfOk result (λ definitions. definitions.decls.now ≡ decls.now) }
     ensures indexed { IfOk result (IsIndexed (names_in source.now)) }
 {
-    let mut firsts = HashMap::new(alloc);
-    let mut left = decls.len();
-    'definitions: while left > 0 {
-        left -= 1;
-        match firsts.insert(name(source, decls[left].name), left) {
-            Ok(_) => {}
+    let mut firsts = IndexMap::new(alloc);
+    'definitions: for (number, decl) in decls.iter().enumerate() {
+        match note(&mut firsts, name(source, decl.name), number) {
+            Ok(()) => {}
             Err(_) => return Err(Memory),
         }
     }

@@ -1,9 +1,11 @@
-use Rattle.std.proofs.Common.{◌≡◌, ℕ, zero, suc, ◌+◌, ◌-◌, ◌<◌, ◌≤◌, Bool, Some, List, [], ◌∷◌, length, drop, get_or, if◌then◌else◌, refl, sym, ap, ◌∙◌, arith}
+use Rattle.std.proofs.Common.{◌≡◌, ℕ, zero, suc, ◌+◌, ◌<◌, ◌≤◌, Bool, true, false, Option, None, Some, List, [], ◌∷◌, length, drop, get_or, if◌then◌else◌, refl, sym, ap, ◌∙◌, arith}
 use Rattle.std.specs.HashMap.{get_by}
 use Rattle.std.specs.List.{position_from}
+use Rattle.std.specs.Map.{lookup}
+use Rattle.std.specs.Option.{option_or}
 use Rattle.std.specs.Str.{bytes_eq}
 use Rattle.tm_names.specs.Source.{names_in}
-use Rattle.std.proofs.lemmas.Map.Text.{hash_map_updates_str}
+use Rattle.tm_parse.specs.declared.parsed.Decl.{Decl}
 use Rattle.tm_names.proofs.definitions.indexed.Goals as goal
 
 one_before : {X : Type 0} (test : X → Bool) (from : ℕ) (xs : List X) (i n : ℕ) (x : X) → i < length xs → n ≡ suc i → x ≡ get_or xs i x
@@ -16,25 +18,60 @@ one_before test from (y ∷ ys) (suc i) n x h e at =
     ap (λ k. if test x then Some from else position_from test (from + 1) (drop k (y ∷ ys))) e
     ∙ one_before test from ys i (suc i) x (omega arith) refl at
 
+-- what is found, or one more, or else the rest
+found_or_one : {X : Type 0} (o : Option X) (b : Bool) (x : X) (rest : Option X) → option_or (option_or o (if b then Some x else None)) rest ≡ option_or o (if b then Some x else rest)
+found_or_one None true x rest = refl
+found_or_one None false x rest = refl
+found_or_one (Some y) b x rest = refl
+
+none_left : {X : Type 0} (test : X → Bool) (from : ℕ) (xs : List X) (n : ℕ) → length xs ≤ n → position_from test from (drop n xs) ≡ None
+none_left test from [] zero h = refl
+none_left test from [] (suc n) h = refl
+none_left test from (x ∷ xs) zero h = absurd (omega arith)
+none_left test from (x ∷ xs) (suc n) h = none_left test from xs n (omega arith)
+
+or_none : {X : Type 0} (o : Option X) → option_or o None ≡ o
+or_none None = refl
+or_none (Some x) = refl
+
+pub definitions-init : goal.definitions-init
+definitions-init c =
+    let name = names_in c.args.source.now in
+    record {
+      within = omega arith;
+      found = λ bytes. ap (λ es. option_or (lookup (λ key. bytes_eq bytes key.now) es) (position_from (λ d. bytes_eq (name d.name) bytes) 0 c.args.decls.now)) c.new-firsts.ensures.empty;
+    }
+
 pub definitions-preserved : goal.definitions-preserved
 definitions-preserved c =
     let name = names_in c.args.source.now in
-    let at = c.definitions.left - 1 in
+    let at = c.definitions.number in
     let decls = c.args.decls.now in
-    let firsts = c.definitions.firsts in
-    let d = c.index-decls-left.result in
-    let some : 0 < c.definitions.left = c.definitions-test.true in
-    let within : c.definitions.left ≤ length decls = c.definitions.invariant.within in
-    let key : c.name.result.now ≡ name d.name = c.name.ensures ∙ ap (λ decl. name decl.name) (sym c.index-decls-left.is) in
-    let back : c.definitions.left ≡ at + 1 = omega arith in
-    let inside : at < length decls = omega arith in
-    let behind : c.definitions.left ≡ suc at = omega arith in
+    let d = c.index-decls-number.result in
+    let inside : at < length decls = c.definitions-test.true in
+    let key : c.name.result.now ≡ name d.name = c.name.ensures in
+    let next : at + 1 ≡ suc at = omega arith in
     record {
       within = omega arith;
       found = λ bytes.
-          hash_map_updates_str c.name.result.now firsts c.insert.new.self (Some at) c.in-Ok.ensures.updates bytes
-          ∙ (ap (λ b. if bytes_eq b bytes then Some at else get_by (λ k. bytes_eq bytes k.now) firsts) key
-          ∙ (ap (λ rest. if bytes_eq (name d.name) bytes then Some at else rest)
-          (c.definitions.invariant.found bytes ∙ ap (λ k. position_from (λ decl. bytes_eq (name decl.name) bytes) k (drop c.definitions.left decls)) back)
-          ∙ one_before (λ decl. bytes_eq (name decl.name) bytes) at decls at c.definitions.left d inside behind c.index-decls-left.is));
+          let test : Decl → Bool = λ decl. bytes_eq (name decl.name) bytes in
+          let o = get_by (λ k. bytes_eq bytes k.now) c.definitions.firsts in
+          let rest = position_from test (at + 1) (drop (at + 1) decls) in
+          ap (λ found. option_or found rest) (c.in-Ok.ensures bytes ∙ ap (λ k. option_or o (if bytes_eq k bytes then Some at else None)) key)
+          ∙ (found_or_one o (test d) at rest
+          ∙ (ap (λ left. option_or o left) (one_before test at decls at (at + 1) d inside next c.index-decls-number.is)
+          ∙ c.definitions.invariant.found bytes));
+    }
+
+pub returns-clause-indexed : goal.returns-clause-indexed
+returns-clause-indexed c =
+    let name = names_in c.args.source.now in
+    let decls = c.args.decls.now in
+    record {
+      found = λ bytes.
+          let test : Decl → Bool = λ decl. bytes_eq (name decl.name) bytes in
+          let o = get_by (λ k. bytes_eq bytes k.now) c.definitions.firsts in
+          sym (or_none o)
+          ∙ (ap (λ left. option_or o left) (sym (none_left test c.definitions.number decls c.definitions.number c.definitions-test.false))
+          ∙ c.definitions.invariant.found bytes);
     }
