@@ -1,2 +1,4 @@
 pub mod DecideLemmas
 pub mod ListedLemmas
+pub mod StillLemmas
+pub mod WordSearchLemmas
