@@ -2,3 +2,5 @@ pub mod DecideLemmas
 pub mod ListedLemmas
 pub mod StillLemmas
 pub mod WordSearchLemmas
+pub mod WithinLemmas
+pub mod ValidKnownLemmas

@@ -1,3 +1,15 @@
 //! Laws of the definitions that need more than their words. Each is the contract of a function that does
 //! nothing, so that it is proved with the crate.
 #![tactic(auto)]
+
+ghost use Rattle.tm_laws.specs.Laws.{TypesAreSettled, MoreMayBeAssumed};
+
+/// Each type has no value, or one is known.
+pub fn types_are_settled()
+    ensures { TypesAreSettled }
+{}
+
+/// What may be taken may be taken under more assumptions.
+pub fn more_may_be_assumed()
+    ensures { MoreMayBeAssumed }
+{}

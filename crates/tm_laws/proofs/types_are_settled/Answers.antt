@@ -1,0 +1,5 @@
+use Rattle.tm_laws.proofs.ValidKnownLemmas.{settled}
+use Rattle.tm_laws.proofs.types_are_settled.Goals as goal
+
+pub returns : goal.returns
+returns c = settled
