@@ -4,3 +4,5 @@ pub mod StillLemmas
 pub mod WordSearchLemmas
 pub mod WithinLemmas
 pub mod ValidKnownLemmas
+pub mod ReachLemmas
+pub mod ReachedLemmas
