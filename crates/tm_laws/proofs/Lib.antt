@@ -6,3 +6,7 @@ pub mod WithinLemmas
 pub mod ValidKnownLemmas
 pub mod ReachLemmas
 pub mod ReachedLemmas
+pub mod JudgedKnownLemmas
+pub mod OutlivesKnownLemmas
+pub mod TransmutesKnownLemmas
+pub mod CompatibleKnownLemmas

@@ -1,6 +1,6 @@
 -- It is known whether some way of steps leads to what passes a test, where a list holds all that a way
 -- may come to.
-use Rattle.std.proofs.Common.{◌≡◌, ℕ, zero, suc, ◌⊎◌, inl, inr, refl, sym, ◌∙◌, subst, Bool, true, false, ◌||◌, List, [], ◌∷◌, length}
+use Rattle.std.proofs.Common.{◌≡◌, ℕ, zero, suc, ◌⊎◌, inl, inr, refl, sym, subst, Bool, true, false, ◌||◌, List, [], ◌∷◌, length}
 use Rattle.std.specs.List.{list_any}
 use Rattle.tm_base.specs.Reaches.{LeadsIn, Leads}
 use Rattle.tm_laws.proofs.DecideLemmas.{Dec-is}

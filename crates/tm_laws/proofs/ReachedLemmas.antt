@@ -8,7 +8,7 @@ use Rattle.tm_base.specs.declared.ground.Ground.TheOpen.{Ground-F}
 use Rattle.tm_base.specs.declared.ground.Ground.TheVariants.{rolls-Tuple, rolls-Array, rolls-Wrap}
 use Rattle.tm_base.specs.declared.ground.Wrapper.{Wrapper}
 use Rattle.tm_base.specs.declared.ground.Wrapper.TheVariants as wrapper
-use Rattle.tm_base.specs.Reaches.{LeadsIn, argument_of, row_parts, row_pointee, parts_within, pointees_within, parts_of, pointees_of, Enters, Reaches}
+use Rattle.tm_base.specs.Reaches.{argument_of, row_parts, row_pointee, parts_within, pointees_within, parts_of, pointees_of, Enters, Reaches}
 use Rattle.tm_base.specs.Tables.{Tables}
 use Rattle.tm_base.specs.Whole.{written_types, row_types}
 use Rattle.tm_base.proofs.GroundLemmas.{written_types-Tuple, written_types-Array, written_types-Wrap}

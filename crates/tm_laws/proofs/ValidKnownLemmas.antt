@@ -1,8 +1,6 @@
 -- It is known of each word whether it is one of a type, and of each type whether it has a value, where
 -- it is known which values references may hold.
-use Rattle.std.proofs.Common.{◌≡◌, ℕ, suc, ◌<◌, ◌≤◌, inl, inr, refl, Bool, true, false, IsTrue, length, arith, ◌==◌, ◌⊎◌}
-use Rattle.std.specs.List.{All}
-use Rattle.std.proofs.lemmas.Bool.Decides.{Decides-eqb}
+use Rattle.std.proofs.Common.{ℕ, suc, ◌<◌, inl, inr, Bool, true, arith}
 use Rattle.tm_base.specs.Cells.{Word}
 use Rattle.tm_base.specs.Expanded.{Expanded}
 use Rattle.tm_base.specs.Laws.{IsSettled}
@@ -14,7 +12,7 @@ use Rattle.tm_base.proofs.ValidLemmas.{Valid-length, Valid-grows}
 use Rattle.tm_base.proofs.ValidTestLemmas.{valid_test-exact}
 use Rattle.tm_laws.proofs.DecideLemmas.{Dec-like, Dec-by_test, Dec-eq, test_of, test_of-to, test_of-from}
 use Rattle.tm_laws.proofs.ListedLemmas.{Listed, find}
-use Rattle.tm_laws.proofs.WordSearchLemmas.{IsWithin, Listed-words}
+use Rattle.tm_laws.proofs.WordSearchLemmas.{Listed-words}
 use Rattle.tm_laws.proofs.WithinLemmas.{refs_below, Valid-within}
 
 module _ (A : ℕ → ℕ → Type 0) (known : (x t : ℕ) → Dec (A x t)) where

@@ -1,5 +1,5 @@
 -- The references of a type's words have numbers below a bound that the type gives.
-use Rattle.std.proofs.Common.{◌≡◌, ℕ, zero, suc, ◌+◌, ◌<◌, ◌≤◌, max, Bool, inl, inr, refl, subst, [], ◌∷◌, ◌++◌, length, replicate, arith, Option, None}
+use Rattle.std.proofs.Common.{◌≡◌, ℕ, zero, suc, ◌+◌, ◌<◌, ◌≤◌, max, Bool, inl, inr, ◌++◌, arith, Option, None}
 use Rattle.std.specs.List.{All, range_with_len}
 use Rattle.std.proofs.lemmas.List.Elements.{All-nil, All-cons, All-append, All-weaker, All-replicate, All-map}
 use Rattle.tm_base.specs.declared.cell.Cell.{Cell}
@@ -11,7 +11,7 @@ use Rattle.tm_base.specs.declared.ground.Wrapper.{Wrapper}
 use Rattle.tm_base.specs.declared.ground.Wrapper.TheVariants as wrapper
 use Rattle.tm_base.specs.Cells.{Word, IsByte, IsFree, Times, pointer_of}
 use Rattle.tm_base.specs.Expanded.{Expanded, Fields, Variants, too_deep, prim, never, unit, tuple, array, nonzero, phantom, wrap, ref, named, no_fields, field, no_variants, variant}
-use Rattle.tm_base.specs.Layout.{size_of, prim_size}
+use Rattle.tm_base.specs.Layout.{size_of}
 use Rattle.tm_base.specs.Valid.{Valid, StructValid, UnionValid, FieldsValid, SomeFieldValid, SomeVariantValid, PrimValid, WrapValid}
 use Rattle.tm_laws.proofs.WordSearchLemmas.{IsWithin}
 

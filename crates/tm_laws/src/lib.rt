@@ -2,7 +2,9 @@
 //! nothing, so that it is proved with the crate.
 #![tactic(auto)]
 
-ghost use Rattle.tm_laws.specs.Laws.{TypesAreSettled, MoreMayBeAssumed};
+ghost use Rattle.tm_laws.specs.Laws.{TypesAreSettled, MoreMayBeAssumed, CompatibilityIsKnown};
+
+use tm_base::World;
 
 /// Each type has no value, or one is known.
 pub fn types_are_settled()
@@ -12,4 +14,9 @@ pub fn types_are_settled()
 /// What may be taken may be taken under more assumptions.
 pub fn more_may_be_assumed()
     ensures { MoreMayBeAssumed }
+{}
+
+/// It is known of two references of a world whether the one may be taken as the other.
+pub fn compatibility_is_known(world: &World)
+    ensures { CompatibilityIsKnown world.now }
 {}
