@@ -10,3 +10,4 @@ pub mod JudgedKnownLemmas
 pub mod OutlivesKnownLemmas
 pub mod TransmutesKnownLemmas
 pub mod CompatibleKnownLemmas
+pub mod WholeLeaves
