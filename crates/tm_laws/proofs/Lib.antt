@@ -11,3 +11,4 @@ pub mod OutlivesKnownLemmas
 pub mod TransmutesKnownLemmas
 pub mod CompatibleKnownLemmas
 pub mod WholeLeaves
+pub mod WholeWords
