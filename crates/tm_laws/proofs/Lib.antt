@@ -12,3 +12,5 @@ pub mod TransmutesKnownLemmas
 pub mod CompatibleKnownLemmas
 pub mod WholeLeaves
 pub mod WholeWords
+pub mod RefusalMoves
+pub mod RefusalSwaps
