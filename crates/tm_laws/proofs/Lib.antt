@@ -14,3 +14,4 @@ pub mod WholeLeaves
 pub mod WholeWords
 pub mod RefusalMoves
 pub mod RefusalSwaps
+pub mod RefusalLemmas

@@ -61,7 +61,7 @@ abbrev pub IsWhole : Word → Type 0
 IsWhole w = (before behind : Word) (r : RefId) (k : ℕ) → w ≡ before ++ (Ptr r k ∷ behind) → StandsWhole r k before behind
 
 -- a cell of two joined words is one of the first or of the second
-append-split : (u v p q : Word) (c : Cell) → u ++ v ≡ p ++ (c ∷ q)
+pub append-split : (u v p q : Word) (c : Cell) → u ++ v ≡ p ++ (c ∷ q)
     → ((rest : Word) × (u ≡ p ++ (c ∷ rest)) × (q ≡ rest ++ v)) ⊎ ((rest : Word) × (p ≡ u ++ rest) × (v ≡ rest ++ (c ∷ q)))
 append-split [] v p q c e = inr (p, refl, e)
 append-split (a ∷ u) v [] q c e = inl (u, cc, cc)
