@@ -15,3 +15,5 @@ pub mod WholeWords
 pub mod RefusalMoves
 pub mod RefusalSwaps
 pub mod RefusalLemmas
+pub mod RefusalFormed
+pub mod RefusalWorlds

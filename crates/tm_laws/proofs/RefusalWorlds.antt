@@ -1,0 +1,190 @@
+-- The references of a world's types are the world's. So no word of a source has an open one.
+use Rattle.std.proofs.Common.{◌≡◌, ℕ, zero, suc, ◌<◌, refl, Bool, true, List, [], ◌∷◌, ◌++◌, length, Option, Some, None, slice_get, arith}
+use Rattle.std.specs.List.{All, list_all, flat_map}
+use Rattle.std.proofs.lemmas.List.Elements.{All-nil, All-cons, All-append, All-weaker, All-contains}
+use Rattle.std.proofs.lemmas.Option.{slice_get_within}
+use Rattle.tm_base.specs.declared.assume.Assume.{Assume}
+use Rattle.tm_base.specs.declared.cell.Cell.{Cell}
+use Rattle.tm_base.specs.declared.cell.Cell.TheVariants.{Byte, Uninit, Ptr}
+use Rattle.tm_base.specs.declared.definition.Def.{Def}
+use Rattle.tm_base.specs.declared.definition.Field.{Field}
+use Rattle.tm_base.specs.declared.definition.NamedRow.{NamedRow}
+use Rattle.tm_base.specs.declared.definition.RefRow.{RefRow}
+use Rattle.tm_base.specs.declared.definition.Variant.{Variant}
+use Rattle.tm_base.specs.declared.ground.Ground.{Ground, out-Ground}
+use Rattle.tm_base.specs.declared.ground.Ground.TheOpen.{Ground-F}
+use Rattle.tm_base.specs.declared.ground.NamedId.{NamedId}
+use Rattle.tm_base.specs.declared.ground.Wrapper.{Wrapper}
+use Rattle.tm_base.specs.declared.ground.Wrapper.TheVariants as wrapper
+use Rattle.tm_base.specs.declared.world.World.{World}
+use Rattle.tm_base.specs.Cells.{Word}
+use Rattle.tm_base.specs.Compatible.{Compatible, CompatibleTo, MeetsLocally}
+use Rattle.tm_base.specs.Expanded.{Expanded, elements, fields_of, variants_of, defined, row_of, wrapped, level, expanded_within, depth_limit}
+use Rattle.tm_base.specs.Reaches.{Enters, Reaches, argument_of, row_parts, row_pointee, parts_within, pointees_within, parts_of, pointees_of}
+use Rattle.tm_base.specs.Tables.{expanded_in, pointee_in, OnRows}
+use Rattle.tm_base.specs.Transmutes.{Same, IsSourceWord}
+use Rattle.tm_base.specs.Worlds.{tables_of, IsTypeOver}
+use Rattle.tm_base.proofs.JudgedLemmas.{LeadsIn-keeps}
+use Rattle.tm_laws.proofs.RefusalFormed.{formed, PartsFormed, formed-level, IsFormed, row-formed, pointee-formed, over-formed, both_pass, All-from_list_all}
+use Rattle.tm_laws.proofs.RefusalSwaps.{IsClosed, IsOfSources}
+use Rattle.tm_laws.proofs.WholeLeaves.{leaves, field_leaves, variant_leaves}
+use Rattle.tm_laws.proofs.WholeWords.{IsCellOf, IsHeldBy, pointers-related}
+
+-- One level of a type: its references have numbers below a bound, where those of its parts do.
+module _ (named refs : ℕ) (part : Ground → Expanded) (each : (g : Ground) → formed named refs g ≡ true → All (λ u. u < refs) (leaves (part g))) where
+  abbrev AreBelow : List ℕ → Type 0
+  AreBelow us = All (λ u. u < refs) us
+
+  abbrev is_formed : Ground → Bool
+  is_formed = formed named refs
+
+  elements-leaves : (gs : List Ground) → list_all is_formed gs ≡ true → AreBelow (field_leaves (elements part gs))
+  unfolding leaves
+  elements-leaves [] h = All-nil (λ u. u < refs)
+  elements-leaves (g ∷ gs) h =
+      let both = both_pass (is_formed g) (list_all is_formed gs) h in
+      All-append (λ u. u < refs) (leaves (part g)) (field_leaves (elements part gs)) (each g both.0) (elements-leaves gs both.1)
+
+  fields_of-leaves : (fs : List Field) (types : List Ground) → list_all is_formed types ≡ true → AreBelow (field_leaves (fields_of part fs types))
+  unfolding leaves
+  fields_of-leaves [] types h = All-nil (λ u. u < refs)
+  fields_of-leaves (f ∷ fs) [] h = All-nil (λ u. u < refs)
+  fields_of-leaves (f ∷ fs) (g ∷ gs) h =
+      let both = both_pass (is_formed g) (list_all is_formed gs) h in
+      All-append (λ u. u < refs) (leaves (part g)) (field_leaves (fields_of part fs gs)) (each g both.0) (fields_of-leaves fs gs both.1)
+
+  variants_of-leaves : (vs : List Variant) (types : List (List Ground)) → list_all (list_all is_formed) types ≡ true → AreBelow (variant_leaves (variants_of part vs types))
+  unfolding leaves
+  variants_of-leaves [] types h = All-nil (λ u. u < refs)
+  variants_of-leaves (v ∷ vs) [] h = All-nil (λ u. u < refs)
+  variants_of-leaves (v ∷ vs) (gs ∷ types) h =
+      let both = both_pass (list_all is_formed gs) (list_all (list_all is_formed) types) h in
+      All-append (λ u. u < refs) (field_leaves (fields_of part v.fields gs)) (variant_leaves (variants_of part vs types))
+      (fields_of-leaves v.fields gs both.0) (variants_of-leaves vs types both.1)
+
+  defined-leaves : (id : NamedId) (types : List (List Ground)) (d : Option Def) → list_all (list_all is_formed) types ≡ true → AreBelow (leaves (defined part id types d))
+  unfolding leaves
+  defined-leaves id types None h = All-nil (λ u. u < refs)
+  defined-leaves id types (Some d) h = variants_of-leaves d.variants types h
+
+  row_of-leaves : (defs : List Def) (id : NamedId) (row : Option NamedRow) → ((one : NamedRow) → row ≡ Some one → list_all (list_all is_formed) one.types ≡ true) → AreBelow (leaves (row_of part defs id row))
+  unfolding leaves
+  row_of-leaves defs id None h = All-nil (λ u. u < refs)
+  row_of-leaves defs id (Some row) h = defined-leaves id row.types (slice_get defs row.def.0) (h row refl)
+
+  wrapped-leaves : (w : Wrapper) (g : Ground) → is_formed g ≡ true → AreBelow (leaves (wrapped part w g))
+  unfolding leaves
+  wrapped-leaves wrapper.PhantomData g h = All-nil (λ u. u < refs)
+  wrapped-leaves w g h = each g h
+
+  level-leaves : (defs : List Def) (rows : List NamedRow) → ((k : ℕ) (row : NamedRow) → slice_get rows k ≡ Some row → list_all (list_all is_formed) row.types ≡ true)
+      → (x : Ground-F Ground) → PartsFormed named refs x → AreBelow (leaves (level part defs rows x))
+  unfolding leaves
+  level-leaves defs rows at_rows (Ground-F.Prim p) h = All-nil (λ u. u < refs)
+  level-leaves defs rows at_rows Ground-F.Never h = All-nil (λ u. u < refs)
+  level-leaves defs rows at_rows Ground-F.Unit h = All-nil (λ u. u < refs)
+  level-leaves defs rows at_rows (Ground-F.Tuple gs) h = elements-leaves gs h
+  level-leaves defs rows at_rows (Ground-F.Array g n) h = each g h
+  level-leaves defs rows at_rows (Ground-F.Named id) h = row_of-leaves defs id (slice_get rows id.0) (λ row e. at_rows id.0 row e)
+  level-leaves defs rows at_rows (Ground-F.NonZero p) h = All-nil (λ u. u < refs)
+  level-leaves defs rows at_rows (Ground-F.Wrap w g) h = wrapped-leaves w g h
+  level-leaves defs rows at_rows (Ground-F.Ref r) h = All-cons (λ u. u < refs) r.0 [] h (All-nil (λ u. u < refs))
+
+module _ (world : World) where
+  -- the numbers of a type's references are below the number of the world's
+  abbrev pub HasKnownLeaves : Expanded → Type 0
+  HasKnownLeaves t = All (λ u. u < length world.refs) (leaves t)
+
+  formed-known_within : (n : ℕ) (g : Ground) → IsFormed world g → HasKnownLeaves (expanded_within n world.defs world.named g)
+  unfolding expanded_within leaves
+  formed-known_within zero g h = All-nil (λ u. u < length world.refs)
+  formed-known_within (suc n) g h =
+      level-leaves (length world.named) (length world.refs) (expanded_within n world.defs world.named) (λ k. formed-known_within n k)
+      world.defs world.named (row-formed world) (out-Ground g) (formed-level (length world.named) (length world.refs) g h)
+
+  pub formed-known : (g : Ground) → IsFormed world g → HasKnownLeaves (expanded_in (tables_of world) g)
+  formed-known g h = formed-known_within depth_limit g h
+
+  -- it is so of each type over the world
+  pub leaves-known : (g : Ground) → IsTypeOver (tables_of world) g → HasKnownLeaves (expanded_in (tables_of world) g)
+  leaves-known g h = formed-known g (over-formed world g h)
+
+  -- and of each pointee
+  pub pointee-known : (k : ℕ) (row : RefRow) → slice_get world.refs k ≡ Some row → HasKnownLeaves (pointee_in (tables_of world) row)
+  pointee-known k row e = formed-known row.pointee (pointee-formed world k row e)
+
+  -- parts of a type over the world
+  abbrev AreFormed : List Ground → Type 0
+  AreFormed gs = All (IsFormed world) gs
+
+  one_formed : (g : Ground) → IsFormed world g → AreFormed (g ∷ [])
+  one_formed g h = All-cons (IsFormed world) g [] h (All-nil (IsFormed world))
+
+  types_formed : (types : List (List Ground)) → list_all (list_all (formed (length world.named) (length world.refs))) types ≡ true → AreFormed (flat_map (λ gs. gs) types)
+  types_formed [] h = All-nil (IsFormed world)
+  types_formed (gs ∷ types) h =
+      let both = both_pass (list_all (formed (length world.named) (length world.refs)) gs) (list_all (list_all (formed (length world.named) (length world.refs))) types) h in
+      All-append (IsFormed world) gs (flat_map (λ gs. gs) types) (All-from_list_all (formed (length world.named) (length world.refs)) (IsFormed world) (λ g e. e) gs both.0) (types_formed types both.1)
+
+  row_parts-formed : (row : Option NamedRow) → ((one : NamedRow) → row ≡ Some one → list_all (list_all (formed (length world.named) (length world.refs))) one.types ≡ true) → AreFormed (row_parts row)
+  row_parts-formed None h = All-nil (IsFormed world)
+  row_parts-formed (Some row) h = types_formed row.types (h row refl)
+
+  row_pointee-formed : (row : Option RefRow) → ((one : RefRow) → row ≡ Some one → IsFormed world one.pointee) → AreFormed (row_pointee row)
+  row_pointee-formed None h = All-nil (IsFormed world)
+  row_pointee-formed (Some row) h = one_formed row.pointee (h row refl)
+
+  argument-formed : (w : Wrapper) (g : Ground) → IsFormed world g → AreFormed (argument_of w g)
+  argument-formed wrapper.PhantomData g h = All-nil (IsFormed world)
+  argument-formed w g h = one_formed g h
+
+  parts-formed : (x : Ground-F Ground) → PartsFormed (length world.named) (length world.refs) x → AreFormed (parts_within world.named x)
+  parts-formed (Ground-F.Tuple gs) h = All-from_list_all (formed (length world.named) (length world.refs)) (IsFormed world) (λ g e. e) gs h
+  parts-formed (Ground-F.Array g n) h = one_formed g h
+  parts-formed (Ground-F.Named id) h = row_parts-formed (slice_get world.named id.0) (λ row e. row-formed world id.0 row e)
+  parts-formed (Ground-F.Wrap w g) h = argument-formed w g h
+  parts-formed x h = All-nil (IsFormed world)
+
+  pointees-formed : (x : Ground-F Ground) → AreFormed (pointees_within world.refs x)
+  pointees-formed (Ground-F.Ref r) = row_pointee-formed (slice_get world.refs r.0) (λ row e. pointee-formed world r.0 row e)
+  pointees-formed x = All-nil (IsFormed world)
+
+  -- no step leads out of the types whose numbers are the world's
+  pub enters-formed : (g h : Ground) → IsFormed world g → Enters (tables_of world) g h → IsFormed world h
+  enters-formed g h f step =
+      let level_formed = formed-level (length world.named) (length world.refs) g f in
+      All-contains (IsFormed world) (parts_of (tables_of world) g ++ pointees_of (tables_of world) g) h
+      (All-append (IsFormed world) (parts_of (tables_of world) g) (pointees_of (tables_of world) g)
+      (parts-formed (out-Ground g) level_formed) (pointees-formed (out-Ground g))) step
+
+  -- the references of each type that a type over the world reaches are the world's
+  pub reached-known : (g h : Ground) → IsTypeOver (tables_of world) g → Reaches (tables_of world) g h → HasKnownLeaves (expanded_in (tables_of world) h)
+  reached-known g h over (n, way) = formed-known h (LeadsIn-keeps (Enters (tables_of world)) (IsFormed world) enters-formed n g h (over-formed world g over) way)
+
+  first_row : (r t : ℕ) (P : RefRow → RefRow → Type 0) (row other : Option RefRow) → slice_get world.refs r ≡ row → OnRows row other P → r < length world.refs
+  first_row r t P (Some row) (Some other) e h = slice_get_within world.refs r row e
+  first_row r t P (Some row) None e h = elim h [ ]
+  first_row r t P None other e h = elim h [ ]
+
+  -- what is compatible has the number of a reference of the world
+  pub compatible-known : (assume : Assume) (r t : ℕ) → Compatible (tables_of world) assume r t → r < length world.refs
+  unfolding CompatibleTo
+  compatible-known assume r t h = first_row r t (MeetsLocally (tables_of world) assume) (slice_get world.refs r) (slice_get world.refs t) refl (h 0)
+
+  pub compatible-of_sources : (assume : Assume) → IsOfSources (Compatible (tables_of world) assume)
+  compatible-of_sources assume x t h =
+      let below = compatible-known assume x t h in
+      let few = world.few_refs in
+      omega arith
+
+  cell_closed : (s : Expanded) → HasKnownLeaves s → (c : Cell) → IsCellOf (IsHeldBy Same s) c → IsClosed c
+  cell_closed s known (Byte b) h = tt
+  cell_closed s known Uninit h = tt
+  cell_closed s known (Ptr r k) ((u, inside, same), short) =
+      let below : u < length world.refs = All-contains (λ v. v < length world.refs) (leaves s) u known inside in
+      let few = world.few_refs in
+      omega arith
+
+  -- no word of a source has an open reference
+  pub source-closed : (s : Expanded) → HasKnownLeaves s → (w : Word) → IsSourceWord s w → All IsClosed w
+  source-closed s known w h = All-weaker (IsCellOf (IsHeldBy Same s)) IsClosed (cell_closed s known) w (pointers-related Same true s w h)
