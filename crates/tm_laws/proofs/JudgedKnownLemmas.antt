@@ -12,7 +12,7 @@ module _ (tables : Tables) where
   abbrev pub is_at_fault : Ground → Bool
   is_at_fault g = is_some (fault_of (expanded_in tables g))
 
-  some_of : {X : Type 0} (o : Option X) → is_some o ≡ true → (x : X) × (o ≡ Some x)
+  pub some_of : {X : Type 0} (o : Option X) → is_some o ≡ true → (x : X) × (o ≡ Some x)
   some_of (Some x) h = (x, refl)
   some_of None h = cc
 

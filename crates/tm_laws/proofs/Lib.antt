@@ -17,3 +17,6 @@ pub mod RefusalSwaps
 pub mod RefusalLemmas
 pub mod RefusalFormed
 pub mod RefusalWorlds
+pub mod LeastLemmas
+pub mod ViableKnownLemmas
+pub mod FaultyLemmas
