@@ -1,9 +1,9 @@
 -- Where a target refuses a word, and what stands there.
 use Rattle.std.proofs.Common.{◌≡◌, ℕ, zero, suc, ◌+◌, ◌-◌, ◌<◌, ◌⊎◌, refl, sym, ◌∙◌, ap, subst, ◌==◌, Bool, true, false, if◌then◌else◌, [], ◌∷◌, ◌++◌, length, take, drop, map, replicate, inl, inr, arith, Some, slice_get, length-append, length-take, append-nil, append_assoc}
-use Rattle.std.specs.List.{All}
+use Rattle.std.specs.List.{All, Contains}
 use Rattle.std.proofs.lemmas.Bool.Decides.{Decides-eqb}
 use Rattle.std.proofs.lemmas.List.{length-replicate, map-append, nil_from_length, take-append-drop, take_all, take_more, drop_more}
-use Rattle.std.proofs.lemmas.List.Elements.{All-head, All-tail, All-append, All-replicate, All-take}
+use Rattle.std.proofs.lemmas.List.Elements.{All-head, All-tail, All-append, All-replicate, All-take, All-contains, Contains-append_left, Contains-push}
 use Rattle.std.proofs.lemmas.Option.{get_or_from_slice_get, slice_get_within}
 use Rattle.tm_base.specs.declared.cell.Cell.{Cell}
 use Rattle.tm_base.specs.declared.cell.Cell.TheVariants.{Byte, Uninit, Ptr}
@@ -17,7 +17,8 @@ use Rattle.tm_base.specs.Viable.{HasWord, Viable, RefusesAt, StandsOpen}
 use Rattle.tm_base.proofs.ValidLemmas.{Valid-length}
 use Rattle.tm_laws.proofs.RefusalMoves.{All-second}
 use Rattle.tm_laws.proofs.RefusalSwaps.{IsClosed, IsOfSources, own-isn't-needed, swap, swapped}
-use Rattle.tm_laws.proofs.WholeWords.{StandsWhole, append-split, whole-references}
+use Rattle.tm_laws.proofs.WholeLeaves.{leaves}
+use Rattle.tm_laws.proofs.WholeWords.{IsCellOf, IsHeldBy, pointers-related, StandsWhole, append-split, whole-references}
 
 -- a fit has the length that it was asked to have
 pub fit-length : (w : Word) (m : ℕ) → length (fit w m) ≡ m
@@ -157,3 +158,15 @@ module _ (A : ℕ → ℕ → Type 0) (sources : IsOfSources A) (keep : Bool) (t
       let f = fit w (size_of t) in
       let more = taken-goes_on (take o f) r.0 u (All-take IsClosed o f (fit-closed w (size_of t) closed)) stands_open taken in
       refuses.stops (subst (Viable A keep t) (sym (front_more f o (Ptr r 0) e)) more)
+
+  -- A target reference that may begin somewhere is one of the target's.
+  pub open-is-leaf : (p : Word) (u : ℕ) → StandsOpen A keep t p u → Contains (leaves t) u
+  open-is-leaf p u (rest, valid) =
+      let open_cell : Cell = Ptr (record { 0 = own u }) 0 in
+      let L = IsHeldBy (OrOwn A) t in
+      let cells = pointers-related (OrOwn A) keep t ((p ++ open_cell ∷ []) ++ rest) valid in
+      let held : L (own u) = (All-contains (IsCellOf L) ((p ++ open_cell ∷ []) ++ rest) open_cell cells (Contains-append_left (p ++ open_cell ∷ []) rest open_cell (Contains-push p open_cell))).0 in
+      elim held.2 [
+        | inl a ↦ let below = sources (own u) held.0 a in absurd (omega arith)
+        | inr e ↦ let same : held.0 ≡ u = omega arith in subst (Contains (leaves t)) same held.1
+      ]
