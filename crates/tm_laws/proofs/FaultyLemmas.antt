@@ -1,6 +1,6 @@
 -- Of the types at fault that a type reaches, one whose text is least.
-use Rattle.std.proofs.Common.{◌≡◌, ℕ, ◌⊎◌, inl, inr, refl, sym, ◌∙◌, subst, Bool, true, false, ◌&&◌, not, List, is_some, Some}
-use Rattle.std.proofs.lemmas.Bool.{and_parts, and_from, not-true, not_from_false}
+use Rattle.std.proofs.Common.{◌≡◌, ℕ, inl, inr, refl, sym, subst, Bool, true, false, ◌&&◌, not, List}
+use Rattle.std.proofs.lemmas.Bool.{and_parts, and_from, not-true}
 use Rattle.tm_base.specs.declared.answer.Why.{Why}
 use Rattle.tm_base.specs.declared.ground.Ground.{Ground}
 use Rattle.tm_base.specs.Faults.{fault_of}
@@ -11,7 +11,7 @@ use Rattle.tm_base.specs.Texts.{text_of}
 use Rattle.tm_base.proofs.OrderLemmas.{text_less-total}
 use Rattle.tm_laws.proofs.JudgedKnownLemmas.{is_at_fault, some_of, ReachesFault}
 use Rattle.tm_laws.proofs.LeastLemmas.{text_less-irrefl, text_less-trans}
-use Rattle.tm_laws.proofs.ListedLemmas.{IsIn, LeastFound, least_in}
+use Rattle.tm_laws.proofs.ListedLemmas.{LeastFound, least_in}
 use Rattle.tm_laws.proofs.ReachedLemmas.{reachable, Reaches-listed, Reaches-known}
 
 -- neither text is less

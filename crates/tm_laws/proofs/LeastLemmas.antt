@@ -1,12 +1,12 @@
 -- The least of some numbers, words and types: where it is known of each whether a fact holds of it, and
 -- it holds of one.
-use Rattle.std.proofs.Common.{◌≡◌, ℕ, zero, suc, ◌+◌, ◌<◌, ◌≤◌, ◌⊎◌, inl, inr, refl, sym, ◌∙◌, Bool, true, false, ◌||◌, ◌&&◌, not, List, [], ◌∷◌, arith, nat_lt}
+use Rattle.std.proofs.Common.{◌≡◌, ℕ, suc, ◌<◌, ◌≤◌, ◌⊎◌, inl, inr, refl, Bool, true, false, List, [], ◌∷◌, arith, nat_lt}
 use Rattle.std.proofs.lemmas.Bool.{cases_lt}
 use Rattle.std.proofs.lemmas.Bool.Decides.{nat_tests}
 use Rattle.tm_base.specs.Cells.{Word}
 use Rattle.tm_base.specs.Orders.{list_less, word_less, text_less}
-use Rattle.tm_base.proofs.OrderLemmas.{word_less-asym, word_less-trans, list_less-trans, text_less-total}
-use Rattle.tm_laws.proofs.ListedLemmas.{IsIn, LeastFound, least_in, Listed}
+use Rattle.tm_base.proofs.OrderLemmas.{word_less-asym, word_less-trans, list_less-trans}
+use Rattle.tm_laws.proofs.ListedLemmas.{LeastFound, least_in, Listed}
 use Rattle.tm_laws.proofs.WordSearchLemmas.{below, below-has}
 
 not_before_itself : (b : Bool) → (b ≡ true → b ≡ false) → b ≡ false

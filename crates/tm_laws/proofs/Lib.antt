@@ -20,3 +20,6 @@ pub mod RefusalWorlds
 pub mod LeastLemmas
 pub mod ViableKnownLemmas
 pub mod FaultyLemmas
+pub mod RefRuleLemmas
+pub mod CellRuleLemmas
+pub mod AnswerKnownLemmas

@@ -1,6 +1,6 @@
 -- It is known how far a target goes along with a word, where it is known which references may be taken
 -- as which, and the numbers of those that may are bounded.
-use Rattle.std.proofs.Common.{◌≡◌, ℕ, suc, ◌+◌, ◌-◌, ◌<◌, ◌≤◌, ◌⊎◌, max, inl, inr, refl, Bool, [], ◌∷◌, ◌++◌, length, take, arith, length-append}
+use Rattle.std.proofs.Common.{ℕ, suc, ◌+◌, ◌-◌, ◌<◌, ◌≤◌, ◌⊎◌, max, inl, inr, refl, Bool, [], ◌∷◌, ◌++◌, length, take, arith, length-append}
 use Rattle.std.specs.List.{All}
 use Rattle.std.proofs.lemmas.List.Elements.{All-contains, Contains-append_left, Contains-push}
 use Rattle.tm_base.specs.declared.cell.Cell.{Cell}
@@ -13,7 +13,7 @@ use Rattle.tm_base.specs.Viable.{HasWord, Viable, RefusesAt, StandsOpen}
 use Rattle.tm_base.proofs.ValidLemmas.{Valid-length}
 use Rattle.tm_laws.proofs.DecideLemmas.{Dec-and, Dec-or, Dec-not, Dec-like, Dec-eq}
 use Rattle.tm_laws.proofs.LeastLemmas.{least_below}
-use Rattle.tm_laws.proofs.ListedLemmas.{Listed, Listed-under, find}
+use Rattle.tm_laws.proofs.ListedLemmas.{Listed-under, find}
 use Rattle.tm_laws.proofs.RefusalMoves.{All-second}
 use Rattle.tm_laws.proofs.ValidKnownLemmas.{Valid-known, Listed-valid}
 use Rattle.tm_laws.proofs.WithinLemmas.{refs_below, Valid-within}

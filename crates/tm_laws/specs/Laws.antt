@@ -1,16 +1,19 @@
 -- Laws of the definitions that need a search for their proof, which the functions of the crate have as
 -- their contracts.
 use Rattle.std.specs.Prelude.{ℕ, ◌*◌, ◌≤◌, ◌↔◌, Bool, IsTrue, length}
+use Rattle.tm_base.specs.declared.answer.Answer.{Answer}
+use Rattle.tm_base.specs.declared.ask.Ask.{Ask}
 use Rattle.tm_base.specs.declared.assume.Assume.{Assume}
 use Rattle.tm_base.specs.declared.ground.Ground.{Ground}
 use Rattle.tm_base.specs.declared.world.World.{World}
+use Rattle.tm_base.specs.Answers.{IsAnswer}
 use Rattle.tm_base.specs.Assumptions.{Includes}
 use Rattle.tm_base.specs.Compatible.{CompatibleTo, Compatible}
 use Rattle.tm_base.specs.Expanded.{Expanded}
 use Rattle.tm_base.specs.Laws.{IsSettled}
 use Rattle.tm_base.specs.Tables.{Tables, expanded_in}
 use Rattle.tm_base.specs.Transmutes.{Transmutes}
-use Rattle.tm_base.specs.Worlds.{tables_of}
+use Rattle.tm_base.specs.Worlds.{tables_of, IsTypeOver}
 
 -- each type has no value, or one is known
 abbrev pub TypesAreSettled : Type 0
@@ -33,3 +36,9 @@ pub record IsKnownAs (tables : Tables) (assume : Assume) (test : ℕ → ℕ →
 -- under each set of assumptions there are such a test and such a depth
 abbrev pub CompatibilityIsKnown : World → Type 0
 CompatibilityIsKnown world = (assume : Assume) → (test : ℕ → ℕ → Bool) × (depth : ℕ) × IsKnownAs (tables_of world) assume test depth
+
+-- each question whose types are over the world has an answer
+abbrev pub QuestionsHaveAnswers : World → Type 0
+QuestionsHaveAnswers world =
+    (ask : Ask) → IsTypeOver (tables_of world) ask.src → IsTypeOver (tables_of world) ask.dst
+    → (answer : Answer) × IsAnswer (tables_of world) ask answer

@@ -2,7 +2,7 @@
 //! nothing, so that it is proved with the crate.
 #![tactic(auto)]
 
-ghost use Rattle.tm_laws.specs.Laws.{TypesAreSettled, MoreMayBeAssumed, CompatibilityIsKnown};
+ghost use Rattle.tm_laws.specs.Laws.{TypesAreSettled, MoreMayBeAssumed, CompatibilityIsKnown, QuestionsHaveAnswers};
 
 use tm_base::World;
 
@@ -19,4 +19,9 @@ pub fn more_may_be_assumed()
 /// It is known of two references of a world whether the one may be taken as the other.
 pub fn compatibility_is_known(world: &World)
     ensures { CompatibilityIsKnown world.now }
+{}
+
+/// Each question whose types are over a world has an answer.
+pub fn each_question_has_an_answer(world: &World)
+    ensures { QuestionsHaveAnswers world.now }
 {}

@@ -1,0 +1,139 @@
+-- Each refused cell of a source's word has a rule for which it is refused.
+use Rattle.std.proofs.Common.{◌≡◌, ℕ, zero, suc, ◌+◌, ◌-◌, ◌<◌, ◌≤◌, ◌⊎◌, inl, inr, refl, sym, ◌∙◌, subst, true, [], ◌∷◌, length, take, replicate, Option, Some, None, slice_get, arith}
+use Rattle.std.specs.List.{All, Contains}
+use Rattle.std.proofs.lemmas.List.{take_all}
+use Rattle.std.proofs.lemmas.List.Elements.{All-head, All-tail, All-append, All-take, All-replicate, All-weaker, All-contains}
+use Rattle.tm_base.specs.declared.answer.RefFault.{RefFault}
+use Rattle.tm_base.specs.declared.answer.Rule.{Rule}
+use Rattle.tm_base.specs.declared.answer.Rule.TheVariants.{TooBig, NeedsInit, ByteValue, BytesForReference, ReferenceForBytes}
+use Rattle.tm_base.specs.declared.ask.Ask.{Ask}
+use Rattle.tm_base.specs.declared.cell.Cell.{Cell}
+use Rattle.tm_base.specs.declared.cell.Cell.TheVariants.{Byte, Uninit, Ptr}
+use Rattle.tm_base.specs.declared.cell.RefId.{RefId}
+use Rattle.tm_base.specs.declared.world.World.{World}
+use Rattle.tm_base.specs.Answers.{IsValue, IsRefusedAt, IsLeastFault}
+use Rattle.tm_base.specs.Cells.{Word, fit}
+use Rattle.tm_base.specs.Expanded.{Expanded}
+use Rattle.tm_base.specs.Layout.{size_of}
+use Rattle.tm_base.specs.Rules.{source, target, Taken, SomeByteGoesOn, IsOpen, IsCellRule, IsRuleOfNo}
+use Rattle.tm_base.specs.Transmutes.{Same}
+use Rattle.tm_base.specs.Viable.{Viable}
+use Rattle.tm_base.specs.Worlds.{tables_of, IsTypeOver}
+use Rattle.tm_laws.proofs.CompatibleKnownLemmas.{Compatible-known, Compatible-rows}
+use Rattle.tm_laws.proofs.DecideLemmas.{Dec-lt}
+use Rattle.tm_laws.proofs.RefRuleLemmas.{fault_at, ref_rule}
+use Rattle.tm_laws.proofs.RefusalLemmas.{refused-pointer-is-first, open-is-not-taken, open-is-leaf}
+use Rattle.tm_laws.proofs.RefusalSwaps.{IsClosed}
+use Rattle.tm_laws.proofs.RefusalWorlds.{leaves-known, compatible-of_sources, source-closed}
+use Rattle.tm_laws.proofs.ViableKnownLemmas.{some_byte-known, least_open}
+use Rattle.tm_laws.proofs.WholeLeaves.{leaves}
+use Rattle.tm_laws.proofs.WholeWords.{IsCellOf, IsHeldBy, pointers-related}
+
+past_end : (w : Word) (o : ℕ) → slice_get w o ≡ None → length w ≤ o
+past_end [] o e = omega arith
+past_end (c ∷ w) zero e = cc
+past_end (c ∷ w) (suc o) e = omega (arith, past_end w o e)
+
+cell_at : (P : Cell → Type 0) (w : Word) (o : ℕ) (c : Cell) → All P w → slice_get w o ≡ Some c → P c
+cell_at P [] o c all e = cc
+cell_at P (d ∷ w) zero c all e =
+    let same : d ≡ c = cc in
+    subst P same (All-head P d w all)
+cell_at P (d ∷ w) (suc o) c all e = cell_at P w o c (All-tail P d w all) e
+
+-- the cell's reference has a number below n
+abbrev NamesRow : ℕ → Cell → Type 0
+NamesRow n (Byte b) = Unit {0}
+NamesRow n Uninit = Unit {0}
+NamesRow n (Ptr r k) = r.0 < n
+
+module _ (world : World) (ask : Ask) (src_over : IsTypeOver (tables_of world) ask.src) (dst_over : IsTypeOver (tables_of world) ask.dst) where
+  abbrev s : Expanded
+  s = source (tables_of world) ask
+
+  abbrev t : Expanded
+  t = target (tables_of world) ask
+
+  abbrev A : ℕ → ℕ → Type 0
+  A = Taken (tables_of world) ask
+
+  pub taken-known : (x u : ℕ) → Dec (A x u)
+  taken-known = Compatible-known (tables_of world) ask.assume
+
+  -- each reference that may be taken is the world's
+  abbrev pub taken_bound : ℕ → ℕ
+  taken_bound u = length world.refs
+
+  pub taken-bounded : (x u : ℕ) → A x u → x < taken_bound u
+  taken-bounded x u h = (Compatible-rows (tables_of world) ask.assume x u h).0
+
+  pub value-closed : (w : Word) → IsValue (tables_of world) ask w → All IsClosed w
+  value-closed w value = source-closed world s (leaves-known world ask.src src_over) w value
+
+  cell-named : (c : Cell) → IsCellOf (IsHeldBy Same s) c → NamesRow (length world.refs) c
+  cell-named (Byte b) h = tt
+  cell-named Uninit h = tt
+  cell-named (Ptr r k) ((u, inside, same), short) =
+      let below : u < length world.refs = All-contains (λ v. v < length world.refs) (leaves s) u (leaves-known world ask.src src_over) inside in
+      omega arith
+
+  fit-named : (w : Word) (m : ℕ) → IsValue (tables_of world) ask w → All (NamesRow (length world.refs)) (fit w m)
+  fit-named w m value =
+      let all = All-weaker (IsCellOf (IsHeldBy Same s)) (NamesRow (length world.refs)) cell-named w (pointers-related Same true s w value) in
+      All-append (NamesRow (length world.refs)) (take m w) (replicate (m - length w) Uninit) (All-take (NamesRow (length world.refs)) m w all)
+      (All-replicate (NamesRow (length world.refs)) (m - length w) Uninit tt)
+
+  -- a rule with its fault, where that is least
+  abbrev CellFound : Word → Option Cell → Type 0
+  CellFound before c = (rule : Rule) × (fault : Option RefFault) × IsCellRule (tables_of world) ask before c rule fault × IsLeastFault (tables_of world) ask before fault
+
+  byte_rule : (before : Word) (b : ℕ) → Dec (SomeByteGoesOn (tables_of world) ask before) → CellFound before (Some (Byte b))
+  byte_rule before b (yes goes) = (ByteValue, None, (inl (refl, goes), refl), tt)
+  byte_rule before b (no stuck) = (BytesForReference, None, (inr (refl, stuck), refl), tt)
+
+  ref_found : (w : Word) (o : ℕ) (r : RefId) (k : ℕ) → IsValue (tables_of world) ask w → IsRefusedAt (tables_of world) ask w o
+      → slice_get (fit w (size_of t)) o ≡ Some (Ptr r k) → k ≡ 0 → (u : ℕ) → IsOpen (tables_of world) ask (take o (fit w (size_of t))) u
+      → ((v : ℕ) → IsOpen (tables_of world) ask (take o (fit w (size_of t))) v → u ≤ v)
+      → CellFound (take o (fit w (size_of t))) (Some (Ptr r k))
+  ref_found w o r k value refuses e first u opens least =
+      let at_first : slice_get (fit w (size_of t)) o ≡ Some (Ptr r 0) = subst (λ (j : ℕ). slice_get (fit w (size_of t)) o ≡ Some (Ptr r j)) first e in
+      let named : r.0 < length world.refs = cell_at (NamesRow (length world.refs)) (fit w (size_of t)) o (Ptr r k) (fit-named w (size_of t) value) e in
+      let sources = compatible-of_sources world ask.assume in
+      let leaf : Contains (leaves t) u = open-is-leaf A sources ask.assume.safety t (take o (fit w (size_of t))) u opens in
+      let known : u < length world.refs = All-contains (λ v. v < length world.refs) (leaves t) u (leaves-known world ask.dst dst_over) leaf in
+      let apart = open-is-not-taken A sources ask.assume.safety t w o r u (value-closed w value) refuses at_first opens in
+      let (rule, depth, holds_rule, least_depth) = ref_rule (tables_of world) ask r u named known apart in
+      (rule, Some (fault_at (tables_of world) ask r u depth), inr (fault_at (tables_of world) ask r u depth, refl, refl, first, opens, holds_rule), (least, least_depth))
+
+  abbrev OpenAt : Word → ℕ → ℕ → Type 0
+  OpenAt w o = IsOpen (tables_of world) ask (take o (fit w (size_of t)))
+
+  cell_rule : (w : Word) (o : ℕ) → IsValue (tables_of world) ask w → IsRefusedAt (tables_of world) ask w o
+      → (c : Option Cell) → slice_get (fit w (size_of t)) o ≡ c → CellFound (take o (fit w (size_of t))) c
+  cell_rule w o value refuses None e =
+      let f = fit w (size_of t) in
+      let short = past_end f o e in
+      let here : take o f ≡ f = take_all o f short in
+      let more : take (o + 1) f ≡ f = take_all (o + 1) f (omega arith) in
+      absurd (refuses.stops (subst (Viable A ask.assume.safety t) (here ∙ sym more) refuses.goes_to))
+  cell_rule w o value refuses (Some (Byte b)) e = byte_rule (take o (fit w (size_of t))) b (some_byte-known A taken-known taken_bound taken-bounded ask.assume.safety t (take o (fit w (size_of t))))
+  cell_rule w o value refuses (Some Uninit) e = (NeedsInit, None, (refl, refl), tt)
+  cell_rule w o value refuses (Some (Ptr r k)) e = go (least_open A taken-known taken_bound taken-bounded ask.assume.safety t (take o (fit w (size_of t)))) where
+    go : ((u : ℕ) × OpenAt w o u × ((v : ℕ) → OpenAt w o v → u ≤ v)) ⊎ ((u : ℕ) → ¬ OpenAt w o u) → CellFound (take o (fit w (size_of t))) (Some (Ptr r k))
+    go (inr none) = (ReferenceForBytes, None, inl (refl, refl, none), tt)
+    go (inl (u, opens, least)) = ref_found w o r k value refuses e (refused-pointer-is-first A ask.assume.safety t s w o r k value refuses e) u opens least
+
+  -- a rule of a no at a refused cell, with its fault, where that is least
+  abbrev pub NoFound : Word → ℕ → Type 0
+  NoFound w o =
+      (rule : Rule) × (fault : Option RefFault) × IsRuleOfNo (tables_of world) ask w o rule fault × IsLeastFault (tables_of world) ask (take o (fit w (size_of t))) fault
+
+  pub rule_of_no : (w : Word) (o : ℕ) → IsValue (tables_of world) ask w → IsRefusedAt (tables_of world) ask w o → NoFound w o
+  rule_of_no w o value refuses = go (Dec-lt o (size_of s)) where
+    go : Dec (o < size_of s) → NoFound w o
+    go (no past) = (TooBig, None, inl (not_below past, refl, refl), tt) where
+      not_below : ¬ (o < size_of s) → size_of s ≤ o
+      not_below f = grind arith
+    go (yes inside) =
+        let (rule, fault, holds_rule, least) = cell_rule w o value refuses (slice_get (fit w (size_of t)) o) refl in
+        (rule, fault, inr (inside, holds_rule), least)
