@@ -28,6 +28,7 @@ use Rattle.tm_laws.proofs.RefusalWorlds.{leaves-known, compatible-of_sources, so
 use Rattle.tm_laws.proofs.ViableKnownLemmas.{some_byte-known, least_open}
 use Rattle.tm_laws.proofs.WholeLeaves.{leaves}
 use Rattle.tm_laws.proofs.WholeWords.{IsCellOf, IsHeldBy, pointers-related}
+use Rattle.tm_laws.proofs.WordSearchLemmas.{IsWithin}
 
 past_end : (w : Word) (o : ℕ) → slice_get w o ≡ None → length w ≤ o
 past_end [] o e = omega arith
@@ -40,12 +41,6 @@ cell_at P (d ∷ w) zero c all e =
     let same : d ≡ c = cc in
     subst P same (All-head P d w all)
 cell_at P (d ∷ w) (suc o) c all e = cell_at P w o c (All-tail P d w all) e
-
--- the cell's reference has a number below n
-abbrev NamesRow : ℕ → Cell → Type 0
-NamesRow n (Byte b) = Unit {0}
-NamesRow n Uninit = Unit {0}
-NamesRow n (Ptr r k) = r.0 < n
 
 module _ (world : World) (ask : Ask) (src_over : IsTypeOver (tables_of world) ask.src) (dst_over : IsTypeOver (tables_of world) ask.dst) where
   abbrev s : Expanded
@@ -70,18 +65,21 @@ module _ (world : World) (ask : Ask) (src_over : IsTypeOver (tables_of world) as
   pub value-closed : (w : Word) → IsValue (tables_of world) ask w → All IsClosed w
   value-closed w value = source-closed world s (leaves-known world ask.src src_over) w value
 
-  cell-named : (c : Cell) → IsCellOf (IsHeldBy Same s) c → NamesRow (length world.refs) c
-  cell-named (Byte b) h = tt
-  cell-named Uninit h = tt
+  abbrev IsNamed : Cell → Type 0
+  IsNamed = IsWithin (length world.refs)
+
+  cell-named : (c : Cell) → IsCellOf (IsHeldBy Same s) c → IsNamed c
+  cell-named (Byte b) h = h
+  cell-named Uninit h = h
   cell-named (Ptr r k) ((u, inside, same), short) =
       let below : u < length world.refs = All-contains (λ v. v < length world.refs) (leaves s) u (leaves-known world ask.src src_over) inside in
-      omega arith
+      (omega arith, short)
 
-  fit-named : (w : Word) (m : ℕ) → IsValue (tables_of world) ask w → All (NamesRow (length world.refs)) (fit w m)
+  -- each reference of a value has the number of one of the world's
+  fit-named : (w : Word) (m : ℕ) → IsValue (tables_of world) ask w → All IsNamed (fit w m)
   fit-named w m value =
-      let all = All-weaker (IsCellOf (IsHeldBy Same s)) (NamesRow (length world.refs)) cell-named w (pointers-related Same true s w value) in
-      All-append (NamesRow (length world.refs)) (take m w) (replicate (m - length w) Uninit) (All-take (NamesRow (length world.refs)) m w all)
-      (All-replicate (NamesRow (length world.refs)) (m - length w) Uninit tt)
+      let all = All-weaker (IsCellOf (IsHeldBy Same s)) IsNamed cell-named w (pointers-related Same true s w value) in
+      All-append IsNamed (take m w) (replicate (m - length w) Uninit) (All-take IsNamed m w all) (All-replicate IsNamed (m - length w) Uninit tt)
 
   -- a rule with its fault, where that is least
   abbrev CellFound : Word → Option Cell → Type 0
@@ -97,7 +95,7 @@ module _ (world : World) (ask : Ask) (src_over : IsTypeOver (tables_of world) as
       → CellFound (take o (fit w (size_of t))) (Some (Ptr r k))
   ref_found w o r k value refuses e first u opens least =
       let at_first : slice_get (fit w (size_of t)) o ≡ Some (Ptr r 0) = subst (λ (j : ℕ). slice_get (fit w (size_of t)) o ≡ Some (Ptr r j)) first e in
-      let named : r.0 < length world.refs = cell_at (NamesRow (length world.refs)) (fit w (size_of t)) o (Ptr r k) (fit-named w (size_of t) value) e in
+      let named : r.0 < length world.refs = (cell_at IsNamed (fit w (size_of t)) o (Ptr r k) (fit-named w (size_of t) value) e).0 in
       let sources = compatible-of_sources world ask.assume in
       let leaf : Contains (leaves t) u = open-is-leaf A sources ask.assume.safety t (take o (fit w (size_of t))) u opens in
       let known : u < length world.refs = All-contains (λ v. v < length world.refs) (leaves t) u (leaves-known world ask.dst dst_over) leaf in

@@ -3,6 +3,7 @@
 use Rattle.std.proofs.Common.{◌≡◌, ℕ, zero, suc, ◌*◌, ◌<◌, ◌≤◌, refl, sym, ◌∙◌, ap, Bool, true, false, not, List, [], ◌∷◌, map, length, Option, Some, None, slice_get, arith, length-append}
 use Rattle.std.specs.List.{flat_map}
 use Rattle.std.proofs.lemmas.List.{length-map}
+use Rattle.std.proofs.lemmas.Option.{slice_get_within}
 use Rattle.tm_base.specs.declared.answer.LocalRule.{LocalRule}
 use Rattle.tm_base.specs.declared.answer.LocalRule.TheVariants.{MoreUnique, TooBig, Alignment, Interior, Lifetime}
 use Rattle.tm_base.specs.declared.assume.Assume.{Assume}
@@ -24,11 +25,6 @@ pub OnRows-known : (r t : Option RefRow) (P : RefRow → RefRow → Type 0) → 
 OnRows-known (Some r) (Some t) P known = known r t
 OnRows-known (Some r) None P known = no (λ h. h)
 OnRows-known None t P known = no (λ h. h)
-
-slice_get-below : {X : Type 0} (xs : List X) (k : ℕ) (x : X) → slice_get xs k ≡ Some x → k < length xs
-slice_get-below [] k x h = cc
-slice_get-below (y ∷ xs) zero x h = omega arith
-slice_get-below (y ∷ xs) (suc k) x h = omega (arith, slice_get-below xs k x h)
 
 -- a fact of two rows is one of numbers that name some
 pub OnRows-rows : (o p : Option RefRow) (P : RefRow → RefRow → Type 0) → OnRows o p P → (r : RefRow) × (t : RefRow) × (o ≡ Some r) × (p ≡ Some t) × P r t
@@ -125,10 +121,10 @@ module _ (tables : Tables) (assume : Assume) where
   unfolding CompatibleTo
   CompatibleTo-rows zero r t h =
       let (a, b, at_r, at_t, met) = OnRows-rows (slice_get tables.refs r) (slice_get tables.refs t) (MeetsLocally tables assume) h in
-      (slice_get-below tables.refs r a at_r, slice_get-below tables.refs t b at_t)
+      (slice_get_within tables.refs r a at_r, slice_get_within tables.refs t b at_t)
   CompatibleTo-rows (suc n) r t h =
       let (a, b, at_r, at_t, met) = OnRows-rows (slice_get tables.refs r) (slice_get tables.refs t) (MeetsOver tables assume (CompatibleTo tables assume n)) h in
-      (slice_get-below tables.refs r a at_r, slice_get-below tables.refs t b at_t)
+      (slice_get_within tables.refs r a at_r, slice_get_within tables.refs t b at_t)
 
   -- two depths that agree on all pairs of references agree one level deeper
   deeper : (n m : ℕ) → ((x y : ℕ) → CompatibleTo tables assume n x y → CompatibleTo tables assume m x y) → (r t : ℕ) → CompatibleTo tables assume (suc n) r t → CompatibleTo tables assume (suc m) r t

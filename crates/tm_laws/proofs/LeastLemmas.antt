@@ -1,7 +1,7 @@
 -- The least of some numbers, words and types: where it is known of each whether a fact holds of it, and
 -- it holds of one.
-use Rattle.std.proofs.Common.{◌≡◌, ℕ, suc, ◌<◌, ◌≤◌, ◌⊎◌, inl, inr, refl, Bool, true, false, List, [], ◌∷◌, arith, nat_lt}
-use Rattle.std.proofs.lemmas.Bool.{cases_lt}
+use Rattle.std.proofs.Common.{◌≡◌, ℕ, suc, ◌<◌, ◌≤◌, ◌⊎◌, inl, inr, refl, true, false, List, [], ◌∷◌, arith, nat_lt}
+use Rattle.std.proofs.lemmas.Bool.{cases_lt, both_ways, false_from_ne_true, ltb-false}
 use Rattle.std.proofs.lemmas.Bool.Decides.{nat_tests}
 use Rattle.tm_base.specs.Cells.{Word}
 use Rattle.tm_base.specs.Orders.{list_less, word_less, text_less}
@@ -9,12 +9,8 @@ use Rattle.tm_base.proofs.OrderLemmas.{word_less-asym, word_less-trans, list_les
 use Rattle.tm_laws.proofs.ListedLemmas.{LeastFound, least_in, Listed}
 use Rattle.tm_laws.proofs.WordSearchLemmas.{below, below-has}
 
-not_before_itself : (b : Bool) → (b ≡ true → b ≡ false) → b ≡ false
-not_before_itself true f = f refl
-not_before_itself false f = refl
-
 word_less-irrefl : (w : Word) → word_less w w ≡ false
-word_less-irrefl w = not_before_itself (word_less w w) (word_less-asym w w)
+word_less-irrefl w = false_from_ne_true (word_less w w) (λ h. both_ways (word_less w w) (word_less-asym w w h) h)
 
 nat_lt-irrefl : (n : ℕ) → nat_lt n n ≡ false
 nat_lt-irrefl n = grind (arith, nat_tests)
@@ -24,9 +20,6 @@ nat_lt-trans l m n h k = grind (arith, nat_tests)
 
 nat_lt-total : (m n : ℕ) → nat_lt m n ≡ false → nat_lt n m ≡ false → m ≡ n
 nat_lt-total m n h k = grind (arith, nat_tests)
-
-nat_lt-false : (m n : ℕ) → nat_lt m n ≡ false → n ≤ m
-nat_lt-false m n h = grind (arith, nat_tests)
 
 pub text_less-irrefl : (text : List ℕ) → text_less text text ≡ false
 unfolding list_less
@@ -50,7 +43,7 @@ least_word P listed known = go (least_in P known word_less word_less-trans word_
 pub least_below : (bound : ℕ) (P : ℕ → Type 0) → ((n : ℕ) → P n → n < bound) → ((n : ℕ) → Dec (P n)) → ((n : ℕ) × P n × ((m : ℕ) → P m → n ≤ m)) ⊎ ((n : ℕ) → ¬ P n)
 least_below bound P under known = go (least_in P known nat_lt nat_lt-trans nat_lt-irrefl (below bound)) where
   go : LeastFound P known nat_lt nat_lt-trans nat_lt-irrefl (below bound) → ((n : ℕ) × P n × ((m : ℕ) → P m → n ≤ m)) ⊎ ((n : ℕ) → ¬ P n)
-  go (inl (n, at, p, least)) = inl (n, p, λ m q. nat_lt-false m n (least m (below-has bound m (under m q)) q))
+  go (inl (n, at, p, least)) = inl (n, p, λ m q. ltb-false m n (least m (below-has bound m (under m q)) q))
   go (inr none) = inr (λ n p. none n (below-has bound n (under n p)) p)
 
 -- the least number with a fact that one has
@@ -60,10 +53,10 @@ least_number P known m p = go (least_in P known nat_lt nat_lt-trans nat_lt-irref
   go (inr none) = absurd (none m (below-has (suc m) m (omega arith)) p)
   go (inl (n, at, q, least)) = (n, q, least_of) where
     up_to_m : n ≤ m
-    up_to_m = nat_lt-false m n (least m (below-has (suc m) m (omega arith)) p)
+    up_to_m = ltb-false m n (least m (below-has (suc m) m (omega arith)) p)
 
     by_side : (k : ℕ) → P k → (k < suc m) ⊎ (suc m ≤ k) → n ≤ k
-    by_side k r (inl h) = nat_lt-false k n (least k (below-has (suc m) k h) r)
+    by_side k r (inl h) = ltb-false k n (least k (below-has (suc m) k h) r)
     by_side k r (inr h) = omega (arith, up_to_m)
 
     least_of : (k : ℕ) → P k → n ≤ k

@@ -1,6 +1,7 @@
 -- Searches in a list: some item with a fact, or none; and the least one.
 use Rattle.std.proofs.Common.{◌≡◌, zero, suc, ◌⊎◌, inl, inr, refl, sym, ap, subst, Bool, true, false, List, [], ◌∷◌, ◌++◌, map, arith}
 use Rattle.std.specs.List.{Contains, flat_map}
+use Rattle.std.proofs.lemmas.Bool.{false_from_ne_true}
 use Rattle.tm_laws.proofs.DecideLemmas.{Dec-is}
 
 -- an item of a list
@@ -78,10 +79,6 @@ module _ {X : Type 0} (P : X → Type 0) (known : (x : X) → Dec (P x)) where
     abbrev pub LeastFound : List X → Type 0
     LeastFound xs = ((x : X) × IsIn x xs × P x × ((y : X) → IsIn y xs → P y → less y x ≡ false)) ⊎ ((x : X) → IsIn x xs → ¬ P x)
 
-    not_both : (b : Bool) → (b ≡ true → ⊥) → b ≡ false
-    not_both true f = absurd (f refl)
-    not_both false f = refl
-
     pub least_in : (xs : List X) → LeastFound xs
     least_in [] = inr (λ x h p. h)
     least_in (y ∷ xs) = go (known y) (least_in xs) where
@@ -89,10 +86,10 @@ module _ {X : Type 0} (P : X → Type 0) (known : (x : X) → Dec (P x)) where
       with_rest p x at q least (yes before) = inl (y, inl refl, p, none_less) where
         none_less : (z : X) → (y ≡ z) ⊎ IsIn z xs → P z → less z y ≡ false
         none_less z (inl e) r = subst (λ u. less u y ≡ false) e (irrefl y)
-        none_less z (inr in_rest) r = not_both (less z y) (λ h. absurd (cc (trans z y x h before, least z in_rest r)))
+        none_less z (inr in_rest) r = false_from_ne_true (less z y) (λ h. absurd (cc (trans z y x h before, least z in_rest r)))
       with_rest p x at q least (no after) = inl (x, inr at, q, none_less) where
         none_less : (z : X) → (y ≡ z) ⊎ IsIn z xs → P z → less z x ≡ false
-        none_less z (inl e) r = subst (λ u. less u x ≡ false) e (not_both (less y x) after)
+        none_less z (inl e) r = subst (λ u. less u x ≡ false) e (false_from_ne_true (less y x) after)
         none_less z (inr in_rest) r = least z in_rest r
 
       go : Dec (P y) → LeastFound xs → LeastFound (y ∷ xs)

@@ -1,27 +1,16 @@
 -- It is known whether some way of steps leads to what passes a test, where a list holds all that a way
 -- may come to.
-use Rattle.std.proofs.Common.{◌≡◌, ℕ, zero, suc, ◌⊎◌, inl, inr, refl, sym, subst, Bool, true, false, ◌||◌, List, [], ◌∷◌, length}
+use Rattle.std.proofs.Common.{◌≡◌, ℕ, zero, suc, ◌⊎◌, inl, inr, refl, sym, subst, Bool, true, ◌||◌, List, [], ◌∷◌, length}
 use Rattle.std.specs.List.{list_any}
+use Rattle.std.proofs.lemmas.Bool.{or_cases, or_left, or_right}
 use Rattle.tm_base.specs.Reaches.{LeadsIn, Leads}
 use Rattle.tm_laws.proofs.DecideLemmas.{Dec-is}
 use Rattle.tm_laws.proofs.ListedLemmas.{IsIn}
 use Rattle.tm_laws.proofs.StillLemmas.{true_by_length}
 
-or_true : (b c : Bool) → (b || c) ≡ true → (b ≡ true) ⊎ (c ≡ true)
-or_true true c h = inl refl
-or_true false c h = inr h
-
-or_second : (b c : Bool) → c ≡ true → (b || c) ≡ true
-or_second true c h = refl
-or_second false c h = h
-
-or_first : (b c : Bool) → b ≡ true → (b || c) ≡ true
-or_first true c h = refl
-or_first false c h = cc
-
 any_from : {X : Type 0} (p : X → Bool) (xs : List X) → list_any p xs ≡ true → (x : X) × IsIn x xs × (p x ≡ true)
 any_from p [] h = cc
-any_from {X} p (y ∷ xs) h = go (any_from p xs) (or_true (p y) (list_any p xs) h) where
+any_from {X} p (y ∷ xs) h = go (any_from p xs) (or_cases (p y) (list_any p xs) h) where
   go : (list_any p xs ≡ true → (x : X) × IsIn x xs × (p x ≡ true)) → (p y ≡ true) ⊎ (list_any p xs ≡ true) → (x : X) × ((y ≡ x) ⊎ IsIn x xs) × (p x ≡ true)
   go rest (inl e) = (y, inl refl, e)
   go rest (inr e) =
@@ -30,8 +19,8 @@ any_from {X} p (y ∷ xs) h = go (any_from p xs) (or_true (p y) (list_any p xs) 
 
 any_to : {X : Type 0} (p : X → Bool) (xs : List X) (x : X) → IsIn x xs → p x ≡ true → list_any p xs ≡ true
 any_to p [] x h k = absurd h
-any_to p (y ∷ xs) x (inl e) k = or_first (p y) (list_any p xs) (subst (λ u. p u ≡ true) (sym e) k)
-any_to p (y ∷ xs) x (inr h) k = or_second (p y) (list_any p xs) (any_to p xs x h k)
+any_to p (y ∷ xs) x (inl e) k = or_left (p y) (list_any p xs) (subst (λ u. p u ≡ true) (sym e) k)
+any_to p (y ∷ xs) x (inr h) k = or_right (p y) (list_any p xs) (any_to p xs x h k)
 
 any_rises : {X : Type 0} (p q : X → Bool) (xs : List X) → ((x : X) → p x ≡ true → q x ≡ true) → list_any p xs ≡ true → list_any q xs ≡ true
 any_rises p q xs rises h =
@@ -52,11 +41,11 @@ module _ {X : Type 0} (Step : X → X → Type 0) (next : X → List X) (step_in
   leads_within (suc n) x = test x || list_any (leads_within n) (next x)
 
   leads_rises : (n : ℕ) (x : X) → leads_within n x ≡ true → leads_within (suc n) x ≡ true
-  leads_rises zero x h = or_first (test x) (list_any (leads_within zero) (next x)) h
-  leads_rises (suc n) x h = go (leads_rises n) (or_true (test x) (list_any (leads_within n) (next x)) h) where
+  leads_rises zero x h = or_left (test x) (list_any (leads_within zero) (next x)) h
+  leads_rises (suc n) x h = go (leads_rises n) (or_cases (test x) (list_any (leads_within n) (next x)) h) where
     go : ((y : X) → leads_within n y ≡ true → leads_within (suc n) y ≡ true) → (test x ≡ true) ⊎ (list_any (leads_within n) (next x) ≡ true) → leads_within (suc (suc n)) x ≡ true
-    go rises (inl e) = or_first (test x) (list_any (leads_within (suc n)) (next x)) e
-    go rises (inr e) = or_second (test x) (list_any (leads_within (suc n)) (next x)) (any_rises (leads_within n) (leads_within (suc n)) (next x) rises e)
+    go rises (inl e) = or_left (test x) (list_any (leads_within (suc n)) (next x)) e
+    go rises (inr e) = or_right (test x) (list_any (leads_within (suc n)) (next x)) (any_rises (leads_within n) (leads_within (suc n)) (next x) rises e)
 
   -- a way to what passes
   abbrev LeadsTo : X → Type 0
@@ -65,7 +54,7 @@ module _ {X : Type 0} (Step : X → X → Type 0) (next : X → List X) (step_in
   leads-sound : (n : ℕ) (x : X) → leads_within n x ≡ true → LeadsTo x
   unfolding LeadsIn
   leads-sound zero x h = (x, (0, refl), h)
-  leads-sound (suc n) x h = go (leads-sound n) (or_true (test x) (list_any (leads_within n) (next x)) h) where
+  leads-sound (suc n) x h = go (leads-sound n) (or_cases (test x) (list_any (leads_within n) (next x)) h) where
     go : ((y : X) → leads_within n y ≡ true → LeadsTo y) → (test x ≡ true) ⊎ (list_any (leads_within n) (next x) ≡ true) → LeadsTo x
     go sound (inl e) = (x, (0, refl), e)
     go sound (inr e) =
@@ -77,7 +66,7 @@ module _ {X : Type 0} (Step : X → X → Type 0) (next : X → List X) (step_in
   unfolding LeadsIn
   leads-complete zero x h e k = subst (λ u. test u ≡ true) (sym e) k
   leads-complete (suc n) x h (y, step, way) k =
-      or_second (test x) (list_any (leads_within n) (next x)) (any_to (leads_within n) (next x) y (step_in x y step) (leads-complete n y h way k))
+      or_right (test x) (list_any (leads_within n) (next x)) (any_to (leads_within n) (next x) y (step_in x y step) (leads-complete n y h way k))
 
   module _ (C : List X) (closed : (a b : X) → IsIn a C → IsIn b (next a) → IsIn b C) where
     leads_follows : (n m : ℕ) → ((x : X) → IsIn x C → leads_within n x ≡ leads_within m x) → (x : X) → IsIn x C → leads_within (suc n) x ≡ leads_within (suc m) x

@@ -32,7 +32,7 @@ module _ (A : ℕ → ℕ → Type 0) (known : (x t : ℕ) → Dec (A x t)) wher
 pub Listed-valid : (A : ℕ → ℕ → Type 0) (keep : Bool) (bound : ℕ → ℕ) → ((x t : ℕ) → A x t → x < bound t) → (t : Expanded) → Listed (Valid A keep t)
 Listed-valid A keep bound bounded t =
     Listed-words (refs_below bound t) (size_of t) (Valid A keep t)
-    (λ w h. (Valid-length A keep t w h, Valid-within A keep bound bounded t w h (refs_below bound t) (omega arith)))
+    (λ w h. (Valid-length A keep t w h, Valid-within A keep bound bounded t w h))
 
 pub Same-known : (x t : ℕ) → Dec (Same x t)
 Same-known x t = Dec-eq x t

@@ -38,7 +38,7 @@ module _ (A : ℕ → ℕ → Type 0) (known : (x t : ℕ) → Dec (A x t)) (bou
   limit = refs_below own_bound t
 
   word-within : (w : Word) → Valid (OrOwn A) keep t w → All (IsWithin limit) w
-  word-within w valid = Valid-within (OrOwn A) keep own_bound OrOwn-bounded t w valid limit (omega arith)
+  word-within w valid = Valid-within (OrOwn A) keep own_bound OrOwn-bounded t w valid
 
   pub HasWord-known : Dec (HasWord A keep t)
   HasWord-known = find (Valid (OrOwn A) keep t) (Listed-valid (OrOwn A) keep own_bound OrOwn-bounded t) (Valid-known (OrOwn A) OrOwn-known keep t)

@@ -6,13 +6,12 @@ use Rattle.std.proofs.lemmas.List.Elements.{All-head, All-tail}
 use Rattle.tm_base.specs.declared.cell.Cell.{Cell}
 use Rattle.tm_base.specs.declared.cell.Cell.TheVariants.{Byte, Uninit, Ptr}
 use Rattle.tm_base.specs.Cells.{Word}
+use Rattle.tm_laws.proofs.WholeWords.{IsCellOf}
 use Rattle.tm_laws.proofs.ListedLemmas.{IsIn, IsIn-left, IsIn-right, IsIn-map, IsIn-flat_map, Listed}
 
 -- a byte's number is below 256, and a reference's byte is one of the first eight of a reference below n
 abbrev pub IsWithin : ℕ → Cell → Type 0
-IsWithin n (Byte b) = b < 256
-IsWithin n Uninit = Unit {0}
-IsWithin n (Ptr r k) = (r.0 < n) × (k < 8)
+IsWithin n = IsCellOf (λ x. x < n)
 
 pub below : ℕ → List ℕ
 below zero = []
