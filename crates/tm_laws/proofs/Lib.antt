@@ -23,3 +23,5 @@ pub mod FaultyLemmas
 pub mod RefRuleLemmas
 pub mod CellRuleLemmas
 pub mod AnswerKnownLemmas
+pub mod PlacesLemmas
+pub mod PlacesTypes

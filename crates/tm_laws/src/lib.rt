@@ -25,3 +25,4 @@ pub fn compatibility_is_known(world: &World)
 pub fn each_question_has_an_answer(world: &World)
     ensures { QuestionsHaveAnswers world.now }
 {}
+pub mod places;
