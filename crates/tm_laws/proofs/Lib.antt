@@ -23,5 +23,6 @@ pub mod FaultyLemmas
 pub mod RefRuleLemmas
 pub mod CellRuleLemmas
 pub mod AnswerKnownLemmas
+pub mod RefusalRows
 pub mod PlacesLemmas
 pub mod PlacesTypes
