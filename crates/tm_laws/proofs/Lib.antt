@@ -26,3 +26,4 @@ pub mod AnswerKnownLemmas
 pub mod RefusalRows
 pub mod PlacesLemmas
 pub mod PlacesTypes
+pub mod PlacesRows
