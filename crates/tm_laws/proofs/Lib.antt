@@ -26,4 +26,5 @@ pub mod AnswerKnownLemmas
 pub mod RefusalRows
 pub mod PlacesLemmas
 pub mod PlacesTypes
+pub mod JudgedPlaces
 pub mod PlacesRows

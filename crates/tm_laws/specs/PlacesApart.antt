@@ -2,10 +2,15 @@
 use Rattle.std.specs.Prelude.{◌≡◌, ℕ, ◌+◌, ◌<◌, ◌≤◌, ◌⊎◌, Bool, true, false, Option, Some, None, List, [], take, slice_get, option_and_then}
 use Rattle.tm_base.specs.declared.definition.Kind.{Kind}
 use Rattle.tm_base.specs.declared.definition.Kind.TheVariants.{Struct, Union, Enum}
+use Rattle.tm_base.specs.declared.ground.Ground.{Ground}
+use Rattle.tm_base.specs.declared.world.World.{World}
 use Rattle.tm_base.specs.Expanded.{Expanded, Fields, Variants, tuple, array, wrap, named, no_fields, field, no_variants, variant}
 use Rattle.tm_base.specs.Faults.{fault_of}
 use Rattle.tm_base.specs.Layout.{Layout, size_of, tag_layout, variant_layouts}
 use Rattle.tm_base.specs.Places.{place_of}
+use Rattle.tm_base.specs.Reaches.{IsJudged}
+use Rattle.tm_base.specs.Tables.{expanded_in}
+use Rattle.tm_base.specs.Worlds.{tables_of, IsTypeOver}
 
 module _ (P : Expanded → Type 0) where
   -- it holds of each type that this one holds by value, at any depth
@@ -74,3 +79,8 @@ HasNoFault t = fault_of t ≡ None
 -- Where each type that is held by value has a guaranteed layout, the fields of each stand apart in it.
 abbrev pub PlacesStandApart : Type 0
 PlacesStandApart = (t : Expanded) → EachWithin HasNoFault t → EachWithin HasFieldsApart t
+
+-- So they stand in a type over a world that reaches no type at fault, and in all that it holds by value.
+abbrev pub PlacesOfJudgedTypesStandApart : World → Type 0
+PlacesOfJudgedTypesStandApart world =
+    (g : Ground) → IsTypeOver (tables_of world) g → IsJudged (tables_of world) g → EachWithin HasFieldsApart (expanded_in (tables_of world) g)

@@ -4,6 +4,7 @@
 
 ghost use Rattle.tm_laws.specs.Laws.{TypesAreSettled, MoreMayBeAssumed, CompatibilityIsKnown, QuestionsHaveAnswers};
 
+pub use places::{places_of_judged_types_stand_apart, places_stand_apart};
 use tm_base::World;
 
 /// Each type has no value, or one is known.
