@@ -1,12 +1,12 @@
 -- Laws of the definitions that need a search for their proof, which the functions of the crate have as
 -- their contracts.
-use Rattle.std.specs.Prelude.{ℕ, ◌*◌, ◌≤◌, ◌↔◌, Bool, IsTrue, length}
+use Rattle.std.specs.Prelude.{◌≡◌, ℕ, ◌*◌, ◌≤◌, ◌↔◌, Bool, IsTrue, length}
 use Rattle.tm_base.specs.declared.answer.Answer.{Answer}
 use Rattle.tm_base.specs.declared.ask.Ask.{Ask}
 use Rattle.tm_base.specs.declared.assume.Assume.{Assume}
 use Rattle.tm_base.specs.declared.ground.Ground.{Ground}
 use Rattle.tm_base.specs.declared.world.World.{World}
-use Rattle.tm_base.specs.Answers.{IsAnswer}
+use Rattle.tm_base.specs.Answers.{IsAnswer, NoSharedTexts}
 use Rattle.tm_base.specs.Assumptions.{Includes}
 use Rattle.tm_base.specs.Compatible.{CompatibleTo, Compatible}
 use Rattle.tm_base.specs.Expanded.{Expanded}
@@ -42,3 +42,9 @@ abbrev pub QuestionsHaveAnswers : World → Type 0
 QuestionsHaveAnswers world =
     (ask : Ask) → IsTypeOver (tables_of world) ask.src → IsTypeOver (tables_of world) ask.dst
     → (answer : Answer) × IsAnswer (tables_of world) ask answer
+
+-- Where no two types at fault that one side reaches share their text, the answer is the only one.
+abbrev pub QuestionsHaveOneAnswer : World → Type 0
+QuestionsHaveOneAnswer world =
+    (ask : Ask) → IsTypeOver (tables_of world) ask.src → IsTypeOver (tables_of world) ask.dst → NoSharedTexts (tables_of world) ask
+    → (a b : Answer) → IsAnswer (tables_of world) ask a → IsAnswer (tables_of world) ask b → a ≡ b

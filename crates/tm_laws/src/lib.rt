@@ -3,6 +3,9 @@
 #![tactic(auto)]
 
 ghost use Rattle.tm_laws.specs.Laws.{TypesAreSettled, MoreMayBeAssumed, CompatibilityIsKnown, QuestionsHaveAnswers};
+mod places;
+
+ghost use Rattle.tm_laws.specs.Laws.{TypesAreSettled, MoreMayBeAssumed, CompatibilityIsKnown, QuestionsHaveAnswers, QuestionsHaveOneAnswer};
 
 pub use places::{places_of_judged_types_stand_apart, places_stand_apart};
 use tm_base::World;
@@ -22,8 +25,10 @@ pub fn compatibility_is_known(world: &World)
     ensures { CompatibilityIsKnown world.now }
 {}
 
-/// Each question whose types are over a world has an answer.
+/// Each question whose types are over a world has an answer, and no other where no two types at fault
+/// that one side reaches share their text.
 pub fn each_question_has_an_answer(world: &World)
-    ensures { QuestionsHaveAnswers world.now }
+    ensures some { QuestionsHaveAnswers world.now }
+    ensures only { QuestionsHaveOneAnswer world.now }
 {}
 pub mod places;
