@@ -23,6 +23,7 @@ pub mod FaultyLemmas
 pub mod RefRuleLemmas
 pub mod CellRuleLemmas
 pub mod AnswerKnownLemmas
+pub mod AnswerMeanings
 pub mod RefusalRows
 pub mod PlacesLemmas
 pub mod PlacesTypes

@@ -1,5 +1,5 @@
 -- Where a target refuses a word, and what stands there.
-use Rattle.std.proofs.Common.{◌≡◌, ℕ, zero, suc, ◌+◌, ◌-◌, ◌<◌, ◌⊎◌, refl, sym, ◌∙◌, ap, subst, ◌==◌, Bool, true, false, if◌then◌else◌, [], ◌∷◌, ◌++◌, length, take, drop, map, replicate, inl, inr, arith, Some, slice_get, length-append, length-take, append-nil, append_assoc}
+use Rattle.std.proofs.Common.{◌≡◌, ℕ, zero, suc, ◌+◌, ◌-◌, ◌<◌, ◌≤◌, ◌⊎◌, refl, sym, ◌∙◌, ap, subst, ◌==◌, Bool, true, false, if◌then◌else◌, [], ◌∷◌, ◌++◌, length, take, drop, map, replicate, inl, inr, arith, Some, slice_get, length-append, length-take, append-nil, append_assoc}
 use Rattle.std.specs.List.{All, Contains}
 use Rattle.std.proofs.lemmas.Bool.Decides.{Decides-eqb}
 use Rattle.std.proofs.lemmas.List.{length-replicate, map-append, nil_from_length, take-append-drop, take_all, take_more, drop_more}
@@ -77,6 +77,20 @@ module _ (A : ℕ → ℕ → Type 0) (keep : Bool) (t : Expanded) where
       let ends : ¬ Viable A keep t (take n f) = λ viable. refused (whole_viable f long (fit-closed w n closed) (subst (Viable A keep t) (take_all n f (omega arith)) viable)) in
       let found = first_change (λ o. Viable A keep t (take o f)) known n has_word ends in
       (found.0, found.1, record { goes_to = found.2; stops = found.3 })
+
+  -- what is refused is a cell of the target
+  pub refused-inside : (w : Word) (o : ℕ) → RefusesAt A keep t w o → o < size_of t
+  refused-inside w o refuses =
+      let past : ¬ (size_of t ≤ o) = past_none in
+      grind arith
+    where
+      past_none : ¬ (size_of t ≤ o)
+      past_none past =
+          let f = fit w (size_of t) in
+          let long : length f ≡ size_of t = fit-length w (size_of t) in
+          let here : take o f ≡ f = take_all o f (omega arith) in
+          let more : take (o + 1) f ≡ f = take_all (o + 1) f (omega arith) in
+          refuses.stops (subst (Viable A keep t) (here ∙ sym more) refuses.goes_to)
 
   -- what goes on with the byte k of a reference goes on with the next one
   goes_along : (r : RefId) (j : ℕ) (p others : Word) → p ≡ others ++ Ptr r j ∷ [] → suc j < 8 → Viable A keep t p → Viable A keep t (p ++ Ptr r (suc j) ∷ [])

@@ -1,2 +1,4 @@
+pub mod AnswerKinds
+pub mod AnswerLaws
 pub mod Laws
 pub mod PlacesApart

@@ -3,10 +3,12 @@
 #![tactic(auto)]
 
 ghost use Rattle.tm_laws.specs.Laws.{TypesAreSettled, MoreMayBeAssumed, CompatibilityIsKnown, QuestionsHaveAnswers};
+mod answers;
 mod places;
 
 ghost use Rattle.tm_laws.specs.Laws.{TypesAreSettled, MoreMayBeAssumed, CompatibilityIsKnown, QuestionsHaveAnswers, QuestionsHaveOneAnswer};
 
+pub use answers::{answers_mean_what_they_say, noes_show_why};
 pub use places::{places_of_judged_types_stand_apart, places_stand_apart};
 use tm_base::World;
 
