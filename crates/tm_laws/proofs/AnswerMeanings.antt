@@ -15,7 +15,7 @@ use Rattle.tm_base.specs.declared.cell.Cell.{Cell}
 use Rattle.tm_base.specs.declared.cell.Cell.TheVariants.{Byte, Uninit, Ptr}
 use Rattle.tm_base.specs.declared.definition.RefRow.{RefRow}
 use Rattle.tm_base.specs.declared.ground.Ground.{Ground}
-use Rattle.tm_base.specs.Answers.{AreJudged, Casts, IsTrueAnswer, IsTrueRefusal}
+use Rattle.tm_base.specs.Answers.{AreJudged, Casts, IsTrueAnswer, IsTrueExample, IsTrueRefusal}
 use Rattle.tm_base.specs.Cells.{Word}
 use Rattle.tm_base.specs.Reaches.{IsJudged}
 use Rattle.tm_base.specs.Rules.{target, Taken, rule_of, IsWholeRule, IsCellRule, IsRuleOfNo, IsRefRule, BreaksLocally, BreaksBelow}
@@ -70,16 +70,19 @@ module _ (tables : Tables) (ask : Ask) where
   refusal-means (NoAt rule o w fault) h = (λ e. cc, λ fails. absurd (both-judged h.judged fails))
   refusal-means (Refused side why g) h = (λ e. refused-unjudged side why g h, λ fails. refl)
 
+  example-casts : (w : Word) → IsTrueExample tables ask w → Casts tables ask
+  example-casts w h = inr (inr (h.assumed, (w, h.value, h.accepted)))
+
   yes-means : (answer : Answer) → IsTrueAnswer tables ask answer → AreJudged tables ask → IsTrue (is_yes answer) ↔ Casts tables ask
   yes-means Yes h judged = (λ e. h.casts, λ casts. refl)
-  yes-means (YesBecause w) h judged = (λ e. inr (inr (h.assumed, (w, h.value, h.accepted))), λ casts. refl)
+  yes-means (YesBecause w) h judged = (λ e. example-casts w h, λ casts. refl)
   yes-means (No rule) h judged = (λ e. cc, λ casts. absurd (h.refused casts))
   yes-means (NoAt rule o w fault) h judged = (λ e. cc, λ casts. absurd (h.refused casts))
   yes-means (Refused side why g) h judged = (λ e. cc, λ casts. absurd (both-judged judged (refused-unjudged side why g h)))
 
   no-means : (answer : Answer) → IsTrueAnswer tables ask answer → AreJudged tables ask → IsTrue (is_no answer) ↔ (¬ Casts tables ask)
   no-means Yes h judged = (λ e. cc, λ refused. absurd (refused h.casts))
-  no-means (YesBecause w) h judged = (λ e. cc, λ refused. absurd (refused (inr (inr (h.assumed, (w, h.value, h.accepted))))))
+  no-means (YesBecause w) h judged = (λ e. cc, λ refused. absurd (refused (example-casts w h)))
   no-means (No rule) h judged = (λ e. h.refused, λ refused. refl)
   no-means (NoAt rule o w fault) h judged = (λ e. h.refused, λ refused. refl)
   no-means (Refused side why g) h judged = (λ e. cc, λ refused. absurd (both-judged judged (refused-unjudged side why g h)))

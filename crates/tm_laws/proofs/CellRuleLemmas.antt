@@ -1,8 +1,7 @@
 -- Each refused cell of a source's word has a rule for which it is refused.
-use Rattle.std.proofs.Common.{◌≡◌, ℕ, zero, suc, ◌+◌, ◌-◌, ◌<◌, ◌≤◌, ◌⊎◌, inl, inr, refl, sym, ◌∙◌, subst, true, [], ◌∷◌, length, take, replicate, Option, Some, None, slice_get, arith}
-use Rattle.std.specs.List.{All, Contains}
-use Rattle.std.proofs.lemmas.List.{take_all}
-use Rattle.std.proofs.lemmas.List.Elements.{All-head, All-tail, All-append, All-take, All-replicate, All-weaker, All-contains}
+use Rattle.std.proofs.Common.{◌≡◌, ℕ, ◌<◌, ◌≤◌, ◌⊎◌, inl, inr, refl, subst, length, take, Option, Some, None, slice_get, arith}
+use Rattle.std.specs.List.{All}
+use Rattle.std.proofs.lemmas.Option.{slice_get-get_or}
 use Rattle.tm_base.specs.declared.answer.RefFault.{RefFault}
 use Rattle.tm_base.specs.declared.answer.Rule.{Rule}
 use Rattle.tm_base.specs.declared.answer.Rule.TheVariants.{TooBig, NeedsInit, ByteValue, BytesForReference, ReferenceForBytes}
@@ -16,31 +15,15 @@ use Rattle.tm_base.specs.Cells.{Word, fit}
 use Rattle.tm_base.specs.Expanded.{Expanded}
 use Rattle.tm_base.specs.Layout.{size_of}
 use Rattle.tm_base.specs.Rules.{source, target, Taken, SomeByteGoesOn, IsOpen, IsCellRule, IsRuleOfNo}
-use Rattle.tm_base.specs.Transmutes.{Same}
-use Rattle.tm_base.specs.Viable.{Viable}
 use Rattle.tm_base.specs.Worlds.{tables_of, IsTypeOver}
 use Rattle.tm_laws.proofs.CompatibleKnownLemmas.{Compatible-known, Compatible-rows}
 use Rattle.tm_laws.proofs.DecideLemmas.{Dec-lt}
 use Rattle.tm_laws.proofs.RefRuleLemmas.{fault_at, ref_rule}
-use Rattle.tm_laws.proofs.RefusalLemmas.{refused-pointer-is-first, open-is-not-taken, open-is-leaf}
+use Rattle.tm_laws.proofs.RefusalLemmas.{fit-length, refused-inside, refused-pointer-is-first, open-is-not-taken}
+use Rattle.tm_laws.proofs.RefusalRows.{pointer-known, open-known}
 use Rattle.tm_laws.proofs.RefusalSwaps.{IsClosed}
 use Rattle.tm_laws.proofs.RefusalWorlds.{leaves-known, compatible-of_sources, source-closed}
 use Rattle.tm_laws.proofs.ViableKnownLemmas.{some_byte-known, least_open}
-use Rattle.tm_laws.proofs.WholeLeaves.{leaves}
-use Rattle.tm_laws.proofs.WholeWords.{IsCellOf, IsHeldBy, pointers-related}
-use Rattle.tm_laws.proofs.WordSearchLemmas.{IsWithin}
-
-past_end : (w : Word) (o : ℕ) → slice_get w o ≡ None → length w ≤ o
-past_end [] o e = omega arith
-past_end (c ∷ w) zero e = cc
-past_end (c ∷ w) (suc o) e = omega (arith, past_end w o e)
-
-cell_at : (P : Cell → Type 0) (w : Word) (o : ℕ) (c : Cell) → All P w → slice_get w o ≡ Some c → P c
-cell_at P [] o c all e = cc
-cell_at P (d ∷ w) zero c all e =
-    let same : d ≡ c = cc in
-    subst P same (All-head P d w all)
-cell_at P (d ∷ w) (suc o) c all e = cell_at P w o c (All-tail P d w all) e
 
 module _ (world : World) (ask : Ask) (src_over : IsTypeOver (tables_of world) ask.src) (dst_over : IsTypeOver (tables_of world) ask.dst) where
   abbrev s : Expanded
@@ -65,22 +48,6 @@ module _ (world : World) (ask : Ask) (src_over : IsTypeOver (tables_of world) as
   pub value-closed : (w : Word) → IsValue (tables_of world) ask w → All IsClosed w
   value-closed w value = source-closed world s (leaves-known world ask.src src_over) w value
 
-  abbrev IsNamed : Cell → Type 0
-  IsNamed = IsWithin (length world.refs)
-
-  cell-named : (c : Cell) → IsCellOf (IsHeldBy Same s) c → IsNamed c
-  cell-named (Byte b) h = h
-  cell-named Uninit h = h
-  cell-named (Ptr r k) ((u, inside, same), short) =
-      let below : u < length world.refs = All-contains (λ v. v < length world.refs) (leaves s) u (leaves-known world ask.src src_over) inside in
-      (omega arith, short)
-
-  -- each reference of a value has the number of one of the world's
-  fit-named : (w : Word) (m : ℕ) → IsValue (tables_of world) ask w → All IsNamed (fit w m)
-  fit-named w m value =
-      let all = All-weaker (IsCellOf (IsHeldBy Same s)) IsNamed cell-named w (pointers-related Same true s w value) in
-      All-append IsNamed (take m w) (replicate (m - length w) Uninit) (All-take IsNamed m w all) (All-replicate IsNamed (m - length w) Uninit tt)
-
   -- a rule with its fault, where that is least
   abbrev CellFound : Word → Option Cell → Type 0
   CellFound before c = (rule : Rule) × (fault : Option RefFault) × IsCellRule (tables_of world) ask before c rule fault × IsLeastFault (tables_of world) ask before fault
@@ -95,10 +62,9 @@ module _ (world : World) (ask : Ask) (src_over : IsTypeOver (tables_of world) as
       → CellFound (take o (fit w (size_of t))) (Some (Ptr r k))
   ref_found w o r k value refuses e first u opens least =
       let at_first : slice_get (fit w (size_of t)) o ≡ Some (Ptr r 0) = subst (λ (j : ℕ). slice_get (fit w (size_of t)) o ≡ Some (Ptr r j)) first e in
-      let named : r.0 < length world.refs = (cell_at IsNamed (fit w (size_of t)) o (Ptr r k) (fit-named w (size_of t) value) e).0 in
+      let named = pointer-known world s (leaves-known world ask.src src_over) w value (size_of t) o r k e in
       let sources = compatible-of_sources world ask.assume in
-      let leaf : Contains (leaves t) u = open-is-leaf A sources ask.assume.safety t (take o (fit w (size_of t))) u opens in
-      let known : u < length world.refs = All-contains (λ v. v < length world.refs) (leaves t) u (leaves-known world ask.dst dst_over) leaf in
+      let known = open-known world A sources ask.assume.safety t (leaves-known world ask.dst dst_over) (take o (fit w (size_of t))) u opens in
       let apart = open-is-not-taken A sources ask.assume.safety t w o r u (value-closed w value) refuses at_first opens in
       let (rule, depth, holds_rule, least_depth) = ref_rule (tables_of world) ask r u named known apart in
       (rule, Some (fault_at (tables_of world) ask r u depth), inr (fault_at (tables_of world) ask r u depth, refl, refl, first, opens, holds_rule), (least, least_depth))
@@ -110,10 +76,10 @@ module _ (world : World) (ask : Ask) (src_over : IsTypeOver (tables_of world) as
       → (c : Option Cell) → slice_get (fit w (size_of t)) o ≡ c → CellFound (take o (fit w (size_of t))) c
   cell_rule w o value refuses None e =
       let f = fit w (size_of t) in
-      let short = past_end f o e in
-      let here : take o f ≡ f = take_all o f short in
-      let more : take (o + 1) f ≡ f = take_all (o + 1) f (omega arith) in
-      absurd (refuses.stops (subst (Viable A ask.assume.safety t) (here ∙ sym more) refuses.goes_to))
+      let inside = refused-inside A ask.assume.safety t w o refuses in
+      let long : length f ≡ size_of t = fit-length w (size_of t) in
+      let some = slice_get-get_or f o Uninit (omega arith) in
+      cc
   cell_rule w o value refuses (Some (Byte b)) e = byte_rule (take o (fit w (size_of t))) b (some_byte-known A taken-known taken_bound taken-bounded ask.assume.safety t (take o (fit w (size_of t))))
   cell_rule w o value refuses (Some Uninit) e = (NeedsInit, None, (refl, refl), tt)
   cell_rule w o value refuses (Some (Ptr r k)) e = go (least_open A taken-known taken_bound taken-bounded ask.assume.safety t (take o (fit w (size_of t)))) where

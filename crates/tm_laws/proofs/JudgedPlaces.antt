@@ -74,17 +74,17 @@ module _ (tables : Tables) where
   abbrev IsOfJudged : Expanded → Type 0
   IsOfJudged t = (g : Ground) × IsJudged tables g × IsDeepEnough t × (part g ≡ t)
 
-  abbrev AreJudged : List Ground → Type 0
-  AreJudged gs = (h : Ground) → IsIn h gs → IsJudged tables h
+  abbrev AllJudged : List Ground → Type 0
+  AllJudged gs = (h : Ground) → IsIn h gs → IsJudged tables h
 
-  elements-judged : (gs : List Ground) → AreJudged gs → some_field is_too_deep (elements part gs) ≡ false → FieldsPass IsOfJudged (elements part gs)
+  elements-judged : (gs : List Ground) → AllJudged gs → some_field is_too_deep (elements part gs) ≡ false → FieldsPass IsOfJudged (elements part gs)
   unfolding some_part
   elements-judged [] judged deep = tt
   elements-judged (g ∷ gs) judged deep =
       let (here, others) = or_parts (some_within is_too_deep (part g)) (some_field is_too_deep (elements part gs)) deep in
       ((g, judged g (inl refl), here, refl), elements-judged gs (λ h at. judged h (inr at)) others)
 
-  fields-judged : (fs : List Field) (gs : List Ground) → AreJudged gs → some_field is_too_deep (fields_of part fs gs) ≡ false → FieldsPass IsOfJudged (fields_of part fs gs)
+  fields-judged : (fs : List Field) (gs : List Ground) → AllJudged gs → some_field is_too_deep (fields_of part fs gs) ≡ false → FieldsPass IsOfJudged (fields_of part fs gs)
   unfolding some_part
   fields-judged [] gs judged deep = tt
   fields-judged (f ∷ fs) [] judged deep = cc
@@ -92,7 +92,7 @@ module _ (tables : Tables) where
       let (here, others) = or_parts (some_within is_too_deep (part g)) (some_field is_too_deep (fields_of part fs gs)) deep in
       ((g, judged g (inl refl), here, refl), fields-judged fs gs (λ h at. judged h (inr at)) others)
 
-  variants-judged : (vs : List Variant) (types : List (List Ground)) → AreJudged (flat_map (λ gs. gs) types) → some_variant is_too_deep (variants_of part vs types) ≡ false
+  variants-judged : (vs : List Variant) (types : List (List Ground)) → AllJudged (flat_map (λ gs. gs) types) → some_variant is_too_deep (variants_of part vs types) ≡ false
       → VariantsPass IsOfJudged (variants_of part vs types)
   unfolding some_part
   variants-judged [] types judged deep = tt
@@ -103,21 +103,21 @@ module _ (tables : Tables) where
         variants-judged vs types (λ h at. judged h (IsIn-right gs (flat_map (λ gs. gs) types) h at)) others,
       )
 
-  defined-judged : (id : NamedId) (types : List (List Ground)) (d : Option Def) → AreJudged (flat_map (λ gs. gs) types) → IsDeepEnough (defined part id types d) → PartsPass IsOfJudged (defined part id types d)
+  defined-judged : (id : NamedId) (types : List (List Ground)) (d : Option Def) → AllJudged (flat_map (λ gs. gs) types) → IsDeepEnough (defined part id types d) → PartsPass IsOfJudged (defined part id types d)
   unfolding some_part
   defined-judged id types None judged deep = tt
   defined-judged id types (Some d) judged deep = variants-judged d.variants types judged deep
 
-  row-judged : (id : NamedId) (row : Option NamedRow) → AreJudged (row_parts row) → IsDeepEnough (row_of part tables.defs id row) → PartsPass IsOfJudged (row_of part tables.defs id row)
+  row-judged : (id : NamedId) (row : Option NamedRow) → AllJudged (row_parts row) → IsDeepEnough (row_of part tables.defs id row) → PartsPass IsOfJudged (row_of part tables.defs id row)
   row-judged id None judged deep = tt
   row-judged id (Some row) judged deep = defined-judged id row.types (slice_get tables.defs row.def.0) judged deep
 
-  wrapped-judged : (w : Wrapper) (g : Ground) → AreJudged (argument_of w g) → IsDeepEnough (wrapped part w g) → PartsPass IsOfJudged (wrapped part w g)
+  wrapped-judged : (w : Wrapper) (g : Ground) → AllJudged (argument_of w g) → IsDeepEnough (wrapped part w g) → PartsPass IsOfJudged (wrapped part w g)
   unfolding some_part
   wrapped-judged wrapper.PhantomData g judged deep = tt
   wrapped-judged w g judged deep = (g, judged g (inl refl), deep, refl)
 
-  level-judged : (x : Ground-F Ground) → AreJudged (parts_within tables.named x) → IsDeepEnough (level part tables.defs tables.named x) → PartsPass IsOfJudged (level part tables.defs tables.named x)
+  level-judged : (x : Ground-F Ground) → AllJudged (parts_within tables.named x) → IsDeepEnough (level part tables.defs tables.named x) → PartsPass IsOfJudged (level part tables.defs tables.named x)
   unfolding some_part
   level-judged (Ground-F.Tuple gs) judged deep = elements-judged gs judged deep
   level-judged (Ground-F.Array g n) judged deep = (g, judged g (inl refl), deep, refl)
@@ -130,7 +130,7 @@ module _ (tables : Tables) where
   level-judged (Ground-F.Ref r) judged deep = tt
 
   -- the parts of a judged type are judged
-  parts-judged : (g : Ground) → IsJudged tables g → AreJudged (parts_of tables g)
+  parts-judged : (g : Ground) → IsJudged tables g → AllJudged (parts_of tables g)
   unfolding LeadsIn
   parts-judged g judged h at = λ k (n, way).
       let step = Contains-from_IsIn (parts_of tables g ++ pointees_of tables g) h (IsIn-left (parts_of tables g) (pointees_of tables g) h at) in

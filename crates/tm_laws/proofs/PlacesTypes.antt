@@ -1,6 +1,7 @@
 -- In a type without a fault the fields of each type that is held by value stand apart.
 use Rattle.std.proofs.Common.{◌≡◌, ℕ, zero, suc, refl, sym, ◌∙◌, ap, subst, Bool, true, false, ◌||◌, if◌then◌else◌, is_some, Option, Some, None, List, slice_get}
 use Rattle.std.specs.Option.{option_and_then}
+use Rattle.std.proofs.lemmas.Bool.{or_from}
 use Rattle.std.proofs.lemmas.Option.{slice_get-map, option_and_then_some}
 use Rattle.std.specs.Option.{option_map}
 use Rattle.tm_base.specs.declared.answer.Why.{Why}
@@ -99,10 +100,6 @@ not_at_fault : (t : Expanded) → HasNoFault t → part_at_fault t ≡ false →
 unfolding fault_of
 not_at_fault t h parts = none_fault (fault_over (part_at_fault t) t) (part_at_fault t) h parts
 
-neither : (a b : Bool) → a ≡ false → b ≡ false → (a || b) ≡ false
-neither false b h e = e
-neither true b h e = absurd cc
-
 mutual
   unfolding EachPart part_at_fault
 
@@ -122,12 +119,12 @@ mutual
   fields-sound : (members : Fields) → EachField HasNoFault members → field_at_fault members ≡ false
   fields-sound no_fields h = refl
   fields-sound (field public t rest) (none, parts, others) =
-      neither (at_fault_over (part_at_fault t) t) (field_at_fault rest) (not_at_fault t none (parts-sound t parts)) (fields-sound rest others)
+      or_from (at_fault_over (part_at_fault t) t) (field_at_fault rest) (not_at_fault t none (parts-sound t parts)) (fields-sound rest others)
 
   variants-sound : (vs : Variants) → EachVariant HasNoFault vs → variant_at_fault vs ≡ false
   variants-sound no_variants h = refl
   variants-sound (variant value members rest) (here, others) =
-      neither (field_at_fault members) (variant_at_fault rest) (fields-sound members here) (variants-sound rest others)
+      or_from (field_at_fault members) (variant_at_fault rest) (fields-sound members here) (variants-sound rest others)
 
 -- the fields of one type stand apart, where neither it nor a part of it is at fault
 pub apart-here : (t : Expanded) → HasNoFault t → EachPart HasNoFault t → HasFieldsApart t

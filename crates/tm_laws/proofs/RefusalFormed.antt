@@ -1,7 +1,8 @@
 -- In a type over a world each number that is written names a row of the world; so it is in its parts, and
 -- in what its references point to.
-use Rattle.std.proofs.Common.{◌≡◌, ℕ, ◌<◌, refl, sym, ◌∙◌, ap, subst, Bool, true, false, ◌&&◌, List, [], ◌∷◌, ◌++◌, map, length, Some, slice_get, nat_lt}
+use Rattle.std.proofs.Common.{◌≡◌, ℕ, ◌<◌, refl, sym, ◌∙◌, ap, subst, Bool, true, ◌&&◌, List, [], ◌∷◌, ◌++◌, map, length, Some, slice_get, nat_lt}
 use Rattle.std.specs.List.{All, list_all, flat_map, range_with_len}
+use Rattle.std.proofs.lemmas.Bool.{and_parts}
 use Rattle.std.proofs.lemmas.Bool.Decides.{Decides-ltb}
 use Rattle.std.proofs.lemmas.List.Elements.{All-nil, All-cons}
 use Rattle.std.proofs.lemmas.List.Folds.{list_all-append, list_all-map}
@@ -18,11 +19,6 @@ use Rattle.tm_base.specs.Worlds.{tables_of, IsTypeOver}
 use Rattle.tm_base.proofs.GroundLemmas.{written_types-Tuple, written_types-Array, written_types-Wrap}
 use Rattle.tm_base.proofs.WorldLemmas.{list_all-at}
 
--- both of two tests pass
-pub both_pass : (a b : Bool) → (a && b) ≡ true → (a ≡ true) × (b ≡ true)
-both_pass true b h = (refl, h)
-both_pass false b h = cc
-
 list_all-flat_map : {X Y : Type 0} (p : Y → Bool) (f : X → List Y) (xs : List X) → list_all p (flat_map f xs) ≡ list_all (λ x. list_all p (f x)) xs
 list_all-flat_map p f [] = refl
 list_all-flat_map p f (x ∷ xs) = list_all-append p (f x) (flat_map f xs) ∙ ap (λ b. list_all p (f x) && b) (list_all-flat_map p f xs)
@@ -30,7 +26,7 @@ list_all-flat_map p f (x ∷ xs) = list_all-append p (f x) (flat_map f xs) ∙ a
 list_all-weaker : {X : Type 0} (p q : X → Bool) → ((x : X) → p x ≡ true → q x ≡ true) → (xs : List X) → list_all p xs ≡ true → list_all q xs ≡ true
 list_all-weaker p q each [] h = refl
 list_all-weaker p q each (x ∷ xs) h =
-    let both = both_pass (p x) (list_all p xs) h in
+    let both = and_parts (p x) (list_all p xs) h in
     let first = each x both.0 in
     let others = list_all-weaker p q each xs both.1 in
     cc
@@ -39,7 +35,7 @@ list_all-weaker p q each (x ∷ xs) h =
 pub All-from_list_all : {X : Type 0} (p : X → Bool) (P : X → Type 0) → ((x : X) → p x ≡ true → P x) → (xs : List X) → list_all p xs ≡ true → All P xs
 All-from_list_all p P each [] h = All-nil P
 All-from_list_all p P each (x ∷ xs) h =
-    let both = both_pass (p x) (list_all p xs) h in
+    let both = and_parts (p x) (list_all p xs) h in
     All-cons P x xs (each x both.0) (All-from_list_all p P each xs both.1)
 
 module _ (named refs : ℕ) where
@@ -63,15 +59,15 @@ module _ (named refs : ℕ) where
   unfolding roll-Ground written_types out-Ground denote.Hole.Carrier.out denote.Hole.Carrier.roll
   rolled-formed (Ground-F.Tuple gs) h =
       let all = ap (list_all passes_head) (sym (written_types-Tuple gs)) ∙ h in
-      sym (list_all-flat_map passes_head written_types gs) ∙ (both_pass (passes_head (Tuple gs)) (list_all passes_head (flat_map written_types gs)) all).1
+      sym (list_all-flat_map passes_head written_types gs) ∙ (and_parts (passes_head (Tuple gs)) (list_all passes_head (flat_map written_types gs)) all).1
   rolled-formed (Ground-F.Array g n) h =
       let all = ap (list_all passes_head) (sym (written_types-Array g n)) ∙ h in
-      (both_pass (passes_head (Array g n)) (formed g) all).1
+      (and_parts (passes_head (Array g n)) (formed g) all).1
   rolled-formed (Ground-F.Wrap w g) h =
       let all = ap (list_all passes_head) (sym (written_types-Wrap w g)) ∙ h in
-      (both_pass (passes_head (Wrap w g)) (formed g) all).1
-  rolled-formed (Ground-F.Named id) h = (Decides-ltb id.0 named).0 (both_pass (nat_lt id.0 named) true h).0
-  rolled-formed (Ground-F.Ref r) h = (Decides-ltb r.0 refs).0 (both_pass (nat_lt r.0 refs) true h).0
+      (and_parts (passes_head (Wrap w g)) (formed g) all).1
+  rolled-formed (Ground-F.Named id) h = (Decides-ltb id.0 named).0 (and_parts (nat_lt id.0 named) true h).0
+  rolled-formed (Ground-F.Ref r) h = (Decides-ltb r.0 refs).0 (and_parts (nat_lt r.0 refs) true h).0
   rolled-formed (Ground-F.Prim p) h = tt
   rolled-formed Ground-F.Never h = tt
   rolled-formed Ground-F.Unit h = tt
@@ -94,8 +90,8 @@ module _ (world : World) where
 
   passes_formed : (g : Ground) → passes g ≡ true → is_head_in_form (length world.named) (length world.refs) (out-Ground g) ≡ true
   passes_formed g h =
-      (both_pass (is_head_in_form (length world.named) (length world.refs) (out-Ground g)) (is_whole (expanded world.defs world.named g))
-      (both_pass (is_head_in_form (length world.named) (length world.refs) (out-Ground g) && is_whole (expanded world.defs world.named g)) (ends (spelled world.refs g)) h).0).0
+      (and_parts (is_head_in_form (length world.named) (length world.refs) (out-Ground g)) (is_whole (expanded world.defs world.named g))
+      (and_parts (is_head_in_form (length world.named) (length world.refs) (out-Ground g) && is_whole (expanded world.defs world.named g)) (ends (spelled world.refs g)) h).0).0
 
   written_formed : (gs : List Ground) → list_all passes (flat_map written_types gs) ≡ true → list_all is_formed gs ≡ true
   written_formed gs h =
@@ -122,13 +118,13 @@ module _ (world : World) where
   all_formed : list_all is_formed (fields ++ pointees ++ asked) ≡ true
   all_formed =
       written_formed (fields ++ pointees ++ asked)
-      (both_pass (list_all passes names) _ (sym (list_all-append passes names _) ∙ all_written)).1
+      (and_parts (list_all passes names) _ (sym (list_all-append passes names _) ∙ all_written)).1
 
   without_asked : list_all is_formed (fields ++ pointees) ≡ true
-  without_asked = (both_pass (list_all is_formed (fields ++ pointees)) (list_all is_formed asked) (sym (list_all-append is_formed (fields ++ pointees) asked) ∙ all_formed)).0
+  without_asked = (and_parts (list_all is_formed (fields ++ pointees)) (list_all is_formed asked) (sym (list_all-append is_formed (fields ++ pointees) asked) ∙ all_formed)).0
 
   fields_and_pointees : (list_all is_formed fields ≡ true) × (list_all is_formed pointees ≡ true)
-  fields_and_pointees = both_pass (list_all is_formed fields) (list_all is_formed pointees) (sym (list_all-append is_formed fields pointees) ∙ without_asked)
+  fields_and_pointees = and_parts (list_all is_formed fields) (list_all is_formed pointees) (sym (list_all-append is_formed fields pointees) ∙ without_asked)
 
   -- the types of a named type's fields are the world's
   pub row-formed : (k : ℕ) (row : NamedRow) → slice_get world.named k ≡ Some row → list_all (list_all is_formed) row.types ≡ true
@@ -146,4 +142,4 @@ module _ (world : World) where
   -- a type over the world is
   pub over-formed : (g : Ground) → IsTypeOver (tables_of world) g → IsFormed g
   unfolding is_type_over
-  over-formed g h = (both_pass (is_formed g) (is_whole (expanded world.defs world.named g)) h).0
+  over-formed g h = (and_parts (is_formed g) (is_whole (expanded world.defs world.named g)) h).0

@@ -3,7 +3,7 @@ use Rattle.std.proofs.Common.{◌≡◌, ℕ, zero, suc, ◌+◌, ◌-◌, ◌<�
 use Rattle.std.specs.List.{All, Contains}
 use Rattle.std.proofs.lemmas.Bool.Decides.{Decides-eqb}
 use Rattle.std.proofs.lemmas.List.{length-replicate, map-append, nil_from_length, take-append-drop, take_all, take_more, drop_more}
-use Rattle.std.proofs.lemmas.List.Elements.{All-head, All-tail, All-append, All-replicate, All-take, All-contains, Contains-append_left, Contains-push}
+use Rattle.std.proofs.lemmas.List.Elements.{All-head, All-tail, All-append, All-replicate, All-take}
 use Rattle.std.proofs.lemmas.Option.{get_or_from_slice_get, slice_get_within}
 use Rattle.tm_base.specs.declared.cell.Cell.{Cell}
 use Rattle.tm_base.specs.declared.cell.Cell.TheVariants.{Byte, Uninit, Ptr}
@@ -15,7 +15,7 @@ use Rattle.tm_base.specs.Transmutes.{Same}
 use Rattle.tm_base.specs.Valid.{Valid}
 use Rattle.tm_base.specs.Viable.{HasWord, Viable, RefusesAt, StandsOpen}
 use Rattle.tm_base.proofs.ValidLemmas.{Valid-length}
-use Rattle.tm_laws.proofs.RefusalMoves.{All-second}
+use Rattle.tm_laws.proofs.RefusalMoves.{All-second, All-middle}
 use Rattle.tm_laws.proofs.RefusalSwaps.{IsClosed, IsOfSources, own-isn't-needed, swap, swapped}
 use Rattle.tm_laws.proofs.WholeLeaves.{leaves}
 use Rattle.tm_laws.proofs.WholeWords.{IsCellOf, IsHeldBy, pointers-related, StandsWhole, append-split, whole-references}
@@ -28,10 +28,9 @@ fit-length w m =
     let both = length-append (take m w) (replicate (m - length w) Uninit) in
     omega arith
 
--- and it has no open reference that the word hasn't
-pub fit-closed : (w : Word) (m : ℕ) → All IsClosed w → All IsClosed (fit w m)
-fit-closed w m h =
-    All-append IsClosed (take m w) (replicate (m - length w) Uninit) (All-take IsClosed m w h) (All-replicate IsClosed (m - length w) Uninit tt)
+-- and what holds of the word's cells, and of one that isn't initialised, holds of its cells
+pub fit-all : (P : Cell → Type 0) → P Uninit → (w : Word) (m : ℕ) → All P w → All P (fit w m)
+fit-all P gap w m h = All-append P (take m w) (replicate (m - length w) Uninit) (All-take P m w h) (All-replicate P (m - length w) Uninit gap)
 
 -- the cells up to the place of one, with it
 front_more : (w : Word) (o : ℕ) (c : Cell) → slice_get w o ≡ Some c → take (o + 1) w ≡ take o w ++ c ∷ []
@@ -74,7 +73,7 @@ module _ (A : ℕ → ℕ → Type 0) (keep : Bool) (t : Expanded) where
       let n = size_of t in
       let f = fit w n in
       let long : length f ≡ n = fit-length w n in
-      let ends : ¬ Viable A keep t (take n f) = λ viable. refused (whole_viable f long (fit-closed w n closed) (subst (Viable A keep t) (take_all n f (omega arith)) viable)) in
+      let ends : ¬ Viable A keep t (take n f) = λ viable. refused (whole_viable f long (fit-all IsClosed tt w n closed) (subst (Viable A keep t) (take_all n f (omega arith)) viable)) in
       let found = first_change (λ o. Viable A keep t (take o f)) known n has_word ends in
       (found.0, found.1, record { goes_to = found.2; stops = found.3 })
 
@@ -170,7 +169,7 @@ module _ (A : ℕ → ℕ → Type 0) (sources : IsOfSources A) (keep : Bool) (t
       → slice_get (fit w (size_of t)) o ≡ Some (Ptr r 0) → StandsOpen A keep t (take o (fit w (size_of t))) u → ¬ A r.0 u
   open-is-not-taken w o r u closed refuses e stands_open taken =
       let f = fit w (size_of t) in
-      let more = taken-goes_on (take o f) r.0 u (All-take IsClosed o f (fit-closed w (size_of t) closed)) stands_open taken in
+      let more = taken-goes_on (take o f) r.0 u (All-take IsClosed o f (fit-all IsClosed tt w (size_of t) closed)) stands_open taken in
       refuses.stops (subst (Viable A keep t) (sym (front_more f o (Ptr r 0) e)) more)
 
   -- A target reference that may begin somewhere is one of the target's.
@@ -179,7 +178,7 @@ module _ (A : ℕ → ℕ → Type 0) (sources : IsOfSources A) (keep : Bool) (t
       let open_cell : Cell = Ptr (record { 0 = own u }) 0 in
       let L = IsHeldBy (OrOwn A) t in
       let cells = pointers-related (OrOwn A) keep t ((p ++ open_cell ∷ []) ++ rest) valid in
-      let held : L (own u) = (All-contains (IsCellOf L) ((p ++ open_cell ∷ []) ++ rest) open_cell cells (Contains-append_left (p ++ open_cell ∷ []) rest open_cell (Contains-push p open_cell))).0 in
+      let held : L (own u) = (All-middle (IsCellOf L) p open_cell rest cells).0 in
       elim held.2 [
         | inl a ↦ let below = sources (own u) held.0 a in absurd (omega arith)
         | inr e ↦ let same : held.0 ≡ u = omega arith in subst (Contains (leaves t)) same held.1

@@ -3,7 +3,7 @@
 use Rattle.std.proofs.Common.{◌≡◌, ℕ, zero, suc, refl, sym, ◌∙◌, ap, subst, Bool, List, [], ◌∷◌, ◌++◌, map, inl, inr, arith, Option, None}
 use Rattle.std.proofs.lemmas.List.{length-map, map-append}
 use Rattle.std.specs.List.{All}
-use Rattle.std.proofs.lemmas.List.Elements.{All-nil, All-cons, All-head, All-tail, All-replicate}
+use Rattle.std.proofs.lemmas.List.Elements.{All-nil, All-cons, All-head, All-tail, All-replicate, All-contains, Contains-append_left, Contains-push}
 use Rattle.tm_base.specs.declared.cell.Cell.{Cell}
 use Rattle.tm_base.specs.declared.cell.Cell.TheVariants.{Byte, Uninit, Ptr}
 use Rattle.tm_base.specs.declared.definition.Kind.TheVariants.{Struct, Union, Enum}
@@ -28,6 +28,9 @@ All-second Q [] v w e h = subst (All Q) e h
 All-second Q (c ∷ u) v w e h =
     let whole : All Q (c ∷ (u ++ v)) = subst (All Q) e h in
     All-second Q u v (u ++ v) refl (All-tail Q c (u ++ v) whole)
+
+pub All-middle : {X : Type 0} (Q : X → Type 0) (u : List X) (c : X) (v : List X) → All Q ((u ++ c ∷ []) ++ v) → Q c
+All-middle Q u c v h = All-contains Q ((u ++ c ∷ []) ++ v) c h (Contains-append_left (u ++ c ∷ []) v c (Contains-push u c))
 
 -- f moves cells: none that is free, and those of the reference x to those of one that may stand in its
 -- place, where Q holds of the word's cells.

@@ -1,8 +1,8 @@
 -- The references of a world's types are the world's. So no word of a source has an open one.
 use Rattle.std.proofs.Common.{◌≡◌, ℕ, zero, suc, ◌<◌, refl, Bool, true, List, [], ◌∷◌, ◌++◌, length, Option, Some, None, slice_get, arith}
 use Rattle.std.specs.List.{All, list_all, flat_map}
+use Rattle.std.proofs.lemmas.Bool.{and_parts}
 use Rattle.std.proofs.lemmas.List.Elements.{All-nil, All-cons, All-append, All-weaker, All-contains}
-use Rattle.std.proofs.lemmas.Option.{slice_get_within}
 use Rattle.tm_base.specs.declared.assume.Assume.{Assume}
 use Rattle.tm_base.specs.declared.cell.Cell.{Cell}
 use Rattle.tm_base.specs.declared.cell.Cell.TheVariants.{Byte, Uninit, Ptr}
@@ -18,17 +18,19 @@ use Rattle.tm_base.specs.declared.ground.Wrapper.{Wrapper}
 use Rattle.tm_base.specs.declared.ground.Wrapper.TheVariants as wrapper
 use Rattle.tm_base.specs.declared.world.World.{World}
 use Rattle.tm_base.specs.Cells.{Word}
-use Rattle.tm_base.specs.Compatible.{Compatible, CompatibleTo, MeetsLocally}
+use Rattle.tm_base.specs.Compatible.{Compatible}
 use Rattle.tm_base.specs.Expanded.{Expanded, elements, fields_of, variants_of, defined, row_of, wrapped, level, expanded_within, depth_limit}
 use Rattle.tm_base.specs.Reaches.{Enters, Reaches, argument_of, row_parts, row_pointee, parts_within, pointees_within, parts_of, pointees_of}
-use Rattle.tm_base.specs.Tables.{expanded_in, pointee_in, OnRows}
+use Rattle.tm_base.specs.Tables.{expanded_in, pointee_in}
 use Rattle.tm_base.specs.Transmutes.{Same, IsSourceWord}
 use Rattle.tm_base.specs.Worlds.{tables_of, IsTypeOver}
 use Rattle.tm_base.proofs.JudgedLemmas.{LeadsIn-keeps}
-use Rattle.tm_laws.proofs.RefusalFormed.{formed, PartsFormed, formed-level, IsFormed, row-formed, pointee-formed, over-formed, both_pass, All-from_list_all}
+use Rattle.tm_laws.proofs.CompatibleKnownLemmas.{Compatible-rows}
+use Rattle.tm_laws.proofs.RefusalFormed.{formed, PartsFormed, formed-level, IsFormed, row-formed, pointee-formed, over-formed, All-from_list_all}
 use Rattle.tm_laws.proofs.RefusalSwaps.{IsClosed, IsOfSources}
 use Rattle.tm_laws.proofs.WholeLeaves.{leaves, field_leaves, variant_leaves}
-use Rattle.tm_laws.proofs.WholeWords.{IsCellOf, IsHeldBy, pointers-related}
+use Rattle.tm_laws.proofs.WholeWords.{IsCellOf, IsHeldBy, cell-weaker, pointers-related}
+use Rattle.tm_laws.proofs.WordSearchLemmas.{IsWithin}
 
 -- One level of a type: its references have numbers below a bound, where those of its parts do.
 module _ (named refs : ℕ) (part : Ground → Expanded) (each : (g : Ground) → formed named refs g ≡ true → All (λ u. u < refs) (leaves (part g))) where
@@ -42,7 +44,7 @@ module _ (named refs : ℕ) (part : Ground → Expanded) (each : (g : Ground) �
   unfolding leaves
   elements-leaves [] h = All-nil (λ u. u < refs)
   elements-leaves (g ∷ gs) h =
-      let both = both_pass (is_formed g) (list_all is_formed gs) h in
+      let both = and_parts (is_formed g) (list_all is_formed gs) h in
       All-append (λ u. u < refs) (leaves (part g)) (field_leaves (elements part gs)) (each g both.0) (elements-leaves gs both.1)
 
   fields_of-leaves : (fs : List Field) (types : List Ground) → list_all is_formed types ≡ true → AreBelow (field_leaves (fields_of part fs types))
@@ -50,7 +52,7 @@ module _ (named refs : ℕ) (part : Ground → Expanded) (each : (g : Ground) �
   fields_of-leaves [] types h = All-nil (λ u. u < refs)
   fields_of-leaves (f ∷ fs) [] h = All-nil (λ u. u < refs)
   fields_of-leaves (f ∷ fs) (g ∷ gs) h =
-      let both = both_pass (is_formed g) (list_all is_formed gs) h in
+      let both = and_parts (is_formed g) (list_all is_formed gs) h in
       All-append (λ u. u < refs) (leaves (part g)) (field_leaves (fields_of part fs gs)) (each g both.0) (fields_of-leaves fs gs both.1)
 
   variants_of-leaves : (vs : List Variant) (types : List (List Ground)) → list_all (list_all is_formed) types ≡ true → AreBelow (variant_leaves (variants_of part vs types))
@@ -58,7 +60,7 @@ module _ (named refs : ℕ) (part : Ground → Expanded) (each : (g : Ground) �
   variants_of-leaves [] types h = All-nil (λ u. u < refs)
   variants_of-leaves (v ∷ vs) [] h = All-nil (λ u. u < refs)
   variants_of-leaves (v ∷ vs) (gs ∷ types) h =
-      let both = both_pass (list_all is_formed gs) (list_all (list_all is_formed) types) h in
+      let both = and_parts (list_all is_formed gs) (list_all (list_all is_formed) types) h in
       All-append (λ u. u < refs) (field_leaves (fields_of part v.fields gs)) (variant_leaves (variants_of part vs types))
       (fields_of-leaves v.fields gs both.0) (variants_of-leaves vs types both.1)
 
@@ -123,7 +125,7 @@ module _ (world : World) where
   types_formed : (types : List (List Ground)) → list_all (list_all (formed (length world.named) (length world.refs))) types ≡ true → AreFormed (flat_map (λ gs. gs) types)
   types_formed [] h = All-nil (IsFormed world)
   types_formed (gs ∷ types) h =
-      let both = both_pass (list_all (formed (length world.named) (length world.refs)) gs) (list_all (list_all (formed (length world.named) (length world.refs))) types) h in
+      let both = and_parts (list_all (formed (length world.named) (length world.refs)) gs) (list_all (list_all (formed (length world.named) (length world.refs))) types) h in
       All-append (IsFormed world) gs (flat_map (λ gs. gs) types) (All-from_list_all (formed (length world.named) (length world.refs)) (IsFormed world) (λ g e. e) gs both.0) (types_formed types both.1)
 
   row_parts-formed : (row : Option NamedRow) → ((one : NamedRow) → row ≡ Some one → list_all (list_all (formed (length world.named) (length world.refs))) one.types ≡ true) → AreFormed (row_parts row)
@@ -161,30 +163,30 @@ module _ (world : World) where
   pub reached-known : (g h : Ground) → IsTypeOver (tables_of world) g → Reaches (tables_of world) g h → HasKnownLeaves (expanded_in (tables_of world) h)
   reached-known g h over (n, way) = formed-known h (LeadsIn-keeps (Enters (tables_of world)) (IsFormed world) enters-formed n g h (over-formed world g over) way)
 
-  first_row : (r t : ℕ) (P : RefRow → RefRow → Type 0) (row other : Option RefRow) → slice_get world.refs r ≡ row → OnRows row other P → r < length world.refs
-  first_row r t P (Some row) (Some other) e h = slice_get_within world.refs r row e
-  first_row r t P (Some row) None e h = elim h [ ]
-  first_row r t P None other e h = elim h [ ]
-
-  -- what is compatible has the number of a reference of the world
-  pub compatible-known : (assume : Assume) (r t : ℕ) → Compatible (tables_of world) assume r t → r < length world.refs
-  unfolding CompatibleTo
-  compatible-known assume r t h = first_row r t (MeetsLocally (tables_of world) assume) (slice_get world.refs r) (slice_get world.refs t) refl (h 0)
-
   pub compatible-of_sources : (assume : Assume) → IsOfSources (Compatible (tables_of world) assume)
   compatible-of_sources assume x t h =
-      let below = compatible-known assume x t h in
+      let (below, other) = Compatible-rows (tables_of world) assume x t h in
       let few = world.few_refs in
       omega arith
 
-  cell_closed : (s : Expanded) → HasKnownLeaves s → (c : Cell) → IsCellOf (IsHeldBy Same s) c → IsClosed c
-  cell_closed s known (Byte b) h = tt
-  cell_closed s known Uninit h = tt
-  cell_closed s known (Ptr r k) ((u, inside, same), short) =
+  held-known : (s : Expanded) → HasKnownLeaves s → (x : ℕ) → IsHeldBy Same s x → x < length world.refs
+  held-known s known x (u, inside, same) =
       let below : u < length world.refs = All-contains (λ v. v < length world.refs) (leaves s) u known inside in
+      omega arith
+
+  -- the references in a word of a source are the world's
+  pub source-within : (s : Expanded) → HasKnownLeaves s → (w : Word) → IsSourceWord s w → All (IsWithin (length world.refs)) w
+  source-within s known w h =
+      All-weaker (IsCellOf (IsHeldBy Same s)) (IsWithin (length world.refs)) (cell-weaker (IsHeldBy Same s) (λ x. x < length world.refs) (held-known s known)) w
+      (pointers-related Same true s w h)
+
+  cell_closed : (c : Cell) → IsWithin (length world.refs) c → IsClosed c
+  cell_closed (Byte b) h = tt
+  cell_closed Uninit h = tt
+  cell_closed (Ptr r k) (below, short) =
       let few = world.few_refs in
       omega arith
 
   -- no word of a source has an open reference
   pub source-closed : (s : Expanded) → HasKnownLeaves s → (w : Word) → IsSourceWord s w → All IsClosed w
-  source-closed s known w h = All-weaker (IsCellOf (IsHeldBy Same s)) IsClosed (cell_closed s known) w (pointers-related Same true s w h)
+  source-closed s known w h = All-weaker (IsWithin (length world.refs)) IsClosed cell_closed w (source-within s known w h)

@@ -2,7 +2,6 @@
 -- as which, and the numbers of those that may are bounded.
 use Rattle.std.proofs.Common.{ℕ, suc, ◌+◌, ◌-◌, ◌<◌, ◌≤◌, ◌⊎◌, max, inl, inr, refl, Bool, [], ◌∷◌, ◌++◌, length, take, arith, length-append}
 use Rattle.std.specs.List.{All}
-use Rattle.std.proofs.lemmas.List.Elements.{All-contains, Contains-append_left, Contains-push}
 use Rattle.tm_base.specs.declared.cell.Cell.{Cell}
 use Rattle.tm_base.specs.declared.cell.Cell.TheVariants.{Byte, Ptr}
 use Rattle.tm_base.specs.Cells.{Word, fit, own, OrOwn}
@@ -14,14 +13,10 @@ use Rattle.tm_base.proofs.ValidLemmas.{Valid-length}
 use Rattle.tm_laws.proofs.DecideLemmas.{Dec-and, Dec-or, Dec-not, Dec-like, Dec-eq}
 use Rattle.tm_laws.proofs.LeastLemmas.{least_below}
 use Rattle.tm_laws.proofs.ListedLemmas.{Listed-under, find}
-use Rattle.tm_laws.proofs.RefusalMoves.{All-second}
+use Rattle.tm_laws.proofs.RefusalMoves.{All-second, All-middle}
 use Rattle.tm_laws.proofs.ValidKnownLemmas.{Valid-known, Listed-valid}
 use Rattle.tm_laws.proofs.WithinLemmas.{refs_below, Valid-within}
 use Rattle.tm_laws.proofs.WordSearchLemmas.{IsWithin, Listed-words, Listed-below}
-
--- what holds of all cells of a word holds of one that stands behind a front
-cell_in : (P : Cell → Type 0) (p : Word) (c : Cell) (rest : Word) → All P ((p ++ c ∷ []) ++ rest) → P c
-cell_in P p c rest all = All-contains P ((p ++ c ∷ []) ++ rest) c all (Contains-append_left (p ++ c ∷ []) rest c (Contains-push p c))
 
 module _ (A : ℕ → ℕ → Type 0) (known : (x t : ℕ) → Dec (A x t)) (bound : ℕ → ℕ) (bounded : (x t : ℕ) → A x t → x < bound t) (keep : Bool) (t : Expanded) where
   OrOwn-known : (x u : ℕ) → Dec (OrOwn A x u)
@@ -64,7 +59,7 @@ module _ (A : ℕ → ℕ → Type 0) (known : (x t : ℕ) → Dec (A x t)) (bou
   some_byte-known before =
       find (λ b. Viable A keep t (before ++ Byte b ∷ []))
       (Listed-under (λ b. Viable A keep t (before ++ Byte b ∷ [])) (λ b. b < 256)
-      (λ b (rest, valid). cell_in (IsWithin limit) before (Byte b) rest (word-within ((before ++ Byte b ∷ []) ++ rest) valid)) (Listed-below 256))
+      (λ b (rest, valid). All-middle (IsWithin limit) before (Byte b) rest (word-within ((before ++ Byte b ∷ []) ++ rest) valid)) (Listed-below 256))
       (λ b. Viable-known (before ++ Byte b ∷ []))
 
   -- the least reference that stands open behind a front, or the knowledge that there is none
@@ -73,5 +68,5 @@ module _ (A : ℕ → ℕ → Type 0) (known : (x t : ℕ) → Dec (A x t)) (bou
     below_limit : (u : ℕ) → StandsOpen A keep t before u → u < limit
     below_limit u (rest, valid) =
         let open_cell : Cell = Ptr (record { 0 = own u }) 0 in
-        let stands = cell_in (IsWithin limit) before open_cell rest (word-within ((before ++ open_cell ∷ []) ++ rest) valid) in
+        let stands = All-middle (IsWithin limit) before open_cell rest (word-within ((before ++ open_cell ∷ []) ++ rest) valid) in
         omega (arith, stands.0)

@@ -39,6 +39,11 @@ free_cell L (Byte b) h = h
 free_cell L Uninit h = h
 free_cell L (Ptr r k) h = elim h [ ]
 
+pub cell-weaker : (L M : ℕ → Type 0) → ((x : ℕ) → L x → M x) → (c : Cell) → IsCellOf L c → IsCellOf M c
+cell-weaker L M each (Byte b) h = h
+cell-weaker L M each Uninit h = h
+cell-weaker L M each (Ptr r k) (l, short) = (each r.0 l, short)
+
 -- some reference of the type may hold x
 abbrev pub IsHeldBy : (ℕ → ℕ → Type 0) → Expanded → ℕ → Type 0
 IsHeldBy A t x = (u : ℕ) × Contains (leaves t) u × A x u

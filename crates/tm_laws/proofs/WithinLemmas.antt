@@ -2,14 +2,12 @@
 use Rattle.std.proofs.Common.{ℕ, ◌<◌, ◌≤◌, max, inl, inr, Bool, List, [], ◌∷◌, arith}
 use Rattle.std.specs.List.{All}
 use Rattle.std.proofs.lemmas.List.Elements.{All-weaker}
-use Rattle.tm_base.specs.declared.cell.Cell.{Cell}
-use Rattle.tm_base.specs.declared.cell.Cell.TheVariants.{Byte, Uninit, Ptr}
 use Rattle.tm_base.specs.Cells.{Word}
 use Rattle.tm_base.specs.Expanded.{Expanded}
 use Rattle.tm_base.specs.Valid.{Valid}
 use Rattle.tm_laws.proofs.ListedLemmas.{IsIn, IsIn-from_Contains}
 use Rattle.tm_laws.proofs.WholeLeaves.{leaves}
-use Rattle.tm_laws.proofs.WholeWords.{IsCellOf, IsHeldBy, pointers-related}
+use Rattle.tm_laws.proofs.WholeWords.{IsCellOf, IsHeldBy, cell-weaker, pointers-related}
 use Rattle.tm_laws.proofs.WordSearchLemmas.{IsWithin}
 
 -- the greatest of some numbers' bounds
@@ -27,10 +25,10 @@ abbrev pub refs_below : (ℕ → ℕ) → Expanded → ℕ
 refs_below bound t = greatest bound (leaves t)
 
 module _ (A : ℕ → ℕ → Type 0) (keep : Bool) (bound : ℕ → ℕ) (bounded : (x u : ℕ) → A x u → x < bound u) (t : Expanded) where
-  held-within : (c : Cell) → IsCellOf (IsHeldBy A t) c → IsWithin (refs_below bound t) c
-  held-within (Byte b) h = h
-  held-within Uninit h = h
-  held-within (Ptr r k) ((u, inside, a), short) = (omega (arith, bounded r.0 u a, greatest-most bound (leaves t) u (IsIn-from_Contains (leaves t) u inside)), short)
+  held-below : (x : ℕ) → IsHeldBy A t x → x < refs_below bound t
+  held-below x (u, inside, a) = omega (arith, bounded x u a, greatest-most bound (leaves t) u (IsIn-from_Contains (leaves t) u inside))
 
   pub Valid-within : (w : Word) → Valid A keep t w → All (IsWithin (refs_below bound t)) w
-  Valid-within w valid = All-weaker (IsCellOf (IsHeldBy A t)) (IsWithin (refs_below bound t)) held-within w (pointers-related A keep t w valid)
+  Valid-within w valid =
+      All-weaker (IsCellOf (IsHeldBy A t)) (IsWithin (refs_below bound t)) (cell-weaker (IsHeldBy A t) (λ x. x < refs_below bound t) held-below) w
+      (pointers-related A keep t w valid)
