@@ -29,3 +29,4 @@ pub mod PlacesLemmas
 pub mod PlacesTypes
 pub mod JudgedPlaces
 pub mod PlacesRows
+pub mod JudgedRows
