@@ -2,7 +2,6 @@
 //! nothing, so that it is proved with the crate.
 #![tactic(auto)]
 
-ghost use Rattle.tm_laws.specs.Laws.{TypesAreSettled, MoreMayBeAssumed, CompatibilityIsKnown, QuestionsHaveAnswers};
 mod answers;
 mod places;
 
@@ -33,4 +32,3 @@ pub fn each_question_has_an_answer(world: &World)
     ensures some { QuestionsHaveAnswers world.now }
     ensures only { QuestionsHaveOneAnswer world.now }
 {}
-pub mod places;
