@@ -71,7 +71,7 @@ module _ (file : List ℕ) (resolved : Resolved) (m : IsMeaningOf file resolved)
         (λ k passes. ap (λ k. Passed k None) (one_limit resolved kind k first (first_here k passes)))
         (λ beyond. absurd (no_limit beyond.resolved beyond.limits kind (subst (λ (r : Resolved). IsFirstLimit r kind) (sym (m.only beyond.resolved beyond.names)) first)))
         other (m.faultless other h);
-    refused = λ a. absurd (no_limit a.resolved a.limits kind (subst (λ (r : Resolved). IsFirstLimit r kind) (sym (m.only a.resolved a.names)) first));
+    accepted = λ a. absurd (no_limit a.resolved a.limits kind (subst (λ (r : Resolved). IsFirstLimit r kind) (sym (m.only a.resolved a.names)) first));
   }
 
   -- a cause for which the types aren't closed stops the file
@@ -88,7 +88,7 @@ module _ (file : List ℕ) (resolved : Resolved) (m : IsMeaningOf file resolved)
       has = found;
       only = λ other h. by_late file (λ other. other ≡ NotYet)
           (λ k passes. absurd (no_limit resolved limits k (first_here k passes))) (λ h. refl) other (m.faultless other h);
-      refused = λ a. found;
+      accepted = λ a. found;
     }
       where
         found : GoesBeyond file

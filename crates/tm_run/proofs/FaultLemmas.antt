@@ -132,7 +132,7 @@ long_only file long = record {
     limits = λ kind h. let lexed = h.names.spelled.lexed in absurd (omega arith);
     beyond = λ h. let lexed = h.names.spelled.lexed in absurd (omega arith);
   });
-  refused = λ h. let lexed = h.names.spelled.lexed in absurd (omega arith);
+  accepted = λ h. let lexed = h.names.spelled.lexed in absurd (omega arith);
 }
 
 -- bytes that aren't UTF-8 are the one fault
@@ -151,7 +151,7 @@ broken_only file byte broken = record {
     limits = λ kind h. absurd (broken.broken h.names.spelled.lexed.utf8);
     beyond = λ h. absurd (broken.broken h.names.spelled.lexed.utf8);
   });
-  refused = λ h. absurd (broken.broken h.names.spelled.lexed.utf8);
+  accepted = λ h. absurd (broken.broken h.names.spelled.lexed.utf8);
 }
 
 -- a byte at which no token begins is the one fault
@@ -171,7 +171,7 @@ lacks_only file byte why lacks no_tokens same = record {
     limits = λ kind h. absurd (no_tokens h.names.spelled.tokens h.names.spelled.lexed.tokenizes);
     beyond = λ h. absurd (no_tokens h.names.spelled.tokens h.names.spelled.lexed.tokenizes);
   });
-  refused = λ h. absurd (no_tokens h.names.spelled.tokens h.names.spelled.lexed.tokenizes);
+  accepted = λ h. absurd (no_tokens h.names.spelled.tokens h.names.spelled.lexed.tokenizes);
 }
 
 -- what a file spells, and that no name is at fault, is so by its tokens

@@ -51,7 +51,7 @@ settled_fault fault = by (fault_status fault)
 fault_decides : (file : List ℕ) (fault : FileFault) → IsOnlyFault file fault → Decides file (status_of_fault fault) (line_of fault)
 fault_decides file fault one = record {
   outcome = inr (record { fault = fault; has = one.has; status_is = refl; text_is = refl });
-  accepted = λ a today. absurd (today (one.refused a));
+  accepted = λ a today. absurd (today (one.accepted a));
   faulted = λ other h. (sym (ap status_of_fault (one.only other h)), sym (ap line_of (one.only other h)));
 }
 

@@ -95,7 +95,7 @@ module _ (file : List ℕ) (tokens : List Token) (are : AreTokensOf file tokens)
       limits = λ kind h. absurd (none h.names.parsed (resolved_by file tokens are h.resolved h.names));
       beyond = λ h. absurd (none h.names.parsed (resolved_by file tokens are h.resolved h.names));
     });
-    refused = λ h. absurd (none h.names.parsed (resolved_by file tokens are h.resolved h.names));
+    accepted = λ h. absurd (none h.names.parsed (resolved_by file tokens are h.resolved h.names));
   }
     where
       none : (v : Parsed) → SpellsFile (terminals_of file tokens) v → ⊥
@@ -132,7 +132,7 @@ module _ (file : List ℕ) (tokens : List Token) (are : AreTokensOf file tokens)
       limits = λ kind h. absurd (none h.names.parsed (resolved_by file tokens are h.resolved h.names));
       beyond = λ h. absurd (none h.names.parsed (resolved_by file tokens are h.resolved h.names));
     });
-    refused = λ h. absurd (none h.names.parsed (resolved_by file tokens are h.resolved h.names));
+    accepted = λ h. absurd (none h.names.parsed (resolved_by file tokens are h.resolved h.names));
   }
     where
       none : (v : Parsed) → SpellsFile (terminals_of file tokens) v → ⊥
@@ -176,7 +176,7 @@ module _ (file : List ℕ) (tokens : List Token) (are : AreTokensOf file tokens)
         limits = λ kind h. absurd (unsound h.resolved h.names);
         beyond = λ h. absurd (unsound h.resolved h.names);
       });
-      refused = λ h. absurd (unsound h.resolved h.names);
+      accepted = λ h. absurd (unsound h.resolved h.names);
     }
       where
         unsound : (resolved : Resolved) → IsResolved file resolved → ⊥

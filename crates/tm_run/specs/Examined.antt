@@ -31,7 +31,7 @@ use Rattle.tm_run.specs.declared.stop.Stop.TheVariants.{Fault, Memory}
 pub record IsOnlyFault (file : List ℕ) (fault : FileFault) : Type 0 where
   pub has : HasFault file fault
   pub only : (other : FileFault) → HasFault file other → other ≡ fault
-  pub refused : IsAccepted file → GoesBeyond file
+  pub accepted : IsAccepted file → GoesBeyond file
 
 -- the file stops there; a want of memory may come for any
 abbrev pub IsStop : List ℕ → Stop → Type 0
