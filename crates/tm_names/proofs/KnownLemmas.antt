@@ -1,6 +1,6 @@
 -- The number of what is found is below that of what there is.
-use Rattle.std.proofs.Common.{◌≡◌, ℕ, suc, ◌+◌, ◌<◌, refl, arith, Bool, true, false, if◌then◌else◌, List, [], ◌∷◌, length, map}
-use Rattle.std.specs.Prelude.{Option, Some, None, IsNone, cond, nat_lt, unwrap_or, option_map}
+use Rattle.std.proofs.Common.{◌≡◌, ℕ, suc, ◌+◌, ◌<◌, refl, arith, Bool, true, false, if◌then◌else◌, List, [], ◌∷◌, length, map, sym}
+use Rattle.std.specs.Prelude.{Option, Some, None, IsNone, cond, nat_lt, unwrap_or, option_map, IfSome}
 use Rattle.std.specs.List.{list_all, position_from}
 use Rattle.std.proofs.lemmas.Bool.{and_from, lt-ltb}
 use Rattle.std.proofs.lemmas.List.{length-map}
@@ -21,6 +21,10 @@ found_within test from (x ∷ xs) k e = go (test x) e (found_within test (from +
     go : (b : Bool) → cond b (Some from) (position_from test (from + 1) xs) ≡ Some k → (position_from test (from + 1) xs ≡ Some k → k < from + 1 + length xs) → k < from + suc (length xs)
     go true e rest = let same : from ≡ k = same_Some from k e in omega (arith, same)
     go false e rest = let h = rest e in omega (arith, h)
+
+pub each_found : {X : Type 0} (test : X → Bool) (xs : List X) (o : Option ℕ) → o ≡ position_from test 0 xs → IfSome o (λ k. k < length xs)
+each_found test xs None e = tt
+each_found test xs (Some k) e = let h = found_within test 0 xs k (sym e) in omega (arith, h)
 
 module _ (name : ℕ → List ℕ) where
   among_within : (sight : List ℕ) (place k : ℕ) → first_among name sight place ≡ Some k → k < length sight

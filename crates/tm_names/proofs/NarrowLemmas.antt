@@ -13,14 +13,14 @@ use Rattle.tm_base.specs.Whole.{is_alignment}
 use Rattle.tm_names.proofs.DefFormLemmas.{values_right}
 use Rattle.tm_names.proofs.Members.{Member}
 use Rattle.tm_names.proofs.ReprFormLemmas.{items_go_together}
-use Rattle.tm_names.proofs.TypeFormLemmas.{each_passes}
+use Rattle.tm_names.proofs.TypeFormLemmas.{each_passes, of_member}
 use Rattle.tm_names.proofs.ValueFormLemmas.{all_of_members, in_range}
 use Rattle.tm_names.proofs.ValueLemmas.{TagOk, tag_is_ok}
 use Rattle.tm_names.specs.Discriminants.{Valued, is_in_range, valued}
 use Rattle.tm_names.specs.Faults.{HasNoFault}
 use Rattle.tm_names.specs.Narrow.{IsItemNarrow, IsNarrow, is_value_narrow}
 use Rattle.tm_names.specs.Representations.{is_enum_form, is_form, is_struct_form, is_union_form, items_of, tag_of}
-use Rattle.tm_parse.specs.Bounds.{IsWithinLimits}
+use Rattle.tm_parse.specs.Bounds.{HasFewParts, IsWithinLimits}
 use Rattle.tm_parse.specs.declared.parsed.Decl.{Decl}
 use Rattle.tm_parse.specs.declared.parsed.DeclRepr.{DeclRepr}
 use Rattle.tm_parse.specs.declared.parsed.DeclVariant.{DeclVariant}
@@ -115,6 +115,7 @@ module _ (name : ℕ → List ℕ) (file : Parsed) (sound : HasNoFault name file
   decl_narrow : (d : Decl) → Member d file.decls → IsNarrow d
   decl_narrow d among = record {
     items = placed_narrow d.reprs (form_narrow d.kind d.variants (items_of d) (items_go_together name file sound d among));
+    params = let few = (of_member HasFewParts file.decls d within.parts among).parameters in omega (arith, few);
     values = each_passes (λ v. is_value_narrow v.value) (valued d.variants) each;
   }
     where

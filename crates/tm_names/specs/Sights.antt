@@ -6,5 +6,5 @@ use Rattle.tm_names.specs.declared.sight.Sight.TheVariants.{Params, Declared}
 use Rattle.tm_names.specs.Resolutions.{param_of, declared_of}
 
 abbrev pub life_in : (ℕ → List ℕ) → Sight → ℕ → Life
-life_in name (Params params) = param_of name params.now
-life_in name (Declared lifetimes) = declared_of name lifetimes.now
+life_in name (Params params) = param_of name params.places.now
+life_in name (Declared lifetimes) = declared_of name lifetimes.places.now

@@ -1,4 +1,4 @@
-ghost use Rattle.std.specs.Prelude.{◌≡◌, ◌<◌, ◌++◌, ◌∷◌, [], IfOk, OnOk};
+ghost use Rattle.std.specs.Prelude.{◌≡◌, ◌++◌, ◌∷◌, [], OnOk};
 
 use tm_base::{List, Memory};
 
@@ -9,19 +9,5 @@ pub fn add<T: Drop>(list: &mut List<T>, item: T) -> Result<(), Memory>
     match list.push(item) {
         Ok(()) => Ok(()),
         Err(_) => Err(Memory),
-    }
-}
-
-/// A place in a list as a number of 32 bits.
-///
-/// `Memory` comes where it takes more: a table of so many items isn't held.
-pub fn number(place: usize) -> Result<u32, Memory>
-    ensures same { IfOk result (λ number. number ≡ place) }
-    ensures small { IfOk result (λ number. number < 4294967295) }
-{
-    if place < 4294967295 {
-        Ok(place as u32)
-    } else {
-        Err(Memory)
     }
 }

@@ -1,4 +1,4 @@
-ghost use Rattle.std.specs.Prelude.{◌≡◌, ℕ, List, None, Some, IfOk, OnOk, if◌then◌else◌};
+ghost use Rattle.std.specs.Prelude.{◌≡◌, ℕ, ◌<◌, ◌≤◌, List, None, Some, IfOk, IfSome, OnOk, if◌then◌else◌, length};
 ghost use Rattle.std.specs.HashMap.{get_by};
 ghost use Rattle.std.specs.Option.{option_or};
 ghost use Rattle.std.specs.Str.{bytes_eq};
@@ -37,6 +37,7 @@ pub fn indexed<'a>(
     source: &Source<'a>,
     decls: &'a [Decl],
 ) -> Result<Definitions<'a>, Memory>
+    requires few { length decls.now ≤ 256 }
     ensures decls { IfOk result (λ definitions. definitions.decls.now ≡ decls.now) }
     ensures indexed { IfOk result (IsIndexed (names_in source.now)) }
 {
@@ -53,7 +54,8 @@ pub fn indexed<'a>(
 /// The number of the first definition that has the name of the token at a place.
 pub fn first_named(source: &Source, definitions: &Definitions, place: u32) -> Option<usize>
     requires { IsIndexed (names_in source.now) definitions.now }
-    ensures { result ≡ first_named (names_in source.now) definitions.now.decls.now place }
+    ensures first { result ≡ first_named (names_in source.now) definitions.now.decls.now place }
+    ensures within { IfSome result (λ number. number < length definitions.now.decls.now) }
 {
     definitions.firsts.get(name(source, place)).copied()
 }

@@ -1,4 +1,4 @@
-ghost use Rattle.std.specs.Prelude.{◌≡◌, All, IfOk, IsTrue, map, pos};
+ghost use Rattle.std.specs.Prelude.{◌≡◌, ◌≤◌, All, IfOk, IsTrue, length, map, pos};
 ghost use Rattle.std.specs.List.{list_all};
 ghost use Rattle.tm_names.specs.Discriminants.{valued};
 ghost use Rattle.tm_names.specs.Resolutions.{ask_of, bound_of, decl_types, def_of, field_of, regions_of, resolved_of, text_or_none, variant_of, variant_types};
@@ -13,7 +13,7 @@ use crate::indexed::Definitions;
 use crate::lives::bound;
 use crate::reprs::repr;
 use crate::resolved::{Open, OpenAsk, Resolved};
-use crate::sight::Sight;
+use crate::sight::{Lifetimes, Sight};
 use crate::source::Source;
 use crate::typing::resolve;
 use crate::value::Value;
@@ -114,10 +114,11 @@ fn field_types(
     params: &[u32],
     declared: &DeclVariant,
 ) -> Result<List<Open>, Memory>
-    requires { IsIndexed (names_in source.now) definitions.now }
+    requires indexed { IsIndexed (names_in source.now) definitions.now }
+    requires few { length params.now ≤ 16 }
     ensures { IfOk result (λ types. types ≡ variant_types (names_in source.now) definitions.now.decls.now params.now declared.now) }
 {
-    let sight = Sight::Params(params);
+    let sight = Sight::Params(Lifetimes { places: params });
     let mut types = List::new(alloc);
     for field in declared.fields.as_slice() {
         let ty = resolve(alloc, source, definitions, &sight, &field.ty)?;
@@ -133,7 +134,8 @@ fn types(
     definitions: &Definitions,
     declared: &Decl,
 ) -> Result<List<List<Open>>, Memory>
-    requires { IsIndexed (names_in source.now) definitions.now }
+    requires indexed { IsIndexed (names_in source.now) definitions.now }
+    requires few { length declared.now.params ≤ 16 }
     ensures { IfOk result (λ types. types ≡ decl_types (names_in source.now) definitions.now.decls.now declared.now) }
 {
     let mut types = List::new(alloc);
@@ -170,7 +172,8 @@ fn all_types(
     source: &Source,
     definitions: &Definitions,
 ) -> Result<List<List<List<Open>>>, Memory>
-    requires { IsIndexed (names_in source.now) definitions.now }
+    requires indexed { IsIndexed (names_in source.now) definitions.now }
+    requires narrow { All IsNarrow definitions.now.decls.now }
     ensures { IfOk result (λ found. found ≡ map (decl_types (names_in source.now) definitions.now.decls.now) definitions.now.decls.now) }
 {
     let mut found = List::new(alloc);
@@ -201,15 +204,14 @@ fn all_regions(alloc: Global, source: &Source, lifetimes: &[u32]) -> Result<List
 fn all_bounds(
     alloc: Global,
     source: &Source,
-    lifetimes: &[u32],
+    lifetimes: &Lifetimes,
     declared: &[DeclBound],
 ) -> Result<List<Bound>, Memory>
-    ensures { IfOk result (λ bounds. bounds ≡ map (bound_of (names_in source.now) lifetimes.now) declared.now) }
+    ensures { IfOk result (λ bounds. bounds ≡ map (bound_of (names_in source.now) lifetimes.now.places.now) declared.now) }
 {
     let mut bounds = List::new(alloc);
     for item in declared {
-        let bound = bound(source, lifetimes, item)?;
-        add(&mut bounds, bound)?;
+        add(&mut bounds, bound(source, lifetimes, item))?;
     }
     Ok(bounds)
 }
@@ -224,9 +226,12 @@ fn question(
 ) -> Result<OpenAsk, Memory>
     requires indexed { IsIndexed (names_in source.now) definitions.now }
     requires same { definitions.now.decls.now ≡ parsed.now.decls }
+    requires few { length parsed.now.lifetimes ≤ 16 }
     ensures { IfOk result (λ ask. ask ≡ ask_of (names_in source.now) parsed.now declared.now) }
 {
-    let sight = Sight::Declared(parsed.lifetimes.as_slice());
+    let sight = Sight::Declared(Lifetimes {
+        places: parsed.lifetimes.as_slice(),
+    });
     Ok(OpenAsk {
         src: resolve(alloc, source, definitions, &sight, &declared.src)?,
         dst: resolve(alloc, source, definitions, &sight, &declared.dst)?,
@@ -243,6 +248,7 @@ fn all_questions(
 ) -> Result<List<OpenAsk>, Memory>
     requires indexed { IsIndexed (names_in source.now) definitions.now }
     requires same { definitions.now.decls.now ≡ parsed.now.decls }
+    requires few { length parsed.now.lifetimes ≤ 16 }
     ensures { IfOk result (λ asks. asks ≡ map (ask_of (names_in source.now) parsed.now) parsed.now.questions) }
 {
     let mut asks = List::new(alloc);
@@ -264,6 +270,7 @@ pub fn resolved(
     requires indexed { IsIndexed (names_in source.now) definitions.now }
     requires same { definitions.now.decls.now ≡ parsed.now.decls }
     requires narrow { All IsNarrow definitions.now.decls.now }
+    requires few { length parsed.now.lifetimes ≤ 16 }
     ensures { IfOk result (λ found. found ≡ resolved_of (names_in source.now) parsed.now) }
 {
     let lifetimes = parsed.lifetimes.as_slice();
@@ -271,7 +278,12 @@ pub fn resolved(
         defs: all_definitions(alloc, source, definitions.decls)?,
         types: all_types(alloc, source, definitions)?,
         regions: all_regions(alloc, source, lifetimes)?,
-        bounds: all_bounds(alloc, source, lifetimes, parsed.bounds.as_slice())?,
+        bounds: all_bounds(
+            alloc,
+            source,
+            &Lifetimes { places: lifetimes },
+            parsed.bounds.as_slice(),
+        )?,
         asks: all_questions(alloc, source, definitions, parsed)?,
     })
 }

@@ -1,4 +1,4 @@
-ghost use Rattle.std.specs.Prelude.{◌≡◌, slice_range};
+ghost use Rattle.std.specs.Prelude.{◌≡◌, ◌<◌, IfSome, length, slice_range};
 ghost use Rattle.tm_names.specs.Written.{first_among, is_among, is_reserved, is_same, is_static};
 ghost use Rattle.tm_names.specs.Source.{names_in};
 
@@ -52,7 +52,8 @@ pub fn is_among(source: &Source, places: &[u32], place: u32) -> bool
 
 /// The number of the first of these places that has the name of the token at a place.
 pub fn first_among(source: &Source, places: &[u32], place: u32) -> Option<usize>
-    ensures { result ≡ first_among (names_in source.now) places.now place }
+    ensures first { result ≡ first_among (names_in source.now) places.now place }
+    ensures within { IfSome result (λ number. number < length places.now) }
 {
     for (number, other) in places.iter().enumerate() {
         if is_same(source, *other, place) {

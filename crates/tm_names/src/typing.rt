@@ -4,7 +4,7 @@ ghost use Rattle.tm_names.specs.Sights.{life_in};
 ghost use Rattle.tm_names.specs.Indexing.{IsIndexed};
 ghost use Rattle.tm_names.specs.Source.{names_in};
 
-use crate::adding::{add, number};
+use crate::adding::add;
 use crate::definitions::first_named;
 use crate::indexed::Definitions;
 use crate::lives::life;
@@ -16,13 +16,13 @@ use tm_base::{Boxed, DefId, List, Memory};
 use tm_parse::Expr;
 
 /// The first definition that has the name of the token at a place.
-fn definition(source: &Source, definitions: &Definitions, place: u32) -> Result<DefId, Memory>
+fn definition(source: &Source, definitions: &Definitions, place: u32) -> DefId
     requires { IsIndexed (names_in source.now) definitions.now }
-    ensures { IfOk result (λ id. id ≡ def_id (names_in source.now) definitions.now.decls.now place) }
+    ensures { result ≡ def_id (names_in source.now) definitions.now.decls.now place }
 {
     match first_named(source, definitions, place) {
-        None => Ok(DefId(0)),
-        Some(place) => Ok(DefId(number(place)?)),
+        None => DefId(0),
+        Some(number) => DefId(number as u32),
     }
 }
 
@@ -37,8 +37,7 @@ fn lives(
 {
     let mut lives = List::new(alloc);
     for place in places {
-        let life = life(source, sight, *place)?;
-        add(&mut lives, life)?;
+        add(&mut lives, life(source, sight, *place))?;
     }
     Ok(lives)
 }
@@ -73,12 +72,12 @@ pub fn resolve(
             Ok(Open::Wrap(*wrapper, Boxed::new(alloc, argument)?))
         }
         Expr::Named(place, lifetimes) => {
-            let definition = definition(source, definitions, *place)?;
+            let definition = definition(source, definitions, *place);
             let lives = lives(alloc, source, sight, lifetimes.as_slice())?;
             Ok(Open::Named(definition, lives))
         }
         Expr::Ref(place, mutable, pointee) => {
-            let life = life(source, sight, *place)?;
+            let life = life(source, sight, *place);
             let pointee = resolve(alloc, source, definitions, sight, pointee.get())?;
             Ok(Open::Ref(life, *mutable, Boxed::new(alloc, pointee)?))
         }

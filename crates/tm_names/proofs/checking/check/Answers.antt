@@ -1,4 +1,4 @@
-use Rattle.std.proofs.Common.{◌∙◌, sym, ap, inl, subst, All, ◌<◌, length}
+use Rattle.std.proofs.Common.{◌∙◌, sym, ap, inl, subst, arith, All, ◌<◌, length}
 use Rattle.tm_names.proofs.FirstLemmas.{first_stands, no_first, nothing_stands, one_first}
 use Rattle.tm_names.proofs.InFormLemmas.{resolved_in_form, spelled_placed, spelled_within}
 use Rattle.tm_names.specs.declared.fault.NameErr.TheVariants.{Fault}
@@ -23,6 +23,17 @@ pub returns-in-Ok-Some-clause-faults : goal.returns-in-Ok-Some-clause-faults
 returns-in-Ok-Some-clause-faults c = λ why place h.
     let same = one_first (name_at c.args.text.now c.args.tokens.now) c.args.parsed.now why place h c.in-Ok-Some.fault (sym c.in-Ok-Some.ensures ∙ c.in-Ok-Some.field-0-is) in
     inl (ap (λ kind. Fault kind c.in-Ok-Some.fault.place) same.0 ∙ ap (λ there. Fault why there) same.1)
+
+pub indexed-requires : goal.indexed-requires
+indexed-requires c =
+    let within = spelled_within c.args.text.now c.args.tokens.now c.args.parsed.now c.requires.spelled in
+    let few = within.items.definitions in
+    record { few = omega (arith, few, ap length c.as_slice.ensures) }
+
+pub resolved-requires-clause-few : goal.resolved-requires-clause-few
+resolved-requires-clause-few c =
+    let within = spelled_within c.args.text.now c.args.tokens.now c.args.parsed.now c.requires.spelled in
+    within.items.lifetimes
 
 pub resolved-requires-clause-narrow : goal.resolved-requires-clause-narrow
 resolved-requires-clause-narrow c =

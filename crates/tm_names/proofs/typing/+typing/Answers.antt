@@ -16,4 +16,4 @@ resolve-returns-in_ok-new-in-Wrap t c =
 
 pub resolve-returns-in_ok-new-in-Ref : goal.resolve-returns-in_ok-new-in-Ref
 resolve-returns-in_ok-new-in-Ref t c =
-    rw (c.in-Ref.is, type_of_ref, ← c.in_ok-life-in-Ref.ensures, ← c.get-in-Ref.ensures, ← c.in_ok-pointee-in-Ref.ensures, c.in_ok-new-in-Ref.ensures) refl
+    rw (c.in-Ref.is, type_of_ref, ← c.life-life.ensures, ← c.get-in-Ref.ensures, ← c.in_ok-pointee-in-Ref.ensures, c.in_ok-new-in-Ref.ensures) refl
