@@ -68,6 +68,7 @@ returns-clause-indexed c =
     let name = names_in c.args.source.now in
     let decls = c.args.decls.now in
     record {
+      few = c.requires.few;
       found = λ bytes.
           let test : Decl → Bool = λ decl. bytes_eq (name decl.name) bytes in
           let o = get_by (λ k. bytes_eq bytes k.now) c.definitions.firsts in
