@@ -27,3 +27,5 @@ pub mod TextLemmas
 pub mod OrderLemmas
 pub mod BelongsLemmas
 pub mod SampleForm
+pub mod WordLemmas
+pub mod ApartTexts
