@@ -28,4 +28,7 @@ pub mod OrderLemmas
 pub mod BelongsLemmas
 pub mod SampleForm
 pub mod WordLemmas
+pub mod PieceLemmas
+pub mod NameLemmas
 pub mod ApartTexts
+pub mod ApartRefs

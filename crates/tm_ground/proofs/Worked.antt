@@ -3,7 +3,9 @@
 --     lifetime 'a;
 --     struct Node<'x> { next: &'x Node<'x>, mark: PhantomData<(u8,)> }
 --     ask Node<'a> => [u8; 2];
-use Rattle.std.proofs.Common.{◌≡◌, false, true, refl, [], ◌∷◌, arith}
+use Rattle.std.proofs.Common.{◌≡◌, ◌≢◌, ℕ, zero, suc, ◌<◌, false, true, refl, List, [], ◌∷◌, get_or, arith}
+use Rattle.std.specs.Prelude.{codes}
+use Rattle.tm_base.specs.declared.definition.Def.{Def}
 use Rattle.tm_base.specs.declared.definition.DefId.{DefId}
 use Rattle.tm_base.specs.declared.definition.NamedRow.{NamedRow}
 use Rattle.tm_base.specs.declared.definition.RefRow.{RefRow}
@@ -15,6 +17,7 @@ use Rattle.tm_names.specs.declared.resolved.Life.TheVariants as life
 use Rattle.tm_names.specs.declared.resolved.Open.{Prim, Tuple, Array, Wrap, Named, Ref}
 use Rattle.tm_names.specs.declared.resolved.Open.TheBlock.{shape-the_row-Open-1, hidden-the_row-Open-1}
 use Rattle.tm_names.specs.declared.resolved.Resolved.{Resolved}
+use Rattle.tm_ground.specs.ApartNames.{is_word_byte, is_own_name, HasApartNames}
 use Rattle.tm_ground.specs.Belongs.{StandsFor}
 use Rattle.tm_ground.specs.Closed.{Closed, prim, tuple, array, wrap, named, ref, no_elements, element, put_in}
 use Rattle.tm_ground.specs.Limits.{depth_passes}
@@ -82,3 +85,23 @@ ref_row = record { mutable = false; region = region_a; pointee = ground_is.Named
 stands : StandsFor (row ∷ []) (ref_row ∷ []) ref_node_a (ground_is.Ref (record { 0 = 0 }))
 unfolding StandsFor
 stands = (record { 0 = 0 }, refl, ref_row, refl, refl, refl, (record { 0 = 0 }, refl, row, refl, refl))
+
+-- the names of the whole file are apart, and no definition could have the name of a primitive
+names_apart : (def : Def) → def.name ≡ codes "Node" → HasApartNames (record file { defs = def ∷ []; regions = codes "'static" ∷ codes "'a" ∷ [] })
+unfolding is_own_name is_word_byte
+names_apart def e = record {
+  own_names = rw e refl;
+  names_distinct = record { apart = λ i j d k l s. absurd (omega (arith, k, l)) };
+  region_words = refl;
+  regions_distinct = record { apart = two };
+}
+  where
+    two : (i j : ℕ) (d : List ℕ) → i < j → j < 2 → get_or (codes "'static" ∷ codes "'a" ∷ []) i d ≢ get_or (codes "'static" ∷ codes "'a" ∷ []) j d
+    two zero zero d k l s = omega (arith, k)
+    two zero (suc zero) d k l s = cc
+    two zero (suc (suc j)) d k l s = omega (arith, l)
+    two (suc i) j d k l s = omega (arith, k, l)
+
+name_taken : is_own_name (codes "u8") ≡ false
+unfolding is_own_name is_word_byte
+name_taken = refl
