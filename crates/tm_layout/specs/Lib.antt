@@ -1,0 +1,4 @@
+pub mod Refusals
+pub mod Known
+pub mod Made
+pub mod Named
