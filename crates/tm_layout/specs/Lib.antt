@@ -2,3 +2,4 @@ pub mod Refusals
 pub mod Known
 pub mod Made
 pub mod Named
+pub mod Capped
