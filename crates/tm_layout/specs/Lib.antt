@@ -3,3 +3,5 @@ pub mod Known
 pub mod Made
 pub mod Named
 pub mod Capped
+pub mod Together
+pub mod Reckoned

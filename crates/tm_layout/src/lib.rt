@@ -3,7 +3,9 @@
 #![tactic(auto)]
 
 mod facts;
+pub mod fields;
 mod layouts;
+pub mod parts;
 mod refused;
 mod row;
 
