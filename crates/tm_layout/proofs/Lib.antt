@@ -1,3 +1,4 @@
 pub mod RefusalLemmas
 pub mod FactLemmas
 pub mod ReckonLemmas
+pub mod EnumLemmas

@@ -1,8 +1,8 @@
 -- Sums and roundings that are cut off at the greatest `u32`, as they are reckoned.
-use Rattle.std.proofs.Common.{◌≡◌, ℕ, zero, suc, ◌+◌, ◌-◌, ◌*◌, ◌%◌, ◌^◌, ◌≤◌, ◌<◌, max, min, refl, sym, ap, ◌∙◌, subst, ◌⊎◌, inl, inr, ⊎_elim, List, [], ◌∷◌, Option, Some, None, map, drop, length, get_or, arith}
+use Rattle.std.proofs.Common.{◌≡◌, ℕ, zero, suc, ◌+◌, ◌-◌, ◌%◌, ◌^◌, ◌≤◌, ◌<◌, min, sym, ap, ◌∙◌, ◌⊎◌, inl, inr, ⊎_elim, List, [], ◌∷◌, Option, drop, length, get_or, arith}
 use Rattle.std.proofs.Math.ListN.{drop_of_length-le}
 use Rattle.std.proofs.Math.Seq.{drop-cons}
-use Rattle.tm_base.specs.Layout.{Layout, round_up, lowered, place_at, end_of, greatest_align}
+use Rattle.tm_base.specs.Layout.{Layout, round_up, place_at, end_of, greatest_align}
 use Rattle.tm_layout.specs.declared.facts.Facts.{Facts}
 use Rattle.tm_layout.specs.Capped.{capped}
 use Rattle.tm_layout.specs.Reckoned.{end_at, layout_in, layouts_in}

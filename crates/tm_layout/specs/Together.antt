@@ -1,5 +1,5 @@
 -- What is known of some types together.
-use Rattle.std.specs.Prelude.{Bool, false, ◌||◌, None, List, [], ◌∷◌}
+use Rattle.std.specs.Prelude.{false, ◌||◌, None, List, [], ◌∷◌}
 use Rattle.tm_base.specs.Faults.{or_else}
 use Rattle.tm_layout.specs.declared.facts.Facts.{Facts}
 use Rattle.tm_layout.specs.declared.parts.Parts.{Parts}

@@ -2,12 +2,16 @@
 //! Reference, "Type layout".
 #![tactic(auto)]
 
+mod enums;
 mod facts;
-pub mod fields;
+mod fields;
 mod layouts;
-pub mod parts;
+mod parts;
 mod refused;
 mod row;
+mod transparent;
+mod unions;
+mod weights;
 
 pub use layouts::{Layout, Layouts};
 pub use refused::first_refused;
