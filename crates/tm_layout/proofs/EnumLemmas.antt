@@ -46,6 +46,7 @@ pair-capped tag u k r known pair =
     } where
       pair_size : ℕ → ℕ → ℕ
       pair_size align size = (struct_layout None None (tag ∷ record { size = size; align = align } ∷ [])).size
+
       above : (align size : ℕ) → size ≤ pair_size align size
       above align size = omega arith
 
@@ -56,5 +57,5 @@ enum-c repr vs tag k r c t known pair =
     let u = union_layout None None (structs [] vs) in
     let exact : IsCapped u k = subst (λ ss. IsCapped (union_layout None None ss) k) (structs-empty vs) known in
     let made : IsCapped (struct_layout None None (tag_layout repr.tag ∷ u ∷ [])) r =
-        pair-capped (tag_layout repr.tag) u k r exact (subst (λ l. IsCapped (struct_layout None None (l ∷ shape k ∷ [])) r) t pair) in
+    pair-capped (tag_layout repr.tag) u k r exact (subst (λ l. IsCapped (struct_layout None None (l ∷ shape k ∷ [])) r) t pair) in
     subst (λ b. IsCapped (if b then struct_layout None None (tag_layout repr.tag ∷ u ∷ []) else union_layout None None (structs (tag_layout repr.tag ∷ []) vs)) r) (sym c) made

@@ -26,7 +26,7 @@ abbrev pub whole_facts : Bool → ℕ → ℕ → ℕ → Facts
 whole_facts nullable size align weight =
     record { fault = None; refusal = None; nullable = nullable; aligned = false; interior = false; size = size; align = align; weight = weight }
 
-prim_size-small : (p : Primitive) → prim_size p ≤ 16
+pub prim_size-small : (p : Primitive) → prim_size p ≤ 16
 prim_size-small P.Bool = omega arith
 prim_size-small P.Char = omega arith
 prim_size-small P.U8 = omega arith
@@ -164,7 +164,7 @@ capped-past w = ap (λ b. when b TooLarge) (past w) where
 pub composed-facts : (t : Expanded) (r : Facts) (below given : Option Why) → part_at_fault t ≡ is_some below → refusal_of t ≡ or_else (fault_of t) below
     → (below ≡ None → given ≡ layout_fault t) → r.fault ≡ first_fault (own_fault t) below given → r.refusal ≡ option_or r.fault below
     → r.nullable ≡ is_nullable t → r.aligned ≡ some_within has_align t → r.interior ≡ has_interior t
-    → (below ≡ None → weight_of t ≤ weight_limit → HasLayout t r) → IsFactsOf t r
+    → (below ≡ None → fault_of t ≡ None → weight_of t ≤ weight_limit → HasLayout t r) → IsFactsOf t r
 composed-facts t r below given p q g f e nullable aligned interior layout =
     let fault : r.fault ≡ fault_of t = f ∙ fault-from t below given p g in record {
       fault = fault;
@@ -175,7 +175,8 @@ composed-facts t r below given p q g f e nullable aligned interior layout =
       layout = λ h.
           let both : or_else (fault_of t) below ≡ None = sym q ∙ h in
           let none : below ≡ None = none-second (fault_of t) below both in
-          layout none (light-from t (p ∙ ap is_some none) (none-first (fault_of t) below both));
+          let sound : fault_of t ≡ None = none-first (fault_of t) below both in
+          layout none sound (light-from t (p ∙ ap is_some none) sound);
     }
 
 -- ---- arrays
@@ -194,7 +195,7 @@ array-facts t n e r known f q nullable aligned interior size align weight =
     (ap (λ x. or_else (fault_of (array t n)) x) (sym known.refusal))
     (λ none. array-past (n * weight_of t) r.weight (weight ∙ ap (λ (w : ℕ). max (capped (n * w)) 1) (known.layout (sym known.refusal ∙ none)).weight))
     f q nullable (aligned ∙ known.aligned) (interior ∙ known.interior)
-    (λ none small. array-layout t n e r (known.layout (sym known.refusal ∙ none)) size align weight small) where
+    (λ none sound small. array-layout t n e r (known.layout (sym known.refusal ∙ none)) size align weight small) where
       array-layout : (t : Expanded) (n : ℕ) (e r : Facts) → HasLayout t e → r.size ≡ capped (n * e.size) → r.align ≡ e.align → r.weight ≡ max (capped (n * e.weight)) 1 → weight_of (array t n) ≤ weight_limit → HasLayout (array t n) r
       array-layout t n e r l size align weight small =
           let s = l.size in
@@ -230,7 +231,7 @@ wrapped-facts w t e r known f q nullable aligned interior size align weight =
     (λ none. let l = known.layout (sym known.refusal ∙ none) in wrapped-past (weight_of t + wrapper_weight w (size_of t)) r.weight (weight ∙ ap (λ (k : ℕ). capped (k + wrapper_weight w e.size)) l.weight ∙ ap (λ (k : ℕ). capped (weight_of t + wrapper_weight w k)) l.size))
     (f ∙ ap (λ b. first_fault (when (is_option w && not b) OptionNotListed) e.refusal (weight_fault r.weight)) known.nullable)
     q nullable (aligned ∙ known.aligned) (interior ∙ ap (λ b. is_cell_wrapper w || b) known.interior)
-    (λ none small. wrapped-layout w t e r (known.layout (sym known.refusal ∙ none)) size align weight small) where
+    (λ none sound small. wrapped-layout w t e r (known.layout (sym known.refusal ∙ none)) size align weight small) where
       wrapped-layout : (w : Wrapper) (t : Expanded) (e r : Facts) → HasLayout t e → r.size ≡ e.size → r.align ≡ e.align → r.weight ≡ capped (e.weight + wrapper_weight w e.size) → weight_of (wrap w t) ≤ weight_limit → HasLayout (wrap w t) r
       wrapped-layout w t e r l size align weight small =
           let s = l.size in

@@ -48,7 +48,7 @@ mutual
       let b = field_at_fault-faulty rest in
       ap (λ b. (is_some (fault_over (part_at_fault t) t) || b) || field_at_fault rest) a ∙ ap (λ b. (is_some (fault_over (part_at_fault t) t) || some_part is_faulty t) || b) b
 
-  variant_at_fault-faulty : (variants : Variants) → variant_at_fault variants ≡ some_variant is_faulty variants
+  pub variant_at_fault-faulty : (variants : Variants) → variant_at_fault variants ≡ some_variant is_faulty variants
   variant_at_fault-faulty no_variants = refl
   variant_at_fault-faulty (variant value members rest) =
       let a = field_at_fault-faulty members in

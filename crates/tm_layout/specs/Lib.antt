@@ -5,3 +5,4 @@ pub mod Named
 pub mod Capped
 pub mod Together
 pub mod Reckoned
+pub mod Defined

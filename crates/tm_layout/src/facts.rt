@@ -1,18 +1,14 @@
-ghost use Rattle.std.specs.Prelude.{◌≡◌, ◌&&◌, false, not};
+ghost use Rattle.std.specs.Prelude.{◌≡◌, false};
 ghost use Rattle.tm_base.specs.declared.cell.RefId.{RefId};
-ghost use Rattle.tm_base.specs.declared.answer.Why.TheVariants.{OptionNotListed};
-ghost use Rattle.tm_base.specs.Expanded.{Expanded, Fields, Variants, array, named, never, nonzero, phantom, prim, ref, tuple, unit, wrap};
-ghost use Rattle.tm_base.specs.Faults.{has_align, when};
+ghost use Rattle.tm_base.specs.Expanded.{Fields, never, nonzero, phantom, prim, ref, tuple, unit};
+ghost use Rattle.tm_base.specs.Faults.{has_align};
 ghost use Rattle.tm_base.specs.Layout.{prim_size};
-ghost use Rattle.tm_base.specs.Parts.{is_cell as cell, is_cell_wrapper, is_option, some_field};
-ghost use Rattle.tm_base.specs.Weight.{wrapper_weight};
-ghost use Rattle.tm_layout.specs.Capped.{first_fault, weight_fault};
+ghost use Rattle.tm_base.specs.Parts.{is_cell, some_field};
 ghost use Rattle.tm_layout.specs.Known.{IsFactsOf};
 
-use tm_base::{Primitive, Why, Wrapper};
-
-/// The greatest weight of a type that isn't too large.
-const WEIGHT_LIMIT: u32 = 65_536;
+pub use crate::definitions::defined;
+pub use crate::wrappers::{array, wrapped};
+use tm_base::{Primitive, Why};
 
 /// What is known of a type.
 ///
@@ -95,7 +91,7 @@ pub fn nonzero(p: Primitive) -> Facts
 
 /// What is known of a tuple, by whether an element is or holds a type with `align`, or a cell.
 pub fn tuple(aligned: bool, interior: bool) -> Facts
-    ensures { (members : Fields) → aligned ≡ some_field has_align members → interior ≡ some_field cell members → IsFactsOf (tuple members) result }
+    ensures { (members : Fields) → aligned ≡ some_field has_align members → interior ≡ some_field is_cell members → IsFactsOf (tuple members) result }
 {
     Facts {
         fault: Some(Why::Tuple),
@@ -103,89 +99,5 @@ pub fn tuple(aligned: bool, interior: bool) -> Facts
         aligned,
         interior,
         ..whole(false, 0, 1, 1)
-    }
-}
-
-/// The fault of a weight: that it is too large.
-pub fn weight_fault(weight: u32) -> Option<Why>
-    ensures { result ≡ weight_fault weight }
-{
-    if weight > WEIGHT_LIMIT {
-        Some(Why::TooLarge)
-    } else {
-        None
-    }
-}
-
-/// The first fault of a type: its own, or else its layout's where no part has a cause.
-pub fn first_fault(own: Option<Why>, below: Option<Why>, layout: Option<Why>) -> Option<Why>
-    ensures { result ≡ first_fault own below layout }
-{
-    match own {
-        Some(why) => Some(why),
-        None if below.is_some() => None,
-        None => layout,
-    }
-}
-
-/// What is known of an array.
-pub fn array(element: Facts, length: u32) -> Facts
-    ensures { (t : Expanded) → IsFactsOf t element → IsFactsOf (array t length) result }
-{
-    let weight = length.saturating_mul(element.weight).max(1);
-    let fault = first_fault(None, element.refusal, weight_fault(weight));
-    Facts {
-        fault,
-        refusal: fault.or(element.refusal),
-        nullable: false,
-        size: length.saturating_mul(element.size),
-        weight,
-        ..element
-    }
-}
-
-/// What a wrapper adds to its argument's weight, where that has so many bytes.
-fn added_weight(wrapper: Wrapper, size: u32) -> u32
-    ensures { result ≡ wrapper_weight wrapper size }
-{
-    match wrapper {
-        Wrapper::Option | Wrapper::MaybeUninit => size,
-        _ => 0,
-    }
-}
-
-/// The fault of a wrapper that is asked whatever its argument is: `Option` of a type that isn't nullable.
-fn wrapper_fault(wrapper: Wrapper, nullable: bool) -> Option<Why>
-    ensures { result ≡ when (is_option wrapper && not nullable) OptionNotListed }
-{
-    match wrapper {
-        Wrapper::Option if !nullable => Some(Why::OptionNotListed),
-        _ => None,
-    }
-}
-
-/// Whether a wrapper's value may change behind a shared reference.
-fn is_cell(wrapper: Wrapper) -> bool
-    ensures { result ≡ is_cell_wrapper wrapper }
-{
-    matches!(wrapper, Wrapper::Cell | Wrapper::UnsafeCell)
-}
-
-/// What is known of a wrapper of a type.
-pub fn wrapped(wrapper: Wrapper, argument: Facts) -> Facts
-    ensures { (t : Expanded) → IsFactsOf t argument → IsFactsOf (wrap wrapper t) result }
-{
-    let weight = argument
-        .weight
-        .saturating_add(added_weight(wrapper, argument.size));
-    let own = wrapper_fault(wrapper, argument.nullable);
-    let fault = first_fault(own, argument.refusal, weight_fault(weight));
-    Facts {
-        fault,
-        refusal: fault.or(argument.refusal),
-        nullable: false,
-        interior: is_cell(wrapper) || argument.interior,
-        weight,
-        ..argument
     }
 }

@@ -1,10 +1,11 @@
 ghost use Rattle.std.specs.Prelude.{◌≡◌};
 ghost use Rattle.tm_base.specs.Layout.{end_of, filled, greatest_align, lowered, place_at, raised, round_up, struct_layout};
 ghost use Rattle.tm_layout.specs.Capped.{capped};
-ghost use Rattle.tm_layout.specs.Reckoned.{IsCapped, end_at, layout_in, layouts_in, shape};
+ghost use Rattle.tm_layout.specs.Reckoned.{IsCapped, end_at, layout_in, layouts_in, only_fields, shape};
 
 use crate::facts::Facts;
 use crate::layouts::Layout;
+use tm_base::List;
 
 /// The least multiple of an alignment that isn't below a number, or the greatest `u32` where that is less.
 pub fn round_up(n: u32, align: u32) -> u32
@@ -98,4 +99,14 @@ pub fn struct_layout(packed: Option<u32>, align: Option<u32>, fields: &[Facts]) 
 {
     let end = end_of(packed, 0, fields);
     filled(end, raised(align, greatest_align(packed, fields)))
+}
+
+/// The fields of a struct or a union.
+pub fn only(variants: &[List<Facts>]) -> &[Facts]
+    ensures { result.now ≡ only_fields variants.now }
+{
+    match variants {
+        [] => &[],
+        [fields, ..] => fields.as_slice(),
+    }
 }

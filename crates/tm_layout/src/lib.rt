@@ -2,8 +2,10 @@
 //! Reference, "Type layout".
 #![tactic(auto)]
 
+mod definitions;
 mod enums;
 mod facts;
+mod faults;
 mod fields;
 mod layouts;
 mod parts;
@@ -12,6 +14,7 @@ mod row;
 mod transparent;
 mod unions;
 mod weights;
+mod wrappers;
 
 pub use layouts::{Layout, Layouts};
 pub use refused::first_refused;

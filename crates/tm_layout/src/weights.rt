@@ -1,20 +1,11 @@
 ghost use Rattle.std.specs.Prelude.{◌≡◌};
 ghost use Rattle.tm_layout.specs.Capped.{capped};
-ghost use Rattle.tm_layout.specs.Reckoned.{only_fields, variant_sum, weight_in, weight_sum};
+ghost use Rattle.tm_layout.specs.Reckoned.{variant_sum, weight_in, weight_sum};
 
 use crate::enums::tag_layout;
 use crate::facts::Facts;
+use crate::fields::only;
 use tm_base::{Kind, List, Repr};
-
-/// The fields of a struct or a union.
-pub fn only(variants: &[List<Facts>]) -> &[Facts]
-    ensures { result.now ≡ only_fields variants.now }
-{
-    match variants {
-        [] => &[],
-        [fields, ..] => fields.as_slice(),
-    }
-}
 
 /// The weights of some fields together, each counted as `least` at least.
 fn weight_sum(least: u32, fields: &[Facts]) -> u32

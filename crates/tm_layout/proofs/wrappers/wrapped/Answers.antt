@@ -1,7 +1,7 @@
 use Rattle.std.proofs.Common.{ℕ, ◌+◌, refl, sym, ap, ◌∙◌, ◌||◌}
 use Rattle.tm_layout.specs.Capped.{capped, first_fault, weight_fault}
 use Rattle.tm_layout.proofs.FactLemmas.{wrapped-facts}
-use Rattle.tm_layout.proofs.facts.wrapped.Goals as goal
+use Rattle.tm_layout.proofs.wrappers.wrapped.Goals as goal
 
 pub returns-then-is_cell : goal.returns-then-is_cell
 returns-then-is_cell c t known =

@@ -1,7 +1,7 @@
 use Rattle.std.proofs.Common.{ℕ, max, refl, ap, ◌∙◌, None}
 use Rattle.tm_layout.specs.Capped.{first_fault}
 use Rattle.tm_layout.proofs.FactLemmas.{array-facts}
-use Rattle.tm_layout.proofs.facts.array.Goals as goal
+use Rattle.tm_layout.proofs.wrappers.array.Goals as goal
 
 pub returns : goal.returns
 returns c t known =

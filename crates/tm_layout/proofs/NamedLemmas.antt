@@ -1,0 +1,111 @@
+-- What is known of a named type, from what is known of the fields of its definition.
+use Rattle.std.proofs.Common.{◌≡◌, ℕ, ◌^◌, ◌≤◌, refl, sym, ap, ◌∙◌, Bool, true, false, ◌||◌, ◌&&◌, Option, None, List, arith}
+use Rattle.std.specs.Option.{is_some, option_or}
+use Rattle.tm_base.specs.declared.answer.Why.{Why}
+use Rattle.tm_base.specs.declared.answer.Why.TheVariants.{NoRepr, CEnumRange, TransparentFields, PackedHoldsAlign}
+use Rattle.tm_base.specs.declared.definition.Kind.{Kind}
+use Rattle.tm_base.specs.declared.definition.Repr.{Repr}
+use Rattle.tm_base.specs.declared.definition.Variant.{Variant}
+use Rattle.tm_base.specs.declared.ground.NamedId.{NamedId}
+use Rattle.tm_base.specs.Expanded.{Variants, named}
+use Rattle.tm_base.specs.Faults.{fault_of, own_fault, layout_fault, part_at_fault, has_two_sized, lacks_repr, lacks_range, has_align, when, or_else}
+use Rattle.tm_base.specs.Layout.{layout_of, size_of, align_of, named_layout, variant_layouts}
+use Rattle.tm_base.specs.Parts.{some_part, some_variant}
+use Rattle.tm_base.specs.Weight.{weight_of, weight_limit}
+use Rattle.tm_layout.specs.declared.facts.Facts.{Facts}
+use Rattle.tm_layout.specs.Capped.{capped, first_fault, weight_fault}
+use Rattle.tm_layout.specs.Defined.{lacks_range_in, two_sized_in, layout_fault_in, nullable_in}
+use Rattle.tm_layout.specs.Known.{AreVariantFacts, AreVariantsFor, HasLayout, IsFactsOf}
+use Rattle.tm_layout.specs.Reckoned.{variant_layouts_in, weight_in}
+use Rattle.tm_layout.specs.Refusals.{refusal_of, variant_refusal}
+use Rattle.tm_layout.specs.Together.{variants_together}
+use Rattle.tm_layout.proofs.FactLemmas.{capped-past, composed-facts}
+use Rattle.tm_layout.proofs.DefinitionLemmas.{InForm, range-same, two_sized-same, nullable-same, weight_in-capped, weight-exact, heavier}
+use Rattle.tm_layout.proofs.KnownLemmas.{variants-known, VariantsLaidOut, variants-laid_out}
+use Rattle.tm_layout.proofs.LightLemmas.{named-small}
+use Rattle.tm_layout.proofs.RefusalLemmas.{none-first, variant_at_fault-faulty, variants-refused}
+
+-- the facts of a definition, as they are reckoned
+pub record IsReckoned (kind : Kind) (repr : Repr) (vs : List Variant) (facts : List (List Facts)) (r : Facts) : Type 0 where
+  pub fault : r.fault ≡ first_fault (or_else (when (lacks_repr kind repr) NoRepr) (when (lacks_range_in kind repr vs) CEnumRange)) (variants_together facts).refusal
+      (layout_fault_in kind repr facts (variants_together facts).aligned r.weight)
+  pub refusal : r.refusal ≡ option_or r.fault (variants_together facts).refusal
+  pub nullable : r.nullable ≡ nullable_in kind repr (variants_together facts).nullable
+  pub aligned : r.aligned ≡ (is_some repr.align || (variants_together facts).aligned)
+  pub interior : r.interior ≡ (variants_together facts).interior
+  pub size : r.size ≡ capped (named_layout kind repr (variant_layouts_in facts)).size
+  pub align : r.align ≡ (named_layout kind repr (variant_layouts_in facts)).align
+  pub weight : r.weight ≡ capped (weight_in kind repr r.size facts)
+
+lacks-none : (b : Bool) (other : Option Why) → or_else (when b NoRepr) other ≡ None → b ≡ false
+lacks-none true other h = cc
+lacks-none false other h = refl
+
+module _ (id : NamedId) (kind : Kind) (repr : Repr) (vs : List Variant) (cases : Variants) (facts : List (List Facts)) (r : Facts) where
+  own-same : AreVariantsFor vs cases → or_else (when (lacks_repr kind repr) NoRepr) (when (lacks_range_in kind repr vs) CEnumRange) ≡ own_fault (named id kind repr cases)
+  own-same h = ap (λ b. or_else (when (lacks_repr kind repr) NoRepr) (when b CEnumRange)) (range-same kind repr vs cases h)
+
+  below-same : AreVariantFacts cases facts → part_at_fault (named id kind repr cases) ≡ is_some (variants_together facts).refusal
+  unfolding part_at_fault
+  below-same k = variant_at_fault-faulty cases ∙ sym (variants-refused cases) ∙ ap is_some (sym (variants-known cases facts k).refusal)
+
+  refusal-same : AreVariantFacts cases facts → refusal_of (named id kind repr cases) ≡ or_else (fault_of (named id kind repr cases)) (variants_together facts).refusal
+  unfolding refusal_of
+  refusal-same k = ap (λ x. or_else (fault_of (named id kind repr cases)) x) (sym (variants-known cases facts k).refusal)
+
+  size-same : IsReckoned kind repr vs facts r → VariantsLaidOut cases facts → r.size ≡ capped (size_of (named id kind repr cases))
+  unfolding layout_of
+  size-same known l = known.size ∙ ap (λ ls. capped (named_layout kind repr ls).size) l.layouts
+
+  align-same : IsReckoned kind repr vs facts r → VariantsLaidOut cases facts → r.align ≡ align_of (named id kind repr cases)
+  unfolding layout_of
+  align-same known l = known.align ∙ ap (λ ls. (named_layout kind repr ls).align) l.layouts
+
+  weight-same : IsReckoned kind repr vs facts r → AreVariantFacts cases facts → variant_refusal cases ≡ None → r.weight ≡ capped (weight_of (named id kind repr cases))
+  weight-same known k none =
+      known.weight ∙ ap (λ (n : ℕ). capped (weight_in kind repr n facts)) (size-same known (variants-laid_out cases facts k none))
+      ∙ weight_in-capped kind repr (size_of (named id kind repr cases)) facts ∙ ap capped (weight-exact id kind repr cases facts k none)
+
+  layout_fault-same : IsReckoned kind repr vs facts r → AreVariantFacts cases facts → variant_refusal cases ≡ None
+      → layout_fault_in kind repr facts (variants_together facts).aligned r.weight ≡ layout_fault (named id kind repr cases)
+  unfolding some_part
+  layout_fault-same known k none =
+      let t = named id kind repr cases in
+      let sized : two_sized_in kind repr facts ≡ has_two_sized t = two_sized-same id kind repr cases facts (variants-laid_out cases facts k none).layouts in
+      let aligned : (variants_together facts).aligned ≡ some_variant has_align cases = (variants-known cases facts k).aligned in
+      let weight : weight_fault r.weight ≡ weight_fault (weight_of t) = ap weight_fault (weight-same known k none) ∙ capped-past (weight_of t) in
+      ap (λ b. or_else (when b TransparentFields) (or_else (when (is_some repr.packed && (variants_together facts).aligned) PackedHoldsAlign) (weight_fault r.weight))) sized
+      ∙ ap (λ b. or_else (when (has_two_sized t) TransparentFields) (or_else (when (is_some repr.packed && b) PackedHoldsAlign) (weight_fault r.weight))) aligned
+      ∙ ap (λ x. or_else (when (has_two_sized t) TransparentFields) (or_else (when (is_some repr.packed && some_variant has_align cases) PackedHoldsAlign) x)) weight
+
+  sound-has : fault_of (named id kind repr cases) ≡ None → lacks_repr kind repr ≡ false
+  unfolding fault_of
+  sound-has sound = lacks-none (lacks_repr kind repr) (when (lacks_range kind repr cases) CEnumRange) (none-first (own_fault (named id kind repr cases)) _ sound)
+
+  align-most : InForm kind repr vs → VariantsLaidOut cases facts → align_of (named id kind repr cases) ≤ 2 ^ 29
+  unfolding layout_of
+  align-most form l = named-small kind repr (variant_layouts cases) form.aligned l.aligned
+
+  laid_out : InForm kind repr vs → AreVariantsFor vs cases → AreVariantFacts cases facts → IsReckoned kind repr vs facts r → variant_refusal cases ≡ None → fault_of (named id kind repr cases) ≡ None
+      → weight_of (named id kind repr cases) ≤ weight_limit → HasLayout (named id kind repr cases) r
+  laid_out form h k known none sound small =
+      let t = named id kind repr cases in
+      let l = variants-laid_out cases facts k none in
+      let has : lacks_repr kind repr ≡ false = sound-has sound in
+      let heavy : size_of t ≤ weight_of t = heavier id kind repr vs cases form h has in
+      let size : r.size ≡ capped (size_of t) = size-same known l in
+      let align : r.align ≡ align_of t = align-same known l in
+      let weight : r.weight ≡ capped (weight_of t) = weight-same known k none in
+      let most : align_of t ≤ 2 ^ 29 = align-most form l in
+      record { size = omega arith; align = align; weight = omega arith; light = omega arith; heavier = omega arith; aligned = omega arith }
+
+  pub named-facts : InForm kind repr vs → AreVariantsFor vs cases → AreVariantFacts cases facts → IsReckoned kind repr vs facts r → IsFactsOf (named id kind repr cases) r
+  unfolding some_part
+  named-facts form h k known =
+      let below = variants-known cases facts k in
+      composed-facts (named id kind repr cases) r (variants_together facts).refusal (layout_fault_in kind repr facts (variants_together facts).aligned r.weight)
+      (below-same k) (refusal-same k) (λ none. layout_fault-same known k (sym below.refusal ∙ none))
+      (known.fault ∙ ap (λ x. first_fault x (variants_together facts).refusal (layout_fault_in kind repr facts (variants_together facts).aligned r.weight)) (own-same h))
+      known.refusal (known.nullable ∙ nullable-same id kind repr vs cases facts h k form.counted)
+      (known.aligned ∙ ap (λ b. is_some repr.align || b) below.aligned) (known.interior ∙ below.interior)
+      (λ none sound small. laid_out form h k known (sym below.refusal ∙ none) sound small)
