@@ -31,7 +31,7 @@ both-true : (a b : Bool) → (a && b) ≡ true → (a ≡ true) × (b ≡ true)
 both-true true b h = (refl, h)
 both-true false b h = cc
 
-is_equal : (n m : ℕ) → (n == m) ≡ true → n ≡ m
+pub is_equal : (n m : ℕ) → (n == m) ≡ true → n ≡ m
 is_equal n m e = grind (arith, nat_tests)
 
 is_below : (n m : ℕ) → nat_lt n m ≡ true → n < m

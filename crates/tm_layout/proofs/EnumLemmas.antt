@@ -1,10 +1,13 @@
 -- Layouts that a field begins, and those of enums, as they are reckoned.
 use Rattle.std.proofs.Common.{◌≡◌, ℕ, ◌+◌, ◌-◌, ◌≤◌, max, refl, sym, ap, ◌∙◌, subst, true, if◌then◌else◌, List, [], ◌∷◌, None, arith}
+use Rattle.tm_base.specs.declared.definition.Kind.{Kind}
+use Rattle.tm_base.specs.declared.definition.Kind.TheVariants.{Enum}
 use Rattle.tm_base.specs.declared.definition.Repr.{Repr}
 use Rattle.tm_base.specs.Layout.{Layout, round_up, place_at, end_of, greatest_align, filled, empty_layout, struct_layout, union_layout, tag_layout, structs, enum_layout}
 use Rattle.std.proofs.Math.Nat.{mod_self, zero-mod}
 use Rattle.tm_layout.specs.declared.layouts.Layout.{Layout as Known}
 use Rattle.tm_layout.specs.Capped.{capped}
+use Rattle.tm_layout.specs.Placed.{begin_in}
 use Rattle.tm_layout.specs.Reckoned.{IsCapped, shape}
 use Rattle.tm_layout.proofs.ReckonLemmas.{capped-first, round_up-capped, greatest_align-some}
 
@@ -16,7 +19,7 @@ first_place : (a : ℕ) → round_up 0 a ≡ 0
 first_place a = let whole : a - 0 ≡ a = omega arith in rw (zero-mod a, whole, mod_self a) refl
 
 -- where fields end that stand behind a first one
-front-end : (front : Layout) (ls : List Layout) → end_of None front.size ls ≡ end_of None 0 (front ∷ ls)
+pub front-end : (front : Layout) (ls : List Layout) → end_of None front.size ls ≡ end_of None 0 (front ∷ ls)
 front-end front ls =
     let zero : place_at None 0 front ≡ 0 = first_place front.align in
     let same : front.size ≡ place_at None 0 front + front.size = omega arith in
@@ -59,3 +62,13 @@ enum-c repr vs tag k r c t known pair =
     let made : IsCapped (struct_layout None None (tag_layout repr.tag ∷ u ∷ [])) r =
     pair-capped (tag_layout repr.tag) u k r exact (subst (λ l. IsCapped (struct_layout None None (l ∷ shape k ∷ [])) r) t pair) in
     subst (λ b. IsCapped (if b then struct_layout None None (tag_layout repr.tag ∷ u ∷ []) else union_layout None None (structs (tag_layout repr.tag ∷ []) vs)) r) (sym c) made
+
+-- where the fields of an enum with `C` begin
+pub begin-c : (kind : Kind) (repr : Repr) (vs : List (List Layout)) (tag k : Known) (r : ℕ) → kind ≡ Enum → repr.c ≡ true → shape tag ≡ tag_layout repr.tag
+    → IsCapped (union_layout None None (structs (empty_layout ∷ []) vs)) k → r ≡ capped (round_up tag.size k.align) → r ≡ capped (begin_in kind repr vs)
+begin-c kind repr vs tag k r e c t known h =
+    let align : k.align ≡ greatest_align None (structs [] vs) = known.align ∙ ap (λ ss. greatest_align None ss) (structs-empty vs) in
+    let begun : r ≡ capped (round_up (tag_layout repr.tag).size (greatest_align None (structs [] vs))) =
+    h ∙ ap (λ (l : Layout). capped (round_up l.size k.align)) t ∙ ap (λ (n : ℕ). capped (round_up (tag_layout repr.tag).size n)) align in
+    let chosen = subst (λ b. r ≡ capped (if b then round_up (tag_layout repr.tag).size (greatest_align None (structs [] vs)) else (tag_layout repr.tag).size)) (sym c) begun in
+    subst (λ k. r ≡ capped (begin_in k repr vs)) (sym e) chosen

@@ -6,3 +6,4 @@ pub mod KnownLemmas
 pub mod LightLemmas
 pub mod DefinitionLemmas
 pub mod NamedLemmas
+pub mod PlaceLemmas

@@ -38,7 +38,7 @@ lowered-small : (packed : Option ℕ) (n : ℕ) → n ≤ 2 ^ 29 → lowered pac
 lowered-small None n small = small
 lowered-small (Some m) n small = omega arith
 
-greatest-small : (packed : Option ℕ) (ls : List Layout) → AreAligned ls → greatest_align packed ls ≤ 2 ^ 29
+pub greatest-small : (packed : Option ℕ) (ls : List Layout) → AreAligned ls → greatest_align packed ls ≤ 2 ^ 29
 greatest-small packed [] h = omega arith
 greatest-small packed (l ∷ ls) (small, others) = omega (arith, lowered-small packed l.align small, greatest-small packed ls others)
 
@@ -50,15 +50,19 @@ transparent-small : (ls : List Layout) → AreAligned ls → (transparent_layout
 transparent-small [] h = omega arith
 transparent-small (l ∷ ls) (small, others) = either-small (is_trivial l) (transparent_layout ls) l (transparent-small ls others) small
 
-tag-small : (tag : Option Primitive) → (tag_layout tag).align ≤ 2 ^ 29
+pub tag-small : (tag : Option Primitive) → (tag_layout tag).align ≤ 2 ^ 29
 tag-small None = omega arith
 tag-small (Some p) = omega (arith, prim_size-small p)
+
+pub tag_size-small : (tag : Option Primitive) → (tag_layout tag).size ≤ 2 ^ 29
+tag_size-small None = omega arith
+tag_size-small (Some p) = omega (arith, prim_size-small p)
 
 append-aligned : (ls ks : List Layout) → AreAligned ls → AreAligned ks → AreAligned (ls ++ ks)
 append-aligned [] ks a b = b
 append-aligned (l ∷ ls) ks (small, others) b = (small, append-aligned ls ks others b)
 
-structs-aligned : (before : List Layout) (vs : List (List Layout)) → AreAligned before → AreVariantsAligned vs → AreAligned (structs before vs)
+pub structs-aligned : (before : List Layout) (vs : List (List Layout)) → AreAligned before → AreVariantsAligned vs → AreAligned (structs before vs)
 structs-aligned before [] a h = tt
 structs-aligned before (ls ∷ vs) a (small, others) = (greatest-small None (before ++ ls) (append-aligned before ls a small), structs-aligned before vs a others)
 

@@ -1,29 +1,33 @@
 -- What is known of a named type, from what is known of the fields of its definition.
-use Rattle.std.proofs.Common.{◌≡◌, ℕ, ◌^◌, ◌≤◌, refl, sym, ap, ◌∙◌, Bool, true, false, ◌||◌, ◌&&◌, Option, None, List, arith}
+use Rattle.std.proofs.Common.{◌<◌, [], ◌∷◌, map, length, ◌≡◌, ℕ, ◌^◌, ◌≤◌, refl, sym, ap, ◌∙◌, Bool, true, false, ◌||◌, ◌&&◌, Option, None, List, arith}
 use Rattle.std.specs.Option.{is_some, option_or}
 use Rattle.tm_base.specs.declared.answer.Why.{Why}
 use Rattle.tm_base.specs.declared.answer.Why.TheVariants.{NoRepr, CEnumRange, TransparentFields, PackedHoldsAlign}
 use Rattle.tm_base.specs.declared.definition.Kind.{Kind}
+use Rattle.tm_base.specs.declared.definition.Kind.TheVariants.{Struct, Union, Enum}
 use Rattle.tm_base.specs.declared.definition.Repr.{Repr}
 use Rattle.tm_base.specs.declared.definition.Variant.{Variant}
 use Rattle.tm_base.specs.declared.ground.NamedId.{NamedId}
-use Rattle.tm_base.specs.Expanded.{Variants, named}
+use Rattle.tm_base.specs.Expanded.{Variants, named, no_variants, variant}
 use Rattle.tm_base.specs.Faults.{fault_of, own_fault, layout_fault, part_at_fault, has_two_sized, lacks_repr, lacks_range, has_align, when, or_else}
 use Rattle.tm_base.specs.Layout.{layout_of, size_of, align_of, named_layout, variant_layouts}
 use Rattle.tm_base.specs.Parts.{some_part, some_variant}
+use Rattle.tm_base.specs.Places.{named_places}
 use Rattle.tm_base.specs.Weight.{weight_of, weight_limit}
 use Rattle.tm_layout.specs.declared.facts.Facts.{Facts}
 use Rattle.tm_layout.specs.Capped.{capped, first_fault, weight_fault}
 use Rattle.tm_layout.specs.Defined.{lacks_range_in, two_sized_in, layout_fault_in, nullable_in}
 use Rattle.tm_layout.specs.Known.{AreVariantFacts, AreVariantsFor, HasLayout, IsFactsOf}
+use Rattle.tm_layout.specs.Placed.{begin_in, variant_places_in}
 use Rattle.tm_layout.specs.Reckoned.{variant_layouts_in, weight_in}
 use Rattle.tm_layout.specs.Refusals.{refusal_of, variant_refusal}
 use Rattle.tm_layout.specs.Together.{variants_together}
-use Rattle.tm_layout.proofs.FactLemmas.{capped-past, composed-facts}
-use Rattle.tm_layout.proofs.DefinitionLemmas.{InForm, range-same, two_sized-same, nullable-same, weight_in-capped, weight-exact, heavier}
+use Rattle.tm_layout.proofs.FactLemmas.{capped-past, composed-facts, light-from}
+use Rattle.tm_layout.proofs.DefinitionLemmas.{InForm, is_equal, range-same, two_sized-same, nullable-same, weight_in-capped, weight-exact, heavier}
 use Rattle.tm_layout.proofs.KnownLemmas.{variants-known, VariantsLaidOut, variants-laid_out}
 use Rattle.tm_layout.proofs.LightLemmas.{named-small}
-use Rattle.tm_layout.proofs.RefusalLemmas.{none-first, variant_at_fault-faulty, variants-refused}
+use Rattle.tm_layout.proofs.PlaceLemmas.{map-same, variants-exact, begin-exact}
+use Rattle.tm_layout.proofs.RefusalLemmas.{none-first, none-second, variant_at_fault-faulty, variants-refused}
 
 -- the facts of a definition, as they are reckoned
 pub record IsReckoned (kind : Kind) (repr : Repr) (vs : List Variant) (facts : List (List Facts)) (r : Facts) : Type 0 where
@@ -40,6 +44,10 @@ pub record IsReckoned (kind : Kind) (repr : Repr) (vs : List Variant) (facts : L
 lacks-none : (b : Bool) (other : Option Why) → or_else (when b NoRepr) other ≡ None → b ≡ false
 lacks-none true other h = cc
 lacks-none false other h = refl
+
+sound-has : (id : NamedId) (kind : Kind) (repr : Repr) (cases : Variants) → fault_of (named id kind repr cases) ≡ None → lacks_repr kind repr ≡ false
+unfolding fault_of
+sound-has id kind repr cases sound = lacks-none (lacks_repr kind repr) (when (lacks_range kind repr cases) CEnumRange) (none-first (own_fault (named id kind repr cases)) _ sound)
 
 module _ (id : NamedId) (kind : Kind) (repr : Repr) (vs : List Variant) (cases : Variants) (facts : List (List Facts)) (r : Facts) where
   own-same : AreVariantsFor vs cases → or_else (when (lacks_repr kind repr) NoRepr) (when (lacks_range_in kind repr vs) CEnumRange) ≡ own_fault (named id kind repr cases)
@@ -78,10 +86,6 @@ module _ (id : NamedId) (kind : Kind) (repr : Repr) (vs : List Variant) (cases :
       ∙ ap (λ b. or_else (when (has_two_sized t) TransparentFields) (or_else (when (is_some repr.packed && b) PackedHoldsAlign) (weight_fault r.weight))) aligned
       ∙ ap (λ x. or_else (when (has_two_sized t) TransparentFields) (or_else (when (is_some repr.packed && some_variant has_align cases) PackedHoldsAlign) x)) weight
 
-  sound-has : fault_of (named id kind repr cases) ≡ None → lacks_repr kind repr ≡ false
-  unfolding fault_of
-  sound-has sound = lacks-none (lacks_repr kind repr) (when (lacks_range kind repr cases) CEnumRange) (none-first (own_fault (named id kind repr cases)) _ sound)
-
   align-most : InForm kind repr vs → VariantsLaidOut cases facts → align_of (named id kind repr cases) ≤ 2 ^ 29
   unfolding layout_of
   align-most form l = named-small kind repr (variant_layouts cases) form.aligned l.aligned
@@ -91,7 +95,7 @@ module _ (id : NamedId) (kind : Kind) (repr : Repr) (vs : List Variant) (cases :
   laid_out form h k known none sound small =
       let t = named id kind repr cases in
       let l = variants-laid_out cases facts k none in
-      let has : lacks_repr kind repr ≡ false = sound-has sound in
+      let has : lacks_repr kind repr ≡ false = sound-has id kind repr cases sound in
       let heavy : size_of t ≤ weight_of t = heavier id kind repr vs cases form h has in
       let size : r.size ≡ capped (size_of t) = size-same known l in
       let align : r.align ≡ align_of t = align-same known l in
@@ -109,3 +113,50 @@ module _ (id : NamedId) (kind : Kind) (repr : Repr) (vs : List Variant) (cases :
       known.refusal (known.nullable ∙ nullable-same id kind repr vs cases facts h k form.counted)
       (known.aligned ∙ ap (λ b. is_some repr.align || b) below.aligned) (known.interior ∙ below.interior)
       (λ none sound small. laid_out form h k known (sym below.refusal ∙ none) sound small)
+
+-- ---- places
+
+-- a type that has a layout has no more bytes than may be
+pub size-light : (id : NamedId) (kind : Kind) (repr : Repr) (vs : List Variant) (cases : Variants) → InForm kind repr vs → AreVariantsFor vs cases → refusal_of (named id kind repr cases) ≡ None
+    → (named_layout kind repr (variant_layouts cases)).size ≤ weight_limit
+unfolding refusal_of part_at_fault layout_of
+size-light id kind repr vs cases form h none =
+    let t = named id kind repr cases in
+    let sound : fault_of t ≡ None = none-first (fault_of t) (variant_refusal cases) none in
+    let below : part_at_fault t ≡ false = variant_at_fault-faulty cases ∙ sym (variants-refused cases) ∙ ap is_some (none-second (fault_of t) (variant_refusal cases) none) in
+    let small : weight_of t ≤ weight_limit = light-from t below sound in
+    let heavy : size_of t ≤ weight_of t = heavier id kind repr vs cases form h (sound-has id kind repr cases sound) in
+    omega arith
+
+layouts-length : (vs : List Variant) (cases : Variants) → AreVariantsFor vs cases → length (variant_layouts cases) ≡ length vs
+unfolding layout_of
+layouts-length [] no_variants h = refl
+layouts-length [] (variant value members rest) h = absurd h
+layouts-length (v ∷ vs) no_variants h = absurd h
+layouts-length (v ∷ vs) (variant value members rest) (same, count, others) = let e = layouts-length vs rest others in omega arith
+
+one-struct : (kind : Kind) (repr : Repr) (vs : List Variant) (cases : Variants) → InForm kind repr vs → AreVariantsFor vs cases → kind ≡ Struct → length (variant_layouts cases) ≡ 1
+one-struct Struct repr vs cases form h e = layouts-length vs cases h ∙ is_equal (length vs) 1 form.counted
+one-struct Union repr vs cases form h e = cc
+one-struct Enum repr vs cases form h e = cc
+
+in-all : (kind : Kind) (repr : Repr) (cases : Variants) → map (λ ls. variant_places_in kind repr (begin_in kind repr (variant_layouts cases)) ls) (variant_layouts cases) ≡ named_places kind repr cases
+in-all Struct repr cases = refl
+in-all Union repr cases = refl
+in-all Enum repr cases = refl
+
+pub places-exact : (id : NamedId) (kind : Kind) (repr : Repr) (vs : List Variant) (cases : Variants) (facts : List (List Facts)) (begin : ℕ) → InForm kind repr vs → AreVariantsFor vs cases → AreVariantFacts cases facts
+    → refusal_of (named id kind repr cases) ≡ None → begin ≡ capped (begin_in kind repr (variant_layouts_in facts))
+    → map (λ ls. map capped (variant_places_in kind repr begin ls)) (variant_layouts_in facts) ≡ named_places kind repr cases
+unfolding refusal_of
+places-exact id kind repr vs cases facts begin form h k none b =
+    let l = variants-laid_out cases facts k (none-second (fault_of (named id kind repr cases)) (variant_refusal cases) none) in
+    let all = variant_layouts cases in
+    let exact : begin ≡ begin_in kind repr all = b ∙ ap (λ ls. capped (begin_in kind repr ls)) l.layouts ∙ begin-exact kind repr all l.aligned in
+    let light = size-light id kind repr vs cases form h none in
+    let small : (named_layout kind repr all).size < 2 ^ 32 = omega arith in
+    ap (λ ls. map (λ ls. map capped (variant_places_in kind repr begin ls)) ls) l.layouts
+    ∙ ap (λ (n : ℕ). map (λ ls. map capped (variant_places_in kind repr n ls)) all) exact
+    ∙ map-same (λ ls. map capped (variant_places_in kind repr (begin_in kind repr all) ls)) (λ ls. variant_places_in kind repr (begin_in kind repr all) ls) all
+    (variants-exact kind repr all (one-struct kind repr vs cases form h) small)
+    ∙ in-all kind repr cases

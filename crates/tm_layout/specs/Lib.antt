@@ -6,3 +6,4 @@ pub mod Capped
 pub mod Together
 pub mod Reckoned
 pub mod Defined
+pub mod Placed

@@ -1,11 +1,13 @@
 ghost use Rattle.std.specs.Prelude.{◌≡◌, ◌∷◌, [], None};
 ghost use Rattle.tm_base.specs.Layout.{enum_layout, struct_layout, structs, tag_layout, union_layout};
+ghost use Rattle.tm_layout.specs.Capped.{capped};
+ghost use Rattle.tm_layout.specs.Placed.{begin_in};
 ghost use Rattle.tm_layout.specs.Reckoned.{IsCapped, layouts_in, shape, variant_layouts_in};
 
 use crate::facts::{Facts, primitive_size};
-use crate::fields::{end_at, end_of, filled, greatest_align};
+use crate::fields::{end_at, end_of, filled, greatest_align, round_up};
 use crate::layouts::Layout;
-use tm_base::{List, Primitive, Repr};
+use tm_base::{Kind, List, Primitive, Repr};
 
 /// The layout of an enum's tag.
 pub fn tag_layout(tag: Option<Primitive>) -> Layout
@@ -58,5 +60,23 @@ pub fn enum_layout(repr: Repr, variants: &[List<Facts>]) -> Layout
         pair(tag, fields)
     } else {
         variants_behind(tag, variants)
+    }
+}
+
+/// Where the fields of an enum's variants begin; 0 of a struct or a union.
+pub fn fields_begin(kind: Kind, repr: Repr, variants: &[List<Facts>]) -> u32
+    ensures { result ≡ capped (begin_in kind repr (variant_layouts_in variants.now)) }
+{
+    match kind {
+        Kind::Enum => {
+            let tag = tag_layout(repr.tag).size;
+            if repr.c {
+                let fields = variants_behind(Layout { size: 0, align: 1 }, variants);
+                round_up(tag, fields.align)
+            } else {
+                tag
+            }
+        }
+        _ => 0,
     }
 }

@@ -7,6 +7,7 @@ ghost use Rattle.tm_base.specs.Parts.{is_cell, some_field};
 ghost use Rattle.tm_layout.specs.Known.{IsFactsOf};
 
 pub use crate::definitions::defined;
+pub use crate::placing::places;
 pub use crate::wrappers::{array, wrapped};
 use tm_base::{Primitive, Why};
 

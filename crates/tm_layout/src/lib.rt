@@ -9,6 +9,7 @@ mod faults;
 mod fields;
 mod layouts;
 mod parts;
+mod placing;
 mod refused;
 mod row;
 mod transparent;
