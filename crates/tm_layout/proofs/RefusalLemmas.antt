@@ -5,6 +5,8 @@ use Rattle.tm_base.specs.declared.answer.Why.{Why}
 use Rattle.tm_base.specs.Expanded.{Expanded, Fields, Variants, too_deep, prim, never, unit, tuple, array, nonzero, phantom, wrap, ref, named, no_fields, field, no_variants, variant}
 use Rattle.tm_base.specs.Faults.{fault_of, fault_over, part_at_fault, field_at_fault, variant_at_fault, at_fault_over, or_else}
 use Rattle.tm_base.specs.Parts.{some_part, some_field, some_variant}
+use Rattle.tm_layout.specs.declared.facts.Facts.{Facts}
+use Rattle.tm_layout.specs.Known.{IsFactsOf}
 use Rattle.tm_layout.specs.Refusals.{refusal_of, field_refusal, variant_refusal, is_faulty, has_no_layout}
 
 pub option_or-or_else : (a b : Option Why) → option_or a b ≡ or_else a b
@@ -95,3 +97,30 @@ mutual
 pub at_fault-refused : (t : Expanded) → at_fault_over (part_at_fault t) t ≡ is_some (refusal_of t)
 unfolding fault_of
 at_fault-refused t = ap (λ b. is_some (fault_over (part_at_fault t) t) || b) (part_at_fault-faulty t) ∙ sym (refused-exactly t)
+
+-- a type for which there is no cause isn't at fault
+pub sound-fault : (t : Expanded) → refusal_of t ≡ None → fault_of t ≡ None
+unfolding refusal_of
+sound-fault too_deep h = h
+sound-fault (prim p) h = h
+sound-fault never h = h
+sound-fault unit h = h
+sound-fault (tuple members) h = none-first (fault_of (tuple members)) (field_refusal members) h
+sound-fault (array t n) h = none-first (fault_of (array t n)) (refusal_of t) h
+sound-fault (nonzero p) h = h
+sound-fault phantom h = h
+sound-fault (wrap w t) h = none-first (fault_of (wrap w t)) (refusal_of t) h
+sound-fault (ref r) h = h
+sound-fault (named id kind repr variants) h = none-first (fault_of (named id kind repr variants)) (variant_refusal variants) h
+
+or-second : (a b : Bool) → false ≡ (a || b) → b ≡ false
+or-second true b h = cc
+or-second false b h = sym h
+
+-- and it holds no type at fault by value
+pub sound-parts : (t : Expanded) → refusal_of t ≡ None → some_part is_faulty t ≡ false
+sound-parts t h = or-second (is_faulty t) (some_part is_faulty t) (ap is_some (sym h) ∙ refused-exactly t)
+
+-- what is known of a type says whether it has a layout
+pub refused-known : (t : Expanded) (facts : Facts) → IsFactsOf t facts → is_some facts.refusal ≡ has_no_layout t
+refused-known t facts known = ap is_some known.refusal ∙ refused-exactly t
