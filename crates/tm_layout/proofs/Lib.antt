@@ -7,3 +7,5 @@ pub mod LightLemmas
 pub mod DefinitionLemmas
 pub mod NamedLemmas
 pub mod PlaceLemmas
+pub mod TableLemmas
+pub mod MemberLemmas

@@ -1,6 +1,7 @@
 pub mod Refusals
 pub mod Known
 pub mod Made
+pub mod Making
 pub mod Named
 pub mod Capped
 pub mod Together

@@ -1,9 +1,10 @@
 -- What the layouts of a world's named types hold, and what is answered from them.
-use Rattle.std.specs.Prelude.{◌≡◌, ℕ, Option, None, Some, List, true, false, length, slice_get, MatchResult, Result}
+use Rattle.std.specs.Prelude.{◌≡◌, ℕ, Bool, true, false, Option, None, Some, List, length, slice_get, MatchResult, Result}
 use Rattle.tm_base.specs.declared.answer.Why.{Why}
-use Rattle.tm_base.specs.declared.ground.Ground.{Named}
-use Rattle.tm_base.specs.Expanded.{Expanded}
+use Rattle.tm_base.specs.declared.ground.Ground.{Ground, Named}
+use Rattle.tm_base.specs.Expanded.{Expanded, too_deep, named}
 use Rattle.tm_base.specs.Layout.{align_of, size_of}
+use Rattle.tm_base.specs.Parts.{is_whole, some_within}
 use Rattle.tm_base.specs.Places.{places_of}
 use Rattle.tm_base.specs.Tables.{Tables, expanded_in}
 use Rattle.tm_layout.specs.declared.layouts.Layout.{Layout}
@@ -17,10 +18,47 @@ pub record IsRowOf (t : Expanded) (row : RowFacts) : Type 0 where
   pub facts : IsFactsOf t row.facts
   pub places : refusal_of t ≡ None → row.places ≡ places_of t
 
--- made for a world with these tables: one row for each of its named types
+-- what a place of a table holds, where there is one
+abbrev pub made_in : Option (Option RowFacts) → Option RowFacts
+made_in (Some (Some row)) = Some row
+made_in _ = None
+
+-- the row of a named type, where it is made
+abbrev pub row_at : List (Option RowFacts) → ℕ → Option RowFacts
+row_at rows k = made_in (slice_get rows k)
+
+-- a place of a table holds no row yet
+abbrev pub is_unmade : Option (Option RowFacts) → Bool
+is_unmade (Some None) = true
+is_unmade _ = false
+
+-- the row of a named type, which has a place in the table, isn't made yet
+abbrev pub is_missing : List (Option RowFacts) → ℕ → Bool
+is_missing rows k = is_unmade (slice_get rows k)
+
+-- a table for the named types of a world, in which the rows that are made are right
+pub record AreRowsOf (tables : Tables) (rows : List (Option RowFacts)) : Type 0 where
+  pub count : length rows ≡ length tables.named
+  pub right : (k : ℕ) (row : RowFacts) → row_at rows k ≡ Some row → IsRowOf (expanded_in tables (Named (record { 0 = k }))) row
+
+-- nothing can be said of a type itself: it is past the greatest depth, or its row isn't made yet
+abbrev pub lacks_row : List (Option RowFacts) → Expanded → Bool
+lacks_row rows too_deep = true
+lacks_row rows (named id _ _ _) = is_missing rows id.0
+lacks_row rows _ = false
+
+-- the type is whole, and the row of each named type that it is or holds by value is made
+pub record IsKnown (tables : Tables) (rows : List (Option RowFacts)) (g : Ground) : Type 0 where
+  pub none_lacks : some_within (lacks_row rows) (expanded_in tables g) ≡ false
+
+-- a fact of each item
+abbrev pub EachIs : {X : Type 0} → (X → Type 0) → List X → Type 0
+EachIs {X} Fact xs = (k : ℕ) (x : X) → slice_get xs k ≡ Some x → Fact x
+
+-- made for a world with these tables: a row for each of its named types
 pub record IsMadeFor (tables : Tables) (layouts : Layouts) : Type 0 where
-  pub count : length layouts.rows ≡ length tables.named
-  pub rows : (k : ℕ) (row : RowFacts) → slice_get layouts.rows k ≡ Some row → IsRowOf (expanded_in tables (Named (record { 0 = k }))) row
+  pub rows : AreRowsOf tables layouts.rows.items
+  pub all : (k : ℕ) → is_missing layouts.rows.items k ≡ false
 
 -- The layout of a type that has one; else the cause for which it has none.
 abbrev pub IsLayoutAnswer : Expanded → Result Layout Why → Type 0

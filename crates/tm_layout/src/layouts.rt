@@ -1,10 +1,19 @@
-ghost use Rattle.std.specs.Prelude.{IfOk};
-ghost use Rattle.tm_base.specs.Worlds.{tables_of};
-ghost use Rattle.tm_layout.specs.Made.{IsMadeFor};
+ghost use Rattle.std.specs.Prelude.{◌≡◌, ℕ, None, Some, IfOk};
+ghost use Rattle.tm_base.specs.declared.ground.Ground.{Named};
+ghost use Rattle.tm_base.specs.Faults.{fault_of};
+ghost use Rattle.tm_base.specs.Parts.{has_interior};
+ghost use Rattle.tm_base.specs.Places.{place_of};
+ghost use Rattle.tm_base.specs.Tables.{Tables, expanded_in};
+ghost use Rattle.tm_base.specs.Worlds.{IsTypeOver, tables_of};
+ghost use Rattle.tm_layout.specs.Known.{IsFactsOf};
+ghost use Rattle.tm_layout.specs.Made.{IsLayoutAnswer, IsMadeFor};
+ghost use Rattle.tm_layout.specs.Refusals.{refusal_of};
 
-use crate::row::RowFacts;
+use crate::facts::Facts;
+use crate::row::{RowFacts, row_at};
+use crate::written::facts_of;
 use std::alloc::Global;
-use tm_base::{List, Memory, World};
+use tm_base::{Ground, Memory, NamedId, Why, World};
 
 /// The size and the alignment of a type, in bytes.
 #[derive(Clone, Copy, PartialEq, Eq, Debug)]
@@ -16,7 +25,7 @@ pub struct Layout {
 /// The layouts of a world's named types, from which those of all its types are answered.
 #[derive(Debug, Drop)]
 pub struct Layouts {
-    rows: List<RowFacts>,
+    rows: Vec<Option<RowFacts>>,
 }
 
 impl Layouts {
@@ -25,5 +34,53 @@ impl Layouts {
         ensures made { IfOk result (IsMadeFor (tables_of world.now)) }
     {
         Err(Memory)
+    }
+
+    /// The layout of a type of the world. `Err`: the cause for which it has none, which is its own, or
+    /// else that of the first type that it holds by value and that has none.
+    pub fn of(&self, g: &Ground) -> Result<Layout, Why>
+        ensures answer { (tables : Tables) → IsMadeFor tables self.now → IsTypeOver tables g.now → IsLayoutAnswer (expanded_in tables g.now) result }
+    {
+        let facts = self.facts(g);
+        match facts.refusal {
+            Some(why) => Err(why),
+            None => Ok(Layout {
+                size: facts.size,
+                align: facts.align,
+            }),
+        }
+    }
+
+    /// Where a field of a variant stands in a named type, in bytes from its first. Variants and fields are
+    /// counted from 0; a struct and a union are one variant. Of what has no place any number is answered.
+    pub fn place(&self, id: NamedId, variant: u32, field: u32) -> u32
+        ensures place { (tables : Tables) (at : ℕ) → IsMadeFor tables self.now → refusal_of (expanded_in tables (Named id)) ≡ None → place_of (expanded_in tables (Named id)) variant field ≡ Some at → result ≡ at }
+    {
+        match row_at(self.rows.as_slice(), id) {
+            Some(row) => row.place(variant, field),
+            None => 0,
+        }
+    }
+
+    /// Whether a type of the world is or holds by value one whose value may change behind a shared
+    /// reference.
+    pub fn interior(&self, g: &Ground) -> bool
+        ensures interior { (tables : Tables) → IsMadeFor tables self.now → IsTypeOver tables g.now → result ≡ has_interior (expanded_in tables g.now) }
+    {
+        self.facts(g).interior
+    }
+
+    /// The first cause of a type of the world itself, whatever those of its parts are.
+    pub(crate) fn fault(&self, g: &Ground) -> Option<Why>
+        ensures fault { (tables : Tables) → IsMadeFor tables self.now → IsTypeOver tables g.now → result ≡ fault_of (expanded_in tables g.now) }
+    {
+        self.facts(g).fault
+    }
+
+    /// What is known of a type of the world.
+    fn facts(&self, g: &Ground) -> Facts
+        ensures { (tables : Tables) → IsMadeFor tables self.now → IsTypeOver tables g.now → IsFactsOf (expanded_in tables g.now) result }
+    {
+        facts_of(self.rows.as_slice(), g)
     }
 }

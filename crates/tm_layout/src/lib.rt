@@ -16,6 +16,7 @@ mod transparent;
 mod unions;
 mod weights;
 mod wrappers;
+mod written;
 
 pub use layouts::{Layout, Layouts};
 pub use refused::first_refused;
