@@ -1,5 +1,5 @@
 -- What is known of a type: its rows and its parts, kind by kind.
-use Rattle.std.proofs.Common.{◌≡◌, ℕ, zero, suc, ◌+◌, ◌<◌, refl, sym, ◌∙◌, ap, subst, Bool, true, false, ◌||◌, not, IsTrue, List, [], ◌∷◌, length, Option, Some, None, slice_get, arith}
+use Rattle.std.proofs.Common.{◌≡◌, ℕ, zero, suc, ◌+◌, ◌<◌, refl, sym, ◌∙◌, ap, subst, Bool, true, false, ◌||◌, ◌&&◌, not, IsTrue, List, [], ◌∷◌, length, Option, Some, None, slice_get, arith}
 use Rattle.std.proofs.lemmas.Option.{slice_get_within, slice_get-get_or}
 use Rattle.tm_base.specs.declared.definition.Def.{Def}
 use Rattle.tm_base.specs.declared.definition.NamedRow.{NamedRow}
@@ -9,9 +9,12 @@ use Rattle.tm_base.specs.declared.ground.Ground.TheVariants as ground_is
 use Rattle.tm_base.specs.declared.ground.NamedId.{NamedId}
 use Rattle.tm_base.specs.declared.ground.Wrapper.{Wrapper}
 use Rattle.tm_base.specs.declared.ground.Wrapper.TheVariants as wrapper
-use Rattle.tm_base.specs.Expanded.{Expanded, Fields, Variants, too_deep, prim, never, unit, tuple, array, nonzero, phantom, wrap, ref, named, no_fields, field, no_variants, variant, elements, level, row_of, defined, wrapped, variants_of}
+use Rattle.tm_base.specs.Expanded.{depth_limit, expanded_within, Expanded, Fields, Variants, too_deep, prim, never, unit, tuple, array, nonzero, phantom, wrap, ref, named, no_fields, field, no_variants, variant, elements, level, row_of, defined, wrapped, variants_of}
 use Rattle.tm_base.specs.Parts.{some_part, some_field, some_variant, some_within, is_too_deep, is_whole}
 use Rattle.tm_base.specs.Tables.{Tables, expanded_in}
+use Rattle.tm_base.specs.Whole.{is_head_in_form, is_type_over, written_types}
+use Rattle.tm_base.specs.Worlds.{IsTypeOver}
+use Rattle.std.specs.List.{list_all}
 use Rattle.tm_base.proofs.ExpandedLemmas.{expanded-level}
 use Rattle.tm_layout.specs.declared.facts.Facts.{Facts}
 use Rattle.tm_layout.specs.declared.row.RowFacts.{RowFacts}
@@ -31,6 +34,14 @@ second_false false b h = h
 pub both_false : (a b : Bool) → a ≡ false → b ≡ false → (a || b) ≡ false
 both_false true b h k = h
 both_false false b h k = k
+
+not-true : (b : Bool) → not b ≡ true → b ≡ false
+not-true true h = cc
+not-true false h = refl
+
+second_true : (a b : Bool) → (a && b) ≡ true → b ≡ true
+second_true true b h = h
+second_true false b h = cc
 
 -- what fails of a type and its parts makes what it rests on fail
 module _ (p q : Expanded → Bool) (weaker : (t : Expanded) → p t ≡ false → q t ≡ false) where
@@ -169,3 +180,35 @@ module _ (tables : Tables) (rows : List (Option RowFacts)) where
   known-made id are known none =
       let (present, there) = row-known id (slice_get tables.named id.0) (level-known (Named id) (Ground-F.Named id) known (ground_is.outs-Named id)) in
       there (none-of-as-many rows tables.named id.0 are.count (made_in-none (slice_get rows id.0) none present))
+
+  deep-known : ((k : ℕ) → is_missing rows k ≡ false) → (t : Expanded) → is_too_deep t ≡ false → lacks_row rows t ≡ false
+  deep-known all too_deep h = h
+  deep-known all (prim _) h = refl
+  deep-known all never h = refl
+  deep-known all unit h = refl
+  deep-known all (tuple _) h = refl
+  deep-known all (array _ _) h = refl
+  deep-known all (nonzero _) h = refl
+  deep-known all phantom h = refl
+  deep-known all (wrap _ _) h = refl
+  deep-known all (ref _) h = refl
+  deep-known all (named id _ _ _) h = all id.0
+
+  -- where all rows are made, each whole type is known
+  pub known-all : ((k : ℕ) → is_missing rows k ≡ false) → (g : Ground) → IsTrue (is_whole (part g)) → IsKnown tables rows g
+  known-all all g whole = record { none_lacks = within_weaker is_too_deep (lacks_row rows) (deep-known all) (part g) (not-true (some_within is_too_deep (part g)) whole) }
+
+  nowhere-within : (n : ℕ) (id : NamedId) → slice_get tables.named id.0 ≡ None → expanded_within n tables.defs tables.named (Named id) ≡ too_deep
+  unfolding expanded_within
+  nowhere-within zero id e = refl
+  nowhere-within (suc n) id e =
+      ap (level (expanded_within n tables.defs tables.named) tables.defs tables.named) (ground_is.outs-Named id) ∙ ap (row_of (expanded_within n tables.defs tables.named) tables.defs id) e
+
+  -- a number that names nothing has no type
+  pub nowhere : (id : NamedId) → ((k : ℕ) → is_missing rows k ≡ false) → AreRowsOf tables rows → row_at rows id.0 ≡ None → part (Named id) ≡ too_deep
+  nowhere id all are none = nowhere-within depth_limit id (none-of-as-many rows tables.named id.0 are.count (made_in-none (slice_get rows id.0) none (all id.0)))
+
+-- a type over a world is whole
+pub over-whole : (tables : Tables) (g : Ground) → IsTypeOver tables g → IsTrue (is_whole (expanded_in tables g))
+unfolding is_type_over
+over-whole tables g over = second_true (list_all (λ h. is_head_in_form (length tables.named) (length tables.refs) (out-Ground h)) (written_types g)) (is_whole (expanded_in tables g)) over
