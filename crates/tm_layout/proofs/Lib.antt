@@ -9,3 +9,7 @@ pub mod NamedLemmas
 pub mod PlaceLemmas
 pub mod TableLemmas
 pub mod MemberLemmas
+pub mod RowLemmas
+pub mod NodeLemmas
+pub mod MakingLemmas
+pub mod PlaceLemmas

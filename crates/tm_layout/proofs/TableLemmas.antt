@@ -103,10 +103,10 @@ none-of-as-many (x ∷ xs) (y ∷ ys) (suc k) e h = none-of-as-many xs ys k (ome
 -- ---- known types
 
 module _ (tables : Tables) (rows : List (Option RowFacts)) where
-  abbrev part : Ground → Expanded
+  abbrev pub part : Ground → Expanded
   part = expanded_in tables
 
-  abbrev one_level : Ground-F Ground → Expanded
+  abbrev pub one_level : Ground-F Ground → Expanded
   one_level = level part tables.defs tables.named
 
   deep-lacks : (t : Expanded) → lacks_row rows t ≡ false → is_too_deep t ≡ false
@@ -129,7 +129,7 @@ module _ (tables : Tables) (rows : List (Option RowFacts)) where
   pub known-level : (g : Ground) (x : Ground-F Ground) → IsKnown tables rows g → out-Ground g ≡ x → part g ≡ one_level x
   known-level g x known e = expanded-level tables.defs tables.named g (known-whole g known) ∙ ap one_level e
 
-  level-known : (g : Ground) (x : Ground-F Ground) → IsKnown tables rows g → out-Ground g ≡ x → some_within (lacks_row rows) (one_level x) ≡ false
+  pub level-known : (g : Ground) (x : Ground-F Ground) → IsKnown tables rows g → out-Ground g ≡ x → some_within (lacks_row rows) (one_level x) ≡ false
   level-known g x known e = ap (some_within (lacks_row rows)) (sym (known-level g x known e)) ∙ known.none_lacks
 
   -- the facts of a known type are those of its level
@@ -171,7 +171,7 @@ module _ (tables : Tables) (rows : List (Option RowFacts)) where
   defined-known id types None h = cc
   defined-known id types (Some def) h = first_false (is_missing rows id.0) _ h
 
-  row-known : (id : NamedId) (row : Option NamedRow) → some_within (lacks_row rows) (row_of part tables.defs id row) ≡ false → (is_missing rows id.0 ≡ false) × (row ≡ None → ⊥)
+  pub row-known : (id : NamedId) (row : Option NamedRow) → some_within (lacks_row rows) (row_of part tables.defs id row) ≡ false → (is_missing rows id.0 ≡ false) × (row ≡ None → ⊥)
   row-known id None h = cc
   row-known id (Some row) h = (defined-known id row.types (slice_get tables.defs row.def.0) h, λ e. cc)
 

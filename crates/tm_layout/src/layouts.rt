@@ -10,6 +10,7 @@ ghost use Rattle.tm_layout.specs.Made.{IsLayoutAnswer, IsMadeFor};
 ghost use Rattle.tm_layout.specs.Refusals.{refusal_of};
 
 use crate::facts::Facts;
+use crate::making::make_rows;
 use crate::row::{RowFacts, row_at};
 use crate::written::facts_of;
 use std::alloc::Global;
@@ -33,7 +34,9 @@ impl Layouts {
     pub fn new(alloc: Global, world: &World) -> Result<Layouts, Memory>
         ensures made { IfOk result (IsMadeFor (tables_of world.now)) }
     {
-        Err(Memory)
+        Ok(Layouts {
+            rows: make_rows(alloc, world)?,
+        })
     }
 
     /// The layout of a type of the world. `Err`: the cause for which it has none, which is its own, or

@@ -10,6 +10,7 @@ mod fields;
 mod layouts;
 mod parts;
 mod placing;
+mod making;
 mod refused;
 mod row;
 mod transparent;
