@@ -1,9 +1,9 @@
 -- Whole types and their parts, and what a table knows after a row is put into it.
-use Rattle.std.proofs.Common.{◌≡◌, ℕ, zero, suc, ◌+◌, ◌<◌, ◌⊎◌, inl, inr, ⊎_elim, refl, sym, ◌∙◌, ap, subst, Bool, true, false, List, [], ◌∷◌, length, Option, Some, None, slice_get, arith, Bor}
+use Rattle.std.proofs.Common.{◌≡◌, ℕ, zero, suc, ◌+◌, ◌<◌, ◌≤◌, ◌++◌, ◌⊎◌, inl, inr, ⊎_elim, refl, sym, ◌∙◌, ap, subst, Bool, true, false, List, [], ◌∷◌, length, Option, Some, None, slice_get, arith, Bor}
 use Rattle.std.specs.List.{slice_set}
 use Rattle.std.specs.Option.{is_some, option_copied}
 use Rattle.std.proofs.lemmas.Bool.{eqb-true}
-use Rattle.std.proofs.lemmas.Option.{same_Some, slice_get_within}
+use Rattle.std.proofs.lemmas.Option.{none-some, same_Some, slice_get_cases, slice_get_within}
 use Rattle.tm_base.specs.declared.definition.Def.{Def}
 use Rattle.tm_base.specs.declared.definition.Field.{Field}
 use Rattle.tm_base.specs.declared.definition.NamedRow.{NamedRow}
@@ -233,3 +233,26 @@ put-below tables rows id row closed at = let within = slice_get_within tables.na
 pub some-copied : {X : Type 0} (o : Option (Bor X)) → is_some o ≡ true → (x : X) × (option_copied o ≡ Some x)
 some-copied None some = cc
 some-copied (Some x) some = (x.now, refl)
+
+-- ---- the first table, and the last
+
+pub none-more : (rows : List (Option RowFacts)) → ((k : ℕ) → row_at rows k ≡ None) → (k : ℕ) → row_at (rows ++ None ∷ []) k ≡ None
+none-more [] none zero = refl
+none-more [] none (suc k) = refl
+none-more (row ∷ rows) none zero = none 0
+none-more (row ∷ rows) none (suc k) = none-more rows (λ n. none (suc n)) k
+
+-- a table without rows is right
+pub none-closed : (tables : Tables) (rows : List (Option RowFacts)) → length rows ≡ length tables.named → ((k : ℕ) → row_at rows k ≡ None) → AreRowsClosed tables rows
+none-closed tables rows count none = record {
+  right = record { count = count; right = λ k row e. absurd (none-some row (sym (none k) ∙ e)) };
+  closed = λ k row e. absurd (none-some row (sym (none k) ∙ e));
+}
+
+-- a known named type's row isn't missing
+pub known-there : (tables : Tables) (rows : List (Option RowFacts)) (id : NamedId) → IsKnown tables rows (Named id) → is_missing rows id.0 ≡ false
+known-there tables rows id known = (row-known tables rows id (slice_get tables.named id.0) (level-known tables rows (Named id) (Ground-F.Named id) known (ground_is.outs-Named id))).0
+
+-- where none of the first rows is missing, and there are no others, none is
+pub none-missing : (rows : List (Option RowFacts)) (n : ℕ) → length rows ≤ n → ((k : ℕ) → k < n → is_missing rows k ≡ false) → (k : ℕ) → is_missing rows k ≡ false
+none-missing rows n past made k = ⊎_elim (λ inside. made k (omega (arith, inside.1))) (λ outside. ap is_unmade outside.1) (slice_get_cases rows k).1
