@@ -12,4 +12,4 @@ pub mod MemberLemmas
 pub mod RowLemmas
 pub mod NodeLemmas
 pub mod MakingLemmas
-pub mod PlaceLemmas
+pub mod FirstLemmas

@@ -138,8 +138,10 @@ module _ (tables : Tables) where
     unfolding some_part
     known-of-row id row whole at in_form made known =
         let (def, of_def, types) = def-of row (slice_get tables.defs row.def.0) in_form in
-        record { none_lacks = ap (some_within (lacks_row rows)) (named-level tables id row def whole at of_def)
-            ∙ both_false (is_missing rows id.0) (some_variant (lacks_row rows) (variants_of (expanded_in tables) def.variants row.types)) made (variants-known def.variants row.types types known) }
+        record {
+          none_lacks = ap (some_within (lacks_row rows)) (named-level tables id row def whole at of_def)
+              ∙ both_false (is_missing rows id.0) (some_variant (lacks_row rows) (variants_of (expanded_in tables) def.variants row.types)) made (variants-known def.variants row.types types known);
+        }
 
   -- ---- a table grows
 
@@ -209,8 +211,8 @@ module _ (tables : Tables) (rows : List (Option RowFacts)) (id : NamedId) (row :
         count = length-put rows id.0 (Some made) ∙ closed.right.count;
         right = λ k other e. ⊎_elim
             (λ same.
-              let one : made ≡ other = same_Some made other (sym (ap made_in same.1) ∙ e) in
-              subst (λ n. IsRowOf (expanded_in tables (Named (record { 0 = n }))) other) (sym same.0) (subst (IsRowOf (expanded_in tables (Named id))) one right))
+            let one : made ≡ other = same_Some made other (sym (ap made_in same.1) ∙ e) in
+            subst (λ n. IsRowOf (expanded_in tables (Named (record { 0 = n }))) other) (sym same.0) (subst (IsRowOf (expanded_in tables (Named id))) one right))
             (λ same. closed.right.right k other (sym (ap made_in same) ∙ e))
             (at-set rows id.0 (Some made) k below);
       };
@@ -221,9 +223,6 @@ module _ (tables : Tables) (rows : List (Option RowFacts)) (id : NamedId) (row :
     };
     grows = put-grows;
   }
-
-
-
 
 -- the table has a place for each named type
 pub put-below : (tables : Tables) (rows : List (Option RowFacts)) (id : NamedId) (row : NamedRow) → AreRowsClosed tables rows → slice_get tables.named id.0 ≡ Some row → id.0 < length rows

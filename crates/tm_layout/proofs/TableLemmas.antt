@@ -50,6 +50,7 @@ module _ (p q : Expanded → Bool) (weaker : (t : Expanded) → p t ≡ false �
 
   mutual
     unfolding some_part
+
     part_weaker : (t : Expanded) → some_part p t ≡ false → some_part q t ≡ false
     part_weaker too_deep h = refl
     part_weaker (prim _) h = refl

@@ -11,7 +11,7 @@ use Rattle.tm_layout.specs.Made.{EachIs, IsKnown}
 use Rattle.tm_layout.specs.Making.{AreKnown, IsGrown, IsWhole}
 use Rattle.tm_layout.proofs.MakingLemmas.{grown-more, known-from, known-grown, known-of-Array, known-of-Tuple, known-of-Wrap, nodes-Array, nodes-row, nodes-Tuple, nodes-Wrap, put-below, put-grown, put-known, row-in_form, row-whole, some-copied, whole-Array, whole-there, whole-Tuple, whole-Wrap}
 use Rattle.tm_layout.proofs.NodeLemmas.{all_nodes, nodes_at, nodes_in, row_nodes, row_nodes_at}
-use Rattle.tm_layout.proofs.PlaceLemmas.{first-all, first-kept, first-more}
+use Rattle.tm_layout.proofs.FirstLemmas.{first-all, first-kept, first-more}
 use Rattle.tm_layout.proofs.making.+making.Goals as goal
 
 pub make_row-returns-then-is_some-clause-known : goal.make_row-returns-then-is_some-clause-known
@@ -182,7 +182,7 @@ make_variants-loop-types-preserved t c =
       grown = grown-more tables c.args.rows.now c.loop-types.rows c.make_types.new.rows c.loop-types.invariant.grown grown;
       known = first-more (EachIs (IsKnown tables c.make_types.new.rows)) c.args.variants.now c.loop-types.types-index c.types-item.result at
           (first-kept (EachIs (IsKnown tables c.loop-types.rows)) (EachIs (IsKnown tables c.make_types.new.rows)) c.args.variants.now c.loop-types.types-index
-              (λ types known k g at_k. known-grown tables c.loop-types.rows c.make_types.new.rows grown.grows g (known k g at_k)) c.loop-types.invariant.known)
+          (λ types known k g at_k. known-grown tables c.loop-types.rows c.make_types.new.rows grown.grows g (known k g at_k)) c.loop-types.invariant.known)
           (subst (EachIs (IsKnown tables c.make_types.new.rows)) c.as_slice.ensures c.in_ok-make_types.ensures.known);
     }
 

@@ -11,4 +11,4 @@ loop-types-preserved c = λ tables are known.
     let here = c.in_ok-fields.ensures tables are (subst (EachIs (IsKnown tables c.args.rows.now)) (sym c.as_slice.ensures) (known c.loop-types.types-index c.types-item.result at)) in
     let facts = subst (λ types. AreFactsFor tables types c.in_ok-fields.fields) c.as_slice.ensures here in
     rw c.in-Ok.ensures.added (matches-more (AreFactsFor tables) c.args.variants.now c.loop-types.facts c.loop-types.types-index c.types-item.result c.in_ok-fields.fields c.loop-types-test.true c.types-item.is
-      (c.loop-types.invariant tables are known) facts)
+    (c.loop-types.invariant tables are known) facts)

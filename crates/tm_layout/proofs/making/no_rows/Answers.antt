@@ -1,4 +1,4 @@
-use Rattle.std.proofs.Common.{◌≡◌, ◌∙◌, ap, length, length-append, arith, ◌+◌, ◌++◌, ◌∷◌, [], None}
+use Rattle.std.proofs.Common.{length-append, arith}
 use Rattle.tm_layout.proofs.MakingLemmas.{none-more}
 use Rattle.tm_layout.proofs.making.no_rows.Goals as goal
 

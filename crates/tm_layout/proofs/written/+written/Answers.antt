@@ -64,8 +64,7 @@ pub facts_of_tuple-loop-member-preserved : goal.facts_of_tuple-loop-member-prese
 facts_of_tuple-loop-member-preserved t c = λ tables are known.
     let (before, inside) = c.loop-member.invariant tables are known in
     let at = slice_get_read c.args.members.now (length c.args.members.now) c.loop-member.member-index c.member-item.result refl c.loop-member-test.true c.member-item.is in
-    let facts = c.facts_of-facts.ensures tables are (known c.loop-member.member-index c.member-item.result at) in
-    (
+    let facts = c.facts_of-facts.ensures tables are (known c.loop-member.member-index c.member-item.result at) in (
       members-step has_align (expanded_in tables) c.args.members.now c.loop-member.member-index c.member-item.result c.loop-member.aligned c.facts_of-facts.result.aligned _ c.loop-member-test.true c.member-item.is facts.aligned before,
       members-step is_cell (expanded_in tables) c.args.members.now c.loop-member.member-index c.member-item.result c.loop-member.interior c.facts_of-facts.result.interior _ c.loop-member-test.true c.member-item.is facts.interior inside,
     )

@@ -1,4 +1,4 @@
-use Rattle.std.proofs.Common.{◌≡◌, ◌∙◌, ap, sym, subst, List, Option, None, Some}
+use Rattle.std.proofs.Common.{◌≡◌, ◌∙◌, ap, sym, List, Option, None}
 use Rattle.tm_base.specs.Places.{place_of}
 use Rattle.tm_layout.specs.declared.row.RowFacts.{RowFacts}
 use Rattle.tm_layout.specs.Made.{row_at}
