@@ -13,3 +13,4 @@ pub mod RowLemmas
 pub mod NodeLemmas
 pub mod MakingLemmas
 pub mod FirstLemmas
+pub mod ReachedLemmas

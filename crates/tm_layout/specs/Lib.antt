@@ -8,3 +8,4 @@ pub mod Together
 pub mod Reckoned
 pub mod Defined
 pub mod Placed
+pub mod Reached

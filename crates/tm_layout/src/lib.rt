@@ -11,6 +11,7 @@ mod layouts;
 mod parts;
 mod placing;
 mod making;
+mod reached;
 mod refused;
 mod row;
 mod transparent;
