@@ -14,3 +14,6 @@ pub mod NodeLemmas
 pub mod MakingLemmas
 pub mod FirstLemmas
 pub mod ReachedLemmas
+pub mod TextLemmas
+pub mod OverLemmas
+pub mod LeastLemmas

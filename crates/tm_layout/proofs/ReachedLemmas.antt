@@ -1,8 +1,9 @@
 -- The list of the types that a type reaches, while it is made: what it holds is reached, and what the types
 -- at its first places enter stands in it.
-use Rattle.std.proofs.Common.{◌≡◌, ℕ, zero, suc, ◌+◌, ◌<◌, ◌≤◌, ◌⊎◌, inl, inr, ⊎_elim, refl, sym, ap, subst, ◌∙◌, Bool, true, false, true≢false, List, [], ◌∷◌, ◌++◌, length, replicate, Some, slice_get, set, get_or, Contains, arith, append-nil}
+use Rattle.std.proofs.Common.{◌≡◌, ℕ, zero, suc, ◌+◌, ◌<◌, ◌≤◌, ◌⊎◌, inl, inr, ⊎_elim, refl, sym, ap, subst, ◌∙◌, Bool, true, false, true≢false, List, [], ◌∷◌, ◌++◌, length, replicate, Some, slice_get, set, get_or, All, Contains, arith, append-nil}
+use Rattle.std.specs.Borrow.{Bor}
 use Rattle.std.proofs.lemmas.Bool.{cases_eq, cases_lt}
-use Rattle.std.proofs.lemmas.List.{get_or-replicate, get_or-set_other, get_or_append_left}
+use Rattle.std.proofs.lemmas.List.{get_or-replicate, get_or-set_other, get_or_append_left, get_or-map}
 use Rattle.std.proofs.lemmas.List.Elements.{Contains-append_left, Contains-append_right, Contains-append_cases}
 use Rattle.std.proofs.lemmas.Option.{slice_get-get_or, slice_get_within, slice_get_past}
 use Rattle.tm_base.specs.declared.definition.NamedRow.{NamedRow}
@@ -12,7 +13,19 @@ use Rattle.tm_base.specs.declared.ground.Ground.TheOpen.{Ground-F}
 use Rattle.tm_base.specs.Reaches.{Leads, LeadsIn, Enters, Reaches, argument_of, row_parts, row_pointee, parts_within, pointees_within, parts_of, pointees_of}
 use Rattle.tm_base.specs.Tables.{Tables}
 use Rattle.tm_base.proofs.JudgedLemmas.{LeadsIn-keeps, Contains-none, Contains-one}
-use Rattle.tm_layout.specs.Reached.{AreReached, is_marked, unlisted, newly_entered, named_after, refs_after}
+use Rattle.tm_layout.specs.Reached.{AreReached, types_at, is_marked, unlisted, newly_entered, named_after, refs_after}
+
+-- the type behind a reference at a place
+pub item-at : (types : List (Bor Ground)) (k : ℕ) (item : Bor Ground) → k < length types → item ≡ get_or types k item → get_or (types_at types) k item.now ≡ item.now
+item-at types k item below is = get_or-map (λ (g : Bor Ground). g.now) types k item item.now below ∙ ap (λ (g : Bor Ground). g.now) (sym is)
+
+-- what holds of each type that a list contains holds of all its items
+pub All-contained : (P : Ground → Type 0) (types : List Ground) → ((h : Ground) → Contains types h → P h) → All P types
+All-contained P types each k d below =
+    let one = slice_get-get_or types k d below in
+    let other = slice_get-get_or types k (get_or types k d) below in
+    let same : get_or types k (get_or types k d) ≡ get_or types k d = cc in
+    each (get_or types k d) (k, below, same)
 
 -- a way and one step more
 LeadsIn-more : {X : Type 0} (Step : X → X → Type 0) (n : ℕ) (a b c : X) → LeadsIn Step n a b → Step b c → LeadsIn Step (suc n) a c

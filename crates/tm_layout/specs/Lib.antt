@@ -9,3 +9,4 @@ pub mod Reckoned
 pub mod Defined
 pub mod Placed
 pub mod Reached
+pub mod Least

@@ -1,8 +1,8 @@
-use Rattle.std.proofs.Common.{◌≡◌, ◌<◌, ◌∙◌, sym, ap, refl, false, [], ◌∷◌, length, replicate, get_or, arith}
-use Rattle.std.proofs.lemmas.List.{get_or-map, length-map}
+use Rattle.std.proofs.Common.{◌≡◌, ◌<◌, ◌∙◌, ap, refl, false, [], ◌∷◌, length, replicate, arith}
+use Rattle.std.proofs.lemmas.List.{length-map}
 use Rattle.tm_base.specs.Worlds.{tables_of}
 use Rattle.tm_layout.specs.Reached.{types_at}
-use Rattle.tm_layout.proofs.ReachedLemmas.{reaching-begins, reaching-step, reaching-ends}
+use Rattle.tm_layout.proofs.ReachedLemmas.{item-at, reaching-begins, reaching-step, reaching-ends}
 use Rattle.tm_layout.proofs.reached.reached_types.Goals as goal
 
 pub loop-place-init : goal.loop-place-init
@@ -16,8 +16,7 @@ pub loop-place-preserved : goal.loop-place-preserved
 loop-place-preserved c =
     let items = c.loop-place.types.items in
     let below : c.loop-place.place < length items = omega (arith, c.loop-place-test.true, c.len-in-loop-place.ensures) in
-    let is : get_or (types_at items) c.loop-place.place c.index.result.now.now ≡ c.index.result.now.now =
-    get_or-map (λ g. g.now) items c.loop-place.place c.index.result.now c.index.result.now.now below ∙ ap (λ g. g.now) (sym c.index.ensures) in
+    let is = item-at items c.loop-place.place c.index.result.now below c.index.ensures in
     reaching-step (tables_of c.args.world.now) c.args.g.now c.loop-place.place _ _ _ c.index.result.now.now _ _ _
     c.loop-place.invariant (omega (arith, below, length-map items (λ g. g.now))) is
     c.in-Ok-add_entered.ensures.named c.in-Ok-add_entered.ensures.refs c.in-Ok-add_entered.ensures.types
