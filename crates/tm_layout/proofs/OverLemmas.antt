@@ -68,7 +68,7 @@ written-first (Named id) = (0, omega arith, refl)
 written-first (NonZero q) = (0, omega arith, refl)
 written-first (Ref r) = (0, omega arith, refl)
 
--- a list of types that are handed on: the elements' expansions aren't past the greatest depth
+-- no part is past the greatest depth
 abbrev IsDeepEnough : Expanded → Type 0
 IsDeepEnough t = some_within is_too_deep t ≡ false
 

@@ -19,6 +19,8 @@ mod unions;
 mod weights;
 mod wrappers;
 mod written;
+#[cfg(test)]
+mod tests;
 
 pub use layouts::{Layout, Layouts};
 pub use refused::first_refused;

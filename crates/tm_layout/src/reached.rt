@@ -129,7 +129,7 @@ fn no_marks(alloc: Global, count: usize) -> Result<Vec<bool>, Memory>
 }
 
 /// All types that a type reaches: itself, its parts by value, the pointees of its references, and what
-/// these reach.
+/// these reach. The fields of each named type and the pointee of each reference are gone through once.
 pub fn reached_types<'a>(
     alloc: Global,
     world: &'a World,
