@@ -8,7 +8,7 @@ use Rattle.tm_base.specs.Layout.{Layout, round_up, place_at, places, end_of, gre
 use Rattle.tm_base.specs.Faults.{sized_count}
 use Rattle.tm_base.specs.Laws.{IsRoundedUp, Apart}
 
-round_up-exact : (n a : ℕ) → n % a ≡ 0 → round_up n a ≡ n
+pub round_up-exact : (n a : ℕ) → n % a ≡ 0 → round_up n a ≡ n
 round_up-exact n a e =
     let whole : a - 0 ≡ a = omega arith in
     rw (e, whole, mod_self a) (omega arith)
@@ -75,15 +75,15 @@ sizes-inside size (l ∷ ls) h = (omega arith, sizes-inside size ls (omega arith
 pub union_fields-inside : (packed align : Option ℕ) (ls : List Layout) → AllByRecursion (λ l. l.size ≤ (union_layout packed align ls).size) ls
 union_fields-inside packed align ls = sizes-inside (union_layout packed align ls).size ls (omega arith)
 
-round_up-zero : (a : ℕ) → round_up 0 a ≡ 0
+pub round_up-zero : (a : ℕ) → round_up 0 a ≡ 0
 round_up-zero a = round_up-exact 0 a (zero-mod a)
 
 -- a field that stands first is at 0
-first-front : (l : Layout) → place_at None 0 l ≡ 0
+pub first-front : (l : Layout) → place_at None 0 l ≡ 0
 first-front l = round_up-zero l.align
 
 -- where a struct that a tag begins ends
-tagged-end : (tag : Layout) (ls : List Layout) → end_of None 0 (tag ∷ ls) ≡ end_of None tag.size ls
+pub tagged-end : (tag : Layout) (ls : List Layout) → end_of None 0 (tag ∷ ls) ≡ end_of None tag.size ls
 tagged-end tag ls =
     let front : place_at None 0 tag + tag.size ≡ tag.size = rw (first-front tag) (omega arith) in
     ap (λ (n : ℕ). end_of None n ls) front

@@ -81,7 +81,7 @@ list_less-total less total (x ∷ xs) (y ∷ ys) h k =
 pub word_less-total : (v w : Word) → word_less v w ≡ false → word_less w v ≡ false → v ≡ w
 word_less-total v w = list_less-total cell_less cell_less-total v w
 
-nat_lt-total : (m n : ℕ) → nat_lt m n ≡ false → nat_lt n m ≡ false → m ≡ n
+pub nat_lt-total : (m n : ℕ) → nat_lt m n ≡ false → nat_lt n m ≡ false → m ≡ n
 nat_lt-total m n h k = grind (arith, nat_tests)
 
 -- two texts of which neither is less are one

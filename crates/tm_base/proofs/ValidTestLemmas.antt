@@ -43,7 +43,7 @@ all-decides test P each (c ∷ cs) =
 are_bytes-decides : (n : ℕ) (w : Word) → Decides (are_bytes n w) (AreBytes n w)
 are_bytes-decides n w = Decides-and (length w == n) (list_all is_byte w) (Decides-eqb (length w) n) (all-decides is_byte IsByte is_byte-decides w)
 
-word_less-irrefl : (w : Word) → word_less w w ≡ false
+pub word_less-irrefl : (w : Word) → word_less w w ≡ false
 word_less-irrefl w = irrefl (word_less w w) (word_less-asym w w) where
   irrefl : (b : Bool) → (b ≡ true → b ≡ false) → b ≡ false
   irrefl true f = f refl

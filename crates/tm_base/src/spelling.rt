@@ -17,7 +17,10 @@ use std::alloc::Global;
 const REFERENCE_LIMIT: u32 = 64;
 
 /// The canonical text of a type of the world, as Rust writes it: regions by their declared names or as
-/// `'static`, and one space behind each comma and semicolon.
+/// `'static`, and one space behind each comma and semicolon. A number that names nothing in the world is
+/// written as nothing.
+///
+/// `Memory`: there wasn't enough memory for the text.
 pub fn text_of(alloc: Global, world: &World, g: &Ground) -> Result<Text, Memory>
     ensures { IfOk result (λ text. text ≡ text_of (tables_of world.now) g.now) }
 {
