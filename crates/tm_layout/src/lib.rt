@@ -8,19 +8,19 @@ mod facts;
 mod faults;
 mod fields;
 mod layouts;
+mod making;
 mod parts;
 mod placing;
-mod making;
 mod reached;
 mod refused;
 mod row;
+#[cfg(test)]
+mod tests;
 mod transparent;
 mod unions;
 mod weights;
 mod wrappers;
 mod written;
-#[cfg(test)]
-mod tests;
 
 pub use layouts::{Layout, Layouts};
 pub use refused::first_refused;
