@@ -87,3 +87,88 @@ impl Layouts {
         facts_of(self.rows.as_slice(), g)
     }
 }
+
+#[cfg(test)]
+mod tests {
+    use super::*;
+    use crate::facts::empty;
+    use tm_base::{Boxed, List, Primitive, Wrapper};
+
+    /// An array of four `u16` in a wrapper.
+    fn sample(alloc: Global, wrapper: Wrapper) -> Result<Ground, Memory> {
+        let array = Ground::Array(Boxed::new(alloc, Ground::Prim(Primitive::U16))?, 4);
+        Ok(Ground::Wrap(wrapper, Boxed::new(alloc, array)?))
+    }
+
+    fn no_rows(alloc: Global) -> Layouts {
+        Layouts {
+            rows: Vec::new(alloc),
+        }
+    }
+
+    #[test]
+    fn a_cell_has_the_layout_of_what_it_holds(rt: HostRuntime) {
+        let alloc = rt.alloc();
+        let layouts = no_rows(alloc);
+        let Ok(g) = sample(alloc, Wrapper::Cell) else {
+            panic!(rt; "the sample wants memory");
+        };
+        assert!(rt; layouts.interior(&g));
+        match layouts.of(&g) {
+            Ok(layout) => assert!(rt; layout.size == 8 && layout.align == 2),
+            Err(_) => panic!(rt; "it is refused"),
+        }
+    }
+
+    #[test]
+    fn phantom_data_holds_nothing(rt: HostRuntime) {
+        let alloc = rt.alloc();
+        let layouts = no_rows(alloc);
+        let Ok(g) = sample(alloc, Wrapper::PhantomData) else {
+            panic!(rt; "the sample wants memory");
+        };
+        match layouts.of(&g) {
+            Ok(layout) => assert!(rt; layout.size == 0 && layout.align == 1),
+            Err(_) => panic!(rt; "it is refused"),
+        }
+    }
+
+    #[test]
+    fn an_option_that_is_not_listed_is_refused(rt: HostRuntime) {
+        let alloc = rt.alloc();
+        let layouts = no_rows(alloc);
+        let Ok(g) = sample(alloc, Wrapper::Option) else {
+            panic!(rt; "the sample wants memory");
+        };
+        assert!(rt; matches!(layouts.of(&g), Err(Why::OptionNotListed)));
+        assert!(rt; matches!(layouts.fault(&g), Some(Why::OptionNotListed)));
+    }
+
+    /// The layouts of one type: a variant whose two fields stand at 0 and 4.
+    fn two_fields(alloc: Global) -> Result<Layouts, Memory> {
+        let mut fields = List::new(alloc);
+        let mut places = List::new(alloc);
+        let mut rows = Vec::new(alloc);
+        let (Ok(()), Ok(())) = (fields.push(0), fields.push(4)) else {
+            return Err(Memory);
+        };
+        let Ok(()) = places.push(fields) else {
+            return Err(Memory);
+        };
+        let facts = empty();
+        match rows.push(Some(RowFacts { facts, places })) {
+            Ok(()) => Ok(Layouts { rows }),
+            Err(_) => Err(Memory),
+        }
+    }
+
+    #[test]
+    fn a_field_stands_at_its_place(rt: HostRuntime) {
+        let Ok(layouts) = two_fields(rt.alloc()) else {
+            panic!(rt; "the layouts want memory");
+        };
+        assert_eq!(rt; layouts.place(NamedId(0), 0, 1), 4);
+        assert_eq!(rt; layouts.place(NamedId(0), 0, 2), 0);
+        assert_eq!(rt; layouts.place(NamedId(1), 0, 1), 0);
+    }
+}
