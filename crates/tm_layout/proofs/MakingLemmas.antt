@@ -1,5 +1,5 @@
 -- Whole types and their parts, and what a table knows after a row is put into it.
-use Rattle.std.proofs.Common.{◌≡◌, ℕ, zero, suc, ◌+◌, ◌<◌, ◌≤◌, ◌++◌, ◌⊎◌, inl, inr, ⊎_elim, refl, sym, ◌∙◌, ap, subst, Bool, true, false, List, [], ◌∷◌, length, Option, Some, None, slice_get, arith, Bor}
+use Rattle.std.proofs.Common.{◌≡◌, ℕ, zero, suc, ◌+◌, ◌<◌, ◌≤◌, ◌++◌, ◌⊎◌, inl, inr, ⊎_elim, refl, sym, ◌∙◌, ap, subst, true, false, List, [], ◌∷◌, length, Option, Some, None, slice_get, arith, Bor}
 use Rattle.std.specs.List.{slice_set}
 use Rattle.std.specs.Option.{is_some, option_copied}
 use Rattle.std.proofs.lemmas.Bool.{eqb-true}
@@ -22,7 +22,7 @@ use Rattle.tm_base.specs.Whole.{are_rows_in_form, has_its_types, is_row_of}
 use Rattle.tm_base.specs.Worlds.{tables_of}
 use Rattle.tm_base.proofs.WorldLemmas.{field-in_form, list_all-at, passes-whole}
 use Rattle.tm_layout.specs.declared.row.RowFacts.{RowFacts}
-use Rattle.tm_layout.specs.Made.{AreRowsOf, EachIs, IsKnown, IsRowOf, is_missing, is_unmade, lacks_row, made_in, row_at}
+use Rattle.tm_layout.specs.Made.{EachIs, IsKnown, IsRowOf, is_missing, is_unmade, lacks_row, made_in, row_at}
 use Rattle.tm_layout.specs.Making.{AreKnown, AreRowsClosed, Grows, IsGrown, IsWhole}
 use Rattle.tm_layout.proofs.NodeLemmas.{all_nodes, element-nodes, nodes_in, nodes_of, row_nodes, variants-nodes}
 use Rattle.tm_layout.proofs.RowLemmas.{first_true, second_true, named-level}

@@ -1,11 +1,8 @@
 -- How many parts a type has by value, at any depth: it falls from each type to its parts.
-use Rattle.std.proofs.Common.{◌≡◌, ℕ, zero, suc, ◌+◌, ◌<◌, ◌≤◌, refl, sym, ◌∙◌, ap, true, List, [], ◌∷◌, length, get_or, Some, slice_get, arith}
-use Rattle.tm_base.specs.declared.definition.Def.{Def}
+use Rattle.std.proofs.Common.{◌≡◌, ℕ, zero, suc, ◌+◌, ◌<◌, ◌≤◌, refl, ap, true, List, [], ◌∷◌, length, get_or, arith}
 use Rattle.tm_base.specs.declared.definition.Field.{Field}
-use Rattle.tm_base.specs.declared.definition.NamedRow.{NamedRow}
 use Rattle.tm_base.specs.declared.definition.Variant.{Variant}
-use Rattle.tm_base.specs.declared.ground.Ground.{Ground, Named}
-use Rattle.tm_base.specs.declared.ground.NamedId.{NamedId}
+use Rattle.tm_base.specs.declared.ground.Ground.{Ground}
 use Rattle.tm_base.specs.Expanded.{Expanded, Fields, Variants, tuple, array, wrap, named, no_fields, field, no_variants, variant, elements, fields_of, variants_of}
 use Rattle.tm_base.specs.Tables.{Tables, expanded_in}
 use Rattle.tm_base.specs.Whole.{has_its_types}

@@ -1,5 +1,5 @@
 -- A named type and its fields, and what is known of them.
-use Rattle.std.proofs.Common.{◌≡◌, ℕ, suc, ◌+◌, ◌<◌, ◌≤◌, refl, sym, ◌∙◌, ap, subst, Bool, true, false, ◌&&◌, ◌==◌, List, [], ◌∷◌, ◌++◌, length, get_or, take, Option, Some, slice_get, arith}
+use Rattle.std.proofs.Common.{◌≡◌, ℕ, ◌+◌, ◌<◌, ◌≤◌, refl, sym, ◌∙◌, ap, subst, Bool, true, false, ◌&&◌, ◌==◌, List, [], ◌∷◌, ◌++◌, length, get_or, take, Some, slice_get, arith}
 use Rattle.std.proofs.lemmas.Bool.{eqb-true}
 use Rattle.std.proofs.lemmas.List.{take_more, take_all}
 use Rattle.tm_base.specs.declared.definition.Def.{Def}
@@ -7,7 +7,6 @@ use Rattle.tm_base.specs.declared.definition.Field.{Field}
 use Rattle.tm_base.specs.declared.definition.NamedRow.{NamedRow}
 use Rattle.tm_base.specs.declared.definition.Variant.{Variant}
 use Rattle.tm_base.specs.declared.ground.Ground.{Ground, Named}
-use Rattle.tm_base.specs.declared.ground.Ground.TheOpen.{Ground-F}
 use Rattle.tm_base.specs.declared.ground.Ground.TheVariants as ground_is
 use Rattle.tm_base.specs.declared.ground.NamedId.{NamedId}
 use Rattle.tm_base.specs.Expanded.{Expanded, named, fields_of, variants_of, defined, row_of, level}
@@ -16,7 +15,7 @@ use Rattle.tm_base.specs.Tables.{Tables, expanded_in}
 use Rattle.tm_base.specs.Whole.{has_its_types}
 use Rattle.tm_base.proofs.ExpandedLemmas.{expanded-level}
 use Rattle.tm_layout.specs.declared.facts.Facts.{Facts}
-use Rattle.tm_layout.specs.Known.{AreFactsOf, AreVariantFacts, AreVariantsFor, IsFactsOf}
+use Rattle.tm_layout.specs.Known.{AreFactsOf, AreVariantFacts, AreVariantsFor}
 use Rattle.tm_layout.specs.Making.{AreFactsFor, EachMatches, IsWhole}
 
 -- one item more on each side

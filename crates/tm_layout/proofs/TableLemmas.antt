@@ -1,6 +1,5 @@
 -- What is known of a type: its rows and its parts, kind by kind.
-use Rattle.std.proofs.Common.{◌≡◌, ℕ, zero, suc, ◌+◌, ◌<◌, refl, sym, ◌∙◌, ap, subst, Bool, true, false, ◌||◌, ◌&&◌, not, IsTrue, List, [], ◌∷◌, length, Option, Some, None, slice_get, arith}
-use Rattle.std.proofs.lemmas.Option.{slice_get_within, slice_get-get_or}
+use Rattle.std.proofs.Common.{◌≡◌, ℕ, zero, suc, refl, sym, ◌∙◌, ap, subst, Bool, true, false, ◌||◌, ◌&&◌, not, IsTrue, List, [], ◌∷◌, length, Option, Some, None, slice_get, arith}
 use Rattle.tm_base.specs.declared.definition.Def.{Def}
 use Rattle.tm_base.specs.declared.definition.NamedRow.{NamedRow}
 use Rattle.tm_base.specs.declared.ground.Ground.{Ground, out-Ground, Named}
@@ -9,7 +8,7 @@ use Rattle.tm_base.specs.declared.ground.Ground.TheVariants as ground_is
 use Rattle.tm_base.specs.declared.ground.NamedId.{NamedId}
 use Rattle.tm_base.specs.declared.ground.Wrapper.{Wrapper}
 use Rattle.tm_base.specs.declared.ground.Wrapper.TheVariants as wrapper
-use Rattle.tm_base.specs.Expanded.{depth_limit, expanded_within, Expanded, Fields, Variants, too_deep, prim, never, unit, tuple, array, nonzero, phantom, wrap, ref, named, no_fields, field, no_variants, variant, elements, level, row_of, defined, wrapped, variants_of}
+use Rattle.tm_base.specs.Expanded.{depth_limit, expanded_within, Expanded, Fields, Variants, too_deep, prim, never, unit, tuple, array, nonzero, phantom, wrap, ref, named, no_fields, field, no_variants, variant, elements, level, row_of, defined, wrapped}
 use Rattle.tm_base.specs.Parts.{some_part, some_field, some_variant, some_within, is_too_deep, is_whole}
 use Rattle.tm_base.specs.Tables.{Tables, expanded_in}
 use Rattle.tm_base.specs.Whole.{is_head_in_form, is_type_over, written_types}
@@ -19,7 +18,7 @@ use Rattle.tm_base.proofs.ExpandedLemmas.{expanded-level}
 use Rattle.tm_layout.specs.declared.facts.Facts.{Facts}
 use Rattle.tm_layout.specs.declared.row.RowFacts.{RowFacts}
 use Rattle.tm_layout.specs.Known.{IsFactsOf}
-use Rattle.tm_layout.specs.Made.{AreRowsOf, EachIs, IsKnown, IsRowOf, is_missing, is_unmade, lacks_row, made_in, row_at}
+use Rattle.tm_layout.specs.Made.{AreRowsOf, EachIs, IsKnown, is_missing, is_unmade, lacks_row, made_in, row_at}
 
 -- ---- tests of a type and its parts
 

@@ -4,7 +4,7 @@ use Rattle.tm_base.specs.declared.answer.Why.{Why}
 use Rattle.tm_base.specs.declared.ground.Ground.{Ground, Named}
 use Rattle.tm_base.specs.Expanded.{Expanded, too_deep, named}
 use Rattle.tm_base.specs.Layout.{align_of, size_of}
-use Rattle.tm_base.specs.Parts.{is_whole, some_within}
+use Rattle.tm_base.specs.Parts.{some_within}
 use Rattle.tm_base.specs.Places.{places_of}
 use Rattle.tm_base.specs.Tables.{Tables, expanded_in}
 use Rattle.tm_layout.specs.declared.layouts.Layout.{Layout}

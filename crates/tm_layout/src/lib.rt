@@ -7,6 +7,7 @@ mod enums;
 mod facts;
 mod faults;
 mod fields;
+mod filling;
 mod layouts;
 mod making;
 mod parts;

@@ -1,82 +1,14 @@
 //! The rows of a world's named types, each made after those that it rests on.
-ghost use Rattle.std.specs.Prelude.{◌≡◌, ℕ, ◌<◌, false, IfOk, IsTrue, None, OnOk, Some, length, slice_get, slice_set};
+ghost use Rattle.std.specs.Prelude.{◌≡◌, ℕ, ◌<◌, false, IfOk, None, OnOk, Some, length, slice_set};
 ghost use Rattle.tm_base.specs.declared.ground.Ground.{Named};
-ghost use Rattle.tm_base.specs.declared.ground.NamedId.{NamedId};
-ghost use Rattle.tm_base.specs.Expanded.{Variants, named};
-ghost use Rattle.tm_base.specs.Tables.{Tables, expanded_in};
-ghost use Rattle.tm_base.specs.Whole.{is_def_in_form, is_row_of};
 ghost use Rattle.tm_base.specs.Worlds.{tables_of};
-ghost use Rattle.tm_layout.specs.Known.{AreVariantFacts, AreVariantsFor};
-ghost use Rattle.tm_layout.specs.Made.{AreRowsOf, EachIs, IsKnown, IsRowOf, is_missing, row_at};
-ghost use Rattle.tm_layout.specs.Making.{AreFactsFor, AreKnown, AreRowsClosed, EachMatches, IsGrown, IsWhole};
+ghost use Rattle.tm_layout.specs.Made.{AreRowsOf, EachIs, IsKnown, is_missing, row_at};
+ghost use Rattle.tm_layout.specs.Making.{AreKnown, AreRowsClosed, IsGrown, IsWhole};
 
-use crate::facts::{Facts, defined, places};
+use crate::filling::row_of;
 use crate::row::{RowFacts, row_at};
-use crate::written::facts_of;
 use std::alloc::Global;
-use tm_base::{Def, Ground, List, Memory, NamedId, NamedRow, World, Wrapper};
-
-/// The facts of some types, in order.
-fn facts_of_fields(
-    alloc: Global,
-    rows: &[Option<RowFacts>],
-    types: &[Ground],
-) -> Result<List<Facts>, Memory>
-    ensures { IfOk result (λ facts. (tables : Tables) → AreRowsOf tables rows.now → EachIs (IsKnown tables rows.now) types.now → AreFactsFor tables types.now facts) }
-{
-    let mut facts = List::new(alloc);
-    for g in types {
-        let Ok(()) = facts.push(facts_of(rows, g)) else {
-            return Err(Memory);
-        };
-    }
-    Ok(facts)
-}
-
-/// The facts of the fields of some variants, in order.
-fn facts_of_variants(
-    alloc: Global,
-    rows: &[Option<RowFacts>],
-    variants: &[List<Ground>],
-) -> Result<List<List<Facts>>, Memory>
-    ensures { IfOk result (λ facts. (tables : Tables) → AreRowsOf tables rows.now → AreKnown tables rows.now variants.now → EachMatches (AreFactsFor tables) variants.now facts) }
-{
-    let mut facts = List::new(alloc);
-    for types in variants {
-        let fields = facts_of_fields(alloc, rows, types.as_slice())?;
-        let Ok(()) = facts.push(fields) else {
-            return Err(Memory);
-        };
-    }
-    Ok(facts)
-}
-
-/// The row of a type of a definition, from the facts of its fields.
-fn row_of_def(alloc: Global, def: &Def, parts: &[List<Facts>]) -> Result<RowFacts, Memory>
-    requires { IsTrue (is_def_in_form def.now) }
-    ensures { IfOk result (λ row. (id : NamedId) (variants : Variants) → AreVariantsFor def.now.variants variants → AreVariantFacts variants parts.now → IsRowOf (named id def.now.kind def.now.repr variants) row) }
-{
-    let places = places(alloc, def, parts)?;
-    let facts = defined(def, parts);
-    Ok(RowFacts { facts, places })
-}
-
-/// The row of a named type, where all that its fields rest on is made.
-fn row_of(
-    alloc: Global,
-    world: &World,
-    rows: &[Option<RowFacts>],
-    row: &NamedRow,
-) -> Result<RowFacts, Memory>
-    requires { IsTrue (is_row_of (slice_get world.now.defs row.now.def.0) row.now) }
-    ensures { IfOk result (λ made. (id : NamedId) → slice_get world.now.named id.0 ≡ Some row.now → IsWhole (tables_of world.now) (Named id) → AreRowsOf (tables_of world.now) rows.now → AreKnown (tables_of world.now) rows.now row.now.types → IsRowOf (expanded_in (tables_of world.now) (Named id)) made) }
-{
-    let parts = facts_of_variants(alloc, rows, row.types.as_slice())?;
-    match world.defs.get(row.def.0 as usize) {
-        Some(def) => row_of_def(alloc, def, parts.as_slice()),
-        None => unreachable!(),
-    }
-}
+use tm_base::{Ground, List, Memory, NamedId, World, Wrapper};
 
 /// Puts a row into the table.
 fn put(rows: &mut [Option<RowFacts>], id: NamedId, row: RowFacts)

@@ -1,5 +1,4 @@
 //! The facts of types, from those of the named types that they hold by value.
-ghost use Rattle.std.specs.Prelude.{◌≡◌};
 ghost use Rattle.tm_base.specs.declared.ground.Ground.{Named};
 ghost use Rattle.tm_base.specs.Expanded.{elements, tuple};
 ghost use Rattle.tm_base.specs.Tables.{Tables, expanded_in};

@@ -1,5 +1,5 @@
-use Rattle.std.proofs.Common.{rules, ◌≡◌, ◌+◌, ◌<◌, ◌≤◌, ◌∙◌, ap, arith, get_or, length, refl, subst, sym, false, slice_get, Some}
-use Rattle.std.proofs.lemmas.Option.{slice_get_read, slice_get_within}
+use Rattle.std.proofs.Common.{rules, ◌+◌, ◌<◌, ◌∙◌, ap, arith, length, refl, subst, sym}
+use Rattle.std.proofs.lemmas.Option.{slice_get_read}
 use Rattle.std.proofs.lemmas.Result.{on_ok_weaker}
 use Rattle.tm_base.specs.declared.ground.Ground.{out-Ground, Named}
 use Rattle.tm_base.specs.declared.ground.Ground.TheOpen.{Ground-F}

@@ -1,12 +1,12 @@
-use Rattle.std.proofs.Common.{◌≡◌, ◌∙◌, ap, subst, sym, refl, length}
-use Rattle.tm_base.specs.declared.ground.Ground.{Ground, out-Ground}
+use Rattle.std.proofs.Common.{◌∙◌, ap, subst, sym, refl, length}
+use Rattle.tm_base.specs.declared.ground.Ground.{out-Ground}
 use Rattle.tm_base.specs.declared.ground.Ground.TheOpen.{Ground-F}
 use Rattle.tm_base.specs.declared.ground.Ground.TheVariants as ground_is
 use Rattle.tm_base.specs.declared.ground.Wrapper.TheVariants as wrapper
-use Rattle.tm_base.specs.Expanded.{elements, wrap}
+use Rattle.tm_base.specs.Expanded.{elements}
 use Rattle.tm_base.specs.Faults.{has_align}
 use Rattle.tm_base.specs.Parts.{is_cell}
-use Rattle.tm_base.specs.Tables.{Tables, expanded_in}
+use Rattle.tm_base.specs.Tables.{expanded_in}
 use Rattle.tm_layout.specs.Known.{IsFactsOf}
 use Rattle.std.proofs.lemmas.Option.{slice_get_read}
 use Rattle.tm_layout.proofs.MemberLemmas.{members-end, members-step}

@@ -1,4 +1,4 @@
-use Rattle.std.proofs.Common.{◌≡◌, ◌∙◌, ap, sym, None, Some}
+use Rattle.std.proofs.Common.{◌∙◌, ap, sym}
 use Rattle.std.specs.Option.{is_some}
 use Rattle.tm_base.specs.Tables.{expanded_in}
 use Rattle.tm_layout.proofs.RefusalLemmas.{refused-exactly}

@@ -1,15 +1,15 @@
-use Rattle.std.proofs.Common.{◌≡◌, ◌∙◌, ap, refl, subst, sym, true, Some}
+use Rattle.std.proofs.Common.{◌≡◌, ◌∙◌, ap, subst, sym, true}
 use Rattle.std.proofs.lemmas.Result.{IfOk-weaker}
 use Rattle.tm_base.specs.Tables.{expanded_in}
 use Rattle.tm_base.specs.Whole.{are_defs_in_form, has_its_types, is_def_in_form, is_row_of}
 use Rattle.tm_base.specs.Worlds.{tables_of}
 use Rattle.tm_base.proofs.WorldLemmas.{list_all-at}
 use Rattle.tm_layout.specs.Known.{AreVariantFacts}
-use Rattle.tm_layout.specs.Made.{EachIs, IsKnown, IsRowOf}
+use Rattle.tm_layout.specs.Made.{IsRowOf}
 use Rattle.tm_layout.specs.Making.{AreFactsFor, AreKnown, EachMatches}
 use Rattle.tm_base.specs.Expanded.{variants_of}
 use Rattle.tm_layout.proofs.RowLemmas.{named-level, variants-facts, variants-for}
-use Rattle.tm_layout.proofs.making.row_of.Goals as goal
+use Rattle.tm_layout.proofs.filling.row_of.Goals as goal
 
 pub row_of_def-requires : goal.row_of_def-requires
 unfolding are_defs_in_form

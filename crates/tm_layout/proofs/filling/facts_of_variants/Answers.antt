@@ -2,8 +2,8 @@ use Rattle.std.proofs.Common.{refl, length, subst, sym}
 use Rattle.std.proofs.lemmas.Option.{slice_get_read}
 use Rattle.tm_layout.specs.Made.{EachIs, IsKnown}
 use Rattle.tm_layout.specs.Making.{AreFactsFor}
-use Rattle.tm_layout.proofs.RowLemmas.{matches-end, matches-more}
-use Rattle.tm_layout.proofs.making.facts_of_variants.Goals as goal
+use Rattle.tm_layout.proofs.RowLemmas.{matches-more}
+use Rattle.tm_layout.proofs.filling.facts_of_variants.Goals as goal
 
 pub loop-types-preserved : goal.loop-types-preserved
 loop-types-preserved c = λ tables are known.

@@ -1,4 +1,4 @@
-use Rattle.tm_layout.proofs.making.row_of_def.Goals as goal
+use Rattle.tm_layout.proofs.filling.row_of_def.Goals as goal
 
 pub returns : goal.returns
 returns c = λ id variants for facts. record {

@@ -1,10 +1,9 @@
-use Rattle.std.proofs.Common.{refl, length, subst, sym}
+use Rattle.std.proofs.Common.{refl, length}
 use Rattle.std.proofs.lemmas.Option.{slice_get_read}
 use Rattle.tm_base.specs.Tables.{expanded_in}
 use Rattle.tm_layout.specs.Known.{IsFactsOf}
-use Rattle.tm_layout.specs.Making.{AreFactsFor}
-use Rattle.tm_layout.proofs.RowLemmas.{matches-end, matches-more}
-use Rattle.tm_layout.proofs.making.facts_of_fields.Goals as goal
+use Rattle.tm_layout.proofs.RowLemmas.{matches-more}
+use Rattle.tm_layout.proofs.filling.facts_of_fields.Goals as goal
 
 pub loop-g-preserved : goal.loop-g-preserved
 loop-g-preserved c = λ tables are known.
