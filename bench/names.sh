@@ -21,9 +21,5 @@ file() { # DEFINITIONS FIELDS QUESTIONS
 
 for definitions in 64 128 256; do
     file "$definitions" 256 256 >"$work/file"
-    /usr/bin/env time -f '%e' "$program" <"$work/file" >"$work/out" 2>"$work/seconds"
-    printf '%4d definitions of 256 fields, %7d bytes: %12d instructions, %s s: %s\n' "$definitions" \
-        "$(wc -c <"$work/file")" \
-        "$(instructions "$work/file")" \
-        "$(tail -n 1 "$work/seconds")" "$(cat "$work/out")"
+    measure "$work/file" "$(printf '%3d definitions of 256 fields' "$definitions")"
 done

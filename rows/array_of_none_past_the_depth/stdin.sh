@@ -1,0 +1,2 @@
+bash "$(dirname "$0")/../greatest_depth/stdin.sh"
+echo 'ask [S62; 0] => u8;'
