@@ -102,6 +102,7 @@ module _ (file : List ℕ) (resolved : Resolved) (m : IsMeaningOf file resolved)
       limits = limits;
       belongs = belongs;
       today = today;
+      only = m.only;
       faultless = λ fault h. by_late file (λ fault. ⊥)
           (λ k passes. no_limit resolved limits k (first_here k passes)) goes_nowhere fault (m.faultless fault h);
     }

@@ -2,8 +2,10 @@ pub mod BytesLemmas
 pub mod ClosingLemmas
 pub mod CompareLemmas
 pub mod FaultLemmas
+pub mod FileAnswerLemmas
 pub mod FitLemmas
 pub mod LeavingLemmas
+pub mod MayLemmas
 pub mod QuestionLemmas
 pub mod RunLemmas
 pub mod TokenLemmas

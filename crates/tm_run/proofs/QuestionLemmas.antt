@@ -27,7 +27,7 @@ no-flag false true y z h = cc
 no-flag false false true z h = cc
 no-flag false false false true h = cc
 
-both-left : (a b : Bool) → (a && b) ≡ true → a ≡ true
+pub both-left : (a b : Bool) → (a && b) ≡ true → a ≡ true
 both-left true b h = refl
 both-left false b h = h
 
@@ -37,7 +37,7 @@ assumes-nothing ask h =
     no-flag a.alignment a.lifetimes a.safety a.validity
     (both-left (assumes_nothing a) (is_some (bytes_of ask.src)) (both-left (assumes_nothing a && is_some (bytes_of ask.src)) (is_some (bytes_of ask.dst)) h))
 
-both-right : (a b : Bool) → (a && b) ≡ true → b ≡ true
+pub both-right : (a b : Bool) → (a && b) ≡ true → b ≡ true
 both-right true b h = h
 both-right false b h = cc
 
@@ -87,6 +87,10 @@ module _ (rows : List NamedRow) (refs : List RefRow) where
   bytes-same (wrap w c) g (x, e, a) = rw (e, ground_is.outs-Wrap w x) refl
   bytes-same (named def regions) g (id, e, row, at, same) = rw (e, ground_is.outs-Named id) refl
   bytes-same (ref region mutable c) g (r, e, row, at, a, b, d) = rw (e, ground_is.outs-Ref r) refl
+
+-- so types that stand for one closed type are the same bytes
+pub bytes-agree : (world other : World) (c : Closed) (g h : Ground) → StandsFor world.named world.refs c g → StandsFor other.named other.refs c h → bytes_of h ≡ bytes_of g
+bytes-agree world other c g h a b = bytes-same other.named other.refs c h b ∙ sym (bytes-same world.named world.refs c g a)
 
 -- a question before its types have numbers
 abbrev is_open_answerable : OpenAsk → Bool

@@ -10,7 +10,8 @@ use Rattle.tm_report.specs.FaultLines.{line_of}
 use Rattle.tm_report.specs.declared.fault.FileFault.{FileFault}
 use Rattle.tm_report.specs.declared.fault.FileFault.TheVariants.{NotUtf8, NoToken, BadNumber, OpenComment, Unexpected, EndOfFile, Passed, Names, NotYet}
 use Rattle.tm_run.specs.Examined.{IsAnsweredWorld, IsOnlyFault}
-use Rattle.tm_run.specs.Faults.{HasNameFault, HasTextFault, PassesLimit, status_of_fault}
+use Rattle.tm_run.specs.Faults.{GoesBeyond, HasNameFault, HasTextFault, PassesLimit, status_of_fault}
+use Rattle.tm_run.specs.FileAnswers.{EachMayTransmute, SomeMayNotTransmute}
 use Rattle.tm_run.specs.Outcomes.{usage_line, IsReport, IsFileOutcome, IsOutcome, IsSettled, IsTold}
 use Rattle.tm_run.specs.Report.{is_yes, report_of, status_of}
 use Rattle.tm_run.specs.Runs.{Finishes, Answers, Decides, Declines, Runs}
@@ -19,6 +20,7 @@ use Rattle.tm_run.specs.declared.status.Status.{Status}
 use Rattle.tm_run.specs.declared.status.Status.TheVariants.{AllYes, Mixed, Usage, BadText, Limit, ReadFault, WriteFault, Memory, IllFormed}
 use Rattle.tm_run.specs.declared.verdict.Verdict.{Verdict}
 use Rattle.tm_run.proofs.FaultLemmas.{cause_limit, cause_name, cause_text, limit_cause, long_only, name_cause, text_cause}
+use Rattle.tm_run.proofs.FileAnswerLemmas.{accepted_of, all_yes-each, each-all_yes, mixed-some, some-mixed}
 
 -- the statuses of reports and of faults
 report_status : (verdicts : List Verdict) → (status_of verdicts ≡ AllYes) ⊎ (status_of verdicts ≡ Mixed)
@@ -52,6 +54,8 @@ fault_decides : (file : List ℕ) (fault : FileFault) → IsOnlyFault file fault
 fault_decides file fault one = record {
   outcome = inr (record { fault = fault; has = one.has; status_is = refl; text_is = refl });
   accepted = λ a today. absurd (today (one.accepted a));
+  each_may = λ today e. absurd (today (one.accepted (accepted_of file e.world e.of_file)));
+  some_may_not = λ today s. absurd (today (one.accepted (accepted_of file s.world s.of_file)));
   faulted = λ other h. (sym (ap status_of_fault (one.only other h)), sym (ap line_of (one.only other h)));
 }
 
@@ -61,6 +65,8 @@ pub report_decides : (file : List ℕ) (world : World) (verdicts : List Verdict)
 report_decides file world verdicts status text w answered status_is text_is = record {
   outcome = inl report;
   accepted = λ a today. report;
+  each_may = λ today e. status_is ∙ each-all_yes file world verdicts w answered e;
+  some_may_not = λ today s. status_is ∙ some-mixed file world verdicts w answered s;
   faulted = λ fault has. absurd (w.faultless fault has);
 }
   where
@@ -93,6 +99,15 @@ not_of_report file status text report = by (report_status report.verdicts)
     by (inl e) = let is = report.status_is in (λ k. cc, λ k. cc, λ k. cc, λ k. cc)
     by (inr e) = let is = report.status_is in (λ k. cc, λ k. cc, λ k. cc, λ k. cc)
 
+-- and a fault's status is none of a report's or of a misuse
+not_of_fault : (fault : FileFault) (status : Status) → status ≡ status_of_fault fault → (status ≢ Usage) × (status ≢ AllYes) × (status ≢ Mixed)
+not_of_fault fault status is = by (fault_status fault)
+  where
+    by : (status_of_fault fault ≡ BadText) ⊎ ((status_of_fault fault ≡ Limit) ⊎ (status_of_fault fault ≡ IllFormed)) → (status ≢ Usage) × (status ≢ AllYes) × (status ≢ Mixed)
+    by (inl f) = (λ e. cc, λ e. cc, λ e. cc)
+    by (inr (inl f)) = (λ e. cc, λ e. cc, λ e. cc)
+    by (inr (inr f)) = (λ e. cc, λ e. cc, λ e. cc)
+
 -- what is decided of a file
 module _ (file : List ℕ) (status : Status) (text : List ℕ) (d : Decides file status text) where
   decides_limit : status ≡ Limit ↔ PassesLimit file
@@ -119,14 +134,23 @@ module _ (file : List ℕ) (status : Status) (text : List ℕ) (d : Decides file
   decides_used : status ≢ Usage
   decides_used e = by d.outcome
     where
-      of : (fault : FileFault) → status ≡ status_of_fault fault → (status_of_fault fault ≡ BadText) ⊎ ((status_of_fault fault ≡ Limit) ⊎ (status_of_fault fault ≡ IllFormed)) → ⊥
-      of fault is (inl f) = cc
-      of fault is (inr (inl f)) = cc
-      of fault is (inr (inr f)) = cc
-
       by : IsFileOutcome file status text → ⊥
       by (inl report) = (not_of_report file status text report).0 e
-      by (inr refusal) = of refusal.fault refusal.status_is (fault_status refusal.fault)
+      by (inr refusal) = (not_of_fault refusal.fault status refusal.status_is).0 e
+
+  decides_all_yes : status ≡ AllYes ↔ ((¬ GoesBeyond file) × EachMayTransmute file)
+  decides_all_yes = (λ e. (λ beyond. let is = (d.faulted NotYet beyond).0 in cc, by e d.outcome), λ (today, each). d.each_may today each)
+    where
+      by : status ≡ AllYes → IsFileOutcome file status text → EachMayTransmute file
+      by e (inl report) = all_yes-each file status text report e
+      by e (inr refusal) = absurd ((not_of_fault refusal.fault status refusal.status_is).1 e)
+
+  decides_mixed : status ≡ Mixed ↔ ((¬ GoesBeyond file) × SomeMayNotTransmute file)
+  decides_mixed = (λ e. (λ beyond. let is = (d.faulted NotYet beyond).0 in cc, by e d.outcome), λ (today, some). d.some_may_not today some)
+    where
+      by : status ≡ Mixed → IsFileOutcome file status text → SomeMayNotTransmute file
+      by e (inl report) = mixed-some file status text report e
+      by e (inr refusal) = absurd ((not_of_fault refusal.fault status refusal.status_is).2 e)
 
 settled_status : (status : Status) → IsSettled status → (status ≢ ReadFault) × (status ≢ WriteFault) × (status ≢ Memory)
 settled_status AllYes h = (λ e. cc, λ e. cc, λ e. cc)
@@ -157,6 +181,8 @@ module _ {W : Type 0} (words : List W) (left left' : Option (List ℕ)) (reads r
         headline = λ file r a today. (text, (w.decides file r.in_form r.told).accepted a today, adds);
         outcome = λ file told s. (text, w.outcome file told, adds);
         fault = λ file r fault h. let (status_is, text_is) = (w.decides file r.in_form r.told).faulted fault h in (status_is, subst (λ (line : List ℕ). AddsAll written written' line) text_is adds);
+        all_yes = λ file r. decides_all_yes file status text (w.decides file r.in_form r.told);
+        mixed = λ file r. decides_mixed file status text (w.decides file r.in_form r.told);
         usage = λ s. w.usage;
         limit = λ file r. decides_limit file status text (w.decides file r.in_form r.told);
         bad_text = λ file r. decides_text file status text (w.decides file r.in_form r.told);
@@ -177,6 +203,8 @@ module _ {W : Type 0} (words : List W) (left left' : Option (List ℕ)) (reads r
     headline = λ file r a today. absurd r.settled;
     outcome = λ file told s. absurd s;
     fault = λ file r fault h. absurd r.settled;
+    all_yes = λ file r. absurd r.settled;
+    mixed = λ file r. absurd r.settled;
     usage = λ s. absurd s;
     limit = λ file r. absurd r.settled;
     bad_text = λ file r. absurd r.settled;
@@ -210,6 +238,8 @@ module _ {W : Type 0} (words : List W) (left left' : Option (List ℕ)) (reads r
     headline = λ file r a today. absurd r.settled;
     outcome = λ file told s. absurd s;
     fault = λ file r fault h. absurd r.settled;
+    all_yes = λ file r. absurd r.settled;
+    mixed = λ file r. absurd r.settled;
     usage = λ s. absurd s;
     limit = λ file r. absurd r.settled;
     bad_text = λ file r. absurd r.settled;
@@ -231,6 +261,8 @@ module _ {W : Type 0} (words : List W) (left left' : Option (List ℕ)) (reads r
     headline = λ file r a today. absurd r.settled;
     outcome = λ file told s. absurd s;
     fault = λ file r fault h. absurd r.settled;
+    all_yes = λ file r. absurd r.settled;
+    mixed = λ file r. absurd r.settled;
     usage = λ s. absurd s;
     limit = λ file r. absurd r.settled;
     bad_text = λ file r. absurd r.settled;

@@ -95,4 +95,5 @@ pub record IsAnsweredWorld (file : List ℕ) (world : World) : Type 0 where
   pub limits : IsWithinLimits resolved
   pub belongs : BelongsToFile resolved world
   pub today : IsTrue (is_answered_today world)
+  pub only : (other : Resolved) → IsResolved file other → other ≡ resolved
   pub faultless : (fault : FileFault) → HasFault file fault → ⊥

@@ -2,6 +2,7 @@ pub mod Bytes
 pub mod Comparing
 pub mod Examined
 pub mod Faults
+pub mod FileAnswers
 pub mod Files
 pub mod Outcomes
 pub mod Places

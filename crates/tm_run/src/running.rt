@@ -3,6 +3,7 @@ ghost use Rattle.tm_io.specs.Faults.{Rose};
 ghost use Rattle.tm_io.specs.Told.{AddsAll};
 ghost use Rattle.tm_run.specs.Examined.{IsStop};
 ghost use Rattle.tm_run.specs.Faults.{GoesBeyond, HasFault, HasNameFault, HasTextFault, PassesLimit};
+ghost use Rattle.tm_run.specs.FileAnswers.{EachMayTransmute, SomeMayNotTransmute};
 ghost use Rattle.tm_run.specs.Files.{IsAccepted};
 ghost use Rattle.tm_run.specs.Outcomes.{IsSettled, IsTold, IsRead, WritesFault, WritesOutcome, WritesPrefix, WritesReport};
 ghost use Rattle.tm_run.specs.Runs.{Answers, Decides, Declines, Finishes, Runs};
@@ -44,7 +45,9 @@ pub fn run<S: Source, K: Sink>(alloc: Global, words: &[String], src: &mut S, out
     // A file with a fault gets its line and its status.
     ensures fault { (file : List ℕ) → IsRead words.now (S.left src.old) file result → (fault : FileFault) → HasFault file fault → WritesFault fault result (K.written out.old) (K.written out.new) }
 
-    // The cause of each status.
+    // The cause of each status. A file of which `EachMayTransmute` or `SomeMayNotTransmute` is said is accepted.
+    ensures all_yes { (file : List ℕ) → IsRead words.now (S.left src.old) file result → (result ≡ Status.AllYes ↔ ((¬ GoesBeyond file) × EachMayTransmute file)) }
+    ensures mixed { (file : List ℕ) → IsRead words.now (S.left src.old) file result → (result ≡ Status.Mixed ↔ ((¬ GoesBeyond file) × SomeMayNotTransmute file)) }
     ensures usage { IsSettled result → (result ≡ Status.Usage ↔ (0 < length words.now)) }
     ensures limit { (file : List ℕ) → IsRead words.now (S.left src.old) file result → (result ≡ Status.Limit ↔ PassesLimit file) }
     ensures bad_text { (file : List ℕ) → IsRead words.now (S.left src.old) file result → (result ≡ Status.BadText ↔ HasTextFault file) }
