@@ -10,3 +10,4 @@ pub mod LexLemmas
 pub mod ResultLemmas
 pub mod PlaceLemmas
 pub mod SliceLemmas
+pub mod WordLemmas

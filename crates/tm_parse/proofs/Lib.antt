@@ -38,6 +38,8 @@ pub mod EachType
 pub mod TypeKeeping
 pub mod TypeIntegers
 pub mod PlaceBounds
+pub mod DeclaredClasses
+pub mod LookedUp
 pub mod Carried
 pub mod WithinLimits
 pub mod VariantBounds

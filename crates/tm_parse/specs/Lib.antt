@@ -13,5 +13,6 @@ pub mod Accepted
 pub mod Written
 pub mod Bounds
 pub mod Places
+pub mod NameClasses
 pub mod Read
 pub mod Parsing

@@ -1,7 +1,8 @@
-ghost use Rattle.std.specs.Prelude.{◌≡◌, ◌↔◌, ◌++◌, ◌∷◌, ◌<◌, [], ℕ, All, List};
+ghost use Rattle.std.specs.Prelude.{◌≡◌, ◌↔◌, ◌++◌, ◌∷◌, ◌<◌, [], ℕ, All, Bool as Truth, IsTrue, List};
 ghost use Rattle.tm_parse.specs.Accepted.{IsAnswer, IsFaultAt, IsFile, PassesAt, SpelledBy, answer_of};
 ghost use Rattle.tm_parse.specs.Bounds.{CarriesInteger, EachType, HasFewItems, HasFewParts, HasIntegers, HasItsVariants, IsSmall};
 ghost use Rattle.tm_parse.specs.Events.{Event, terminals};
+ghost use Rattle.tm_parse.specs.NameClasses.{is_lifetime, may_name};
 ghost use Rattle.tm_parse.specs.Parts.{Done, Passed, Stuck};
 ghost use Rattle.tm_parse.specs.Places.{EachPlace};
 ghost use Rattle.tm_parse.specs.declared.counts.Counts.{Counts as CountsValue};
@@ -36,4 +37,13 @@ pub fn files_keep_limits()
     ensures types { (v : File) (ts : List Sign) (after : CountsValue) → IsFile v ts after → EachType IsSmall v }
     ensures integers { (v : File) (ts : List Sign) (after : CountsValue) → IsFile v ts after → All CarriesInteger ts → EachType HasIntegers v }
     ensures places { (v : File) (ts : List Sign) (after : CountsValue) (n : ℕ) → IsFile v ts after → All (λ t. t.place < n) ts → EachPlace (λ place. place < n) v }
+{}
+
+/// At which terminals a file declares names.
+///
+/// A definition's name stands at a word that a definition may be called by, and a declared lifetime at a
+/// lifetime: what holds of the places of all these holds of the file's.
+pub fn files_declare_names()
+    ensures names { (holds : ℕ → Truth) (v : File) (ts : List Sign) (after : CountsValue) → IsFile v ts after → All (λ t. IsTrue (may_name t) → IsTrue (holds t.place)) ts → All (λ d. IsTrue (holds d.name)) v.decls }
+    ensures lifetimes { (holds : ℕ → Truth) (v : File) (ts : List Sign) (after : CountsValue) → IsFile v ts after → All (λ t. IsTrue (is_lifetime t) → IsTrue (holds t.place)) ts → All (λ place. IsTrue (holds place)) v.lifetimes }
 {}
