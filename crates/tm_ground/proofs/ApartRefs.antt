@@ -8,7 +8,7 @@ use Rattle.tm_base.specs.declared.definition.RegionId.{RegionId}
 use Rattle.tm_base.specs.Whole.{AreDistinct}
 use Rattle.tm_names.specs.declared.resolved.Resolved.{Resolved}
 use Rattle.tm_names.specs.InForm.{IsInForm}
-use Rattle.tm_ground.specs.ApartNames.{HasApartNames}
+use Rattle.tm_names.specs.ApartNames.{HasApartNames}
 use Rattle.tm_ground.specs.Belongs.{ListsAll}
 use Rattle.tm_ground.specs.Closed.{Closed, Elements, prim, never, tuple, array, nonzero, wrap, named, ref, no_elements, element}
 use Rattle.tm_ground.specs.ClosedTexts.{closed_text}

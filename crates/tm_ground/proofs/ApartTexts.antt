@@ -10,7 +10,7 @@ use Rattle.tm_base.specs.declared.ground.Primitive.{Primitive}
 use Rattle.tm_base.specs.declared.ground.Wrapper.{Wrapper}
 use Rattle.tm_base.specs.Texts.{def_text, prim_text, separated, wrapper_text}
 use Rattle.tm_names.specs.declared.resolved.Resolved.{Resolved}
-use Rattle.tm_ground.specs.ApartNames.{is_word_byte, HasApartNames}
+use Rattle.tm_names.specs.ApartNames.{is_word_byte, HasApartNames}
 use Rattle.tm_ground.specs.Closed.{Closed, Elements, prim, never, tuple, array, nonzero, wrap, named, ref, no_elements, element}
 use Rattle.tm_ground.specs.ClosedTexts.{closed_text, closed_texts, tables_of_file}
 use Rattle.tm_ground.proofs.NameLemmas.{name_in, def-there, region, name_of, region-word, same-region, same-def, own, own-word}

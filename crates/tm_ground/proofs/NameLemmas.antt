@@ -10,7 +10,7 @@ use Rattle.tm_base.specs.declared.definition.RegionId.{RegionId}
 use Rattle.tm_base.specs.Texts.{region_text}
 use Rattle.tm_base.specs.Whole.{AreDistinct}
 use Rattle.tm_names.specs.declared.resolved.Resolved.{Resolved}
-use Rattle.tm_ground.specs.ApartNames.{is_word, is_own_name, HasApartNames}
+use Rattle.tm_names.specs.ApartNames.{is_word, is_own_name, HasApartNames}
 use Rattle.tm_ground.specs.ClosedTexts.{tables_of_file}
 use Rattle.tm_ground.proofs.FormLemmas.{first, second}
 

@@ -12,7 +12,7 @@ use Rattle.tm_base.specs.declared.ground.Primitive.TheVariants as primitive
 use Rattle.tm_base.specs.declared.ground.Wrapper.{Wrapper}
 use Rattle.tm_base.specs.declared.ground.Wrapper.TheVariants as wrapper
 use Rattle.tm_base.specs.Texts.{prim_text, wrapper_text}
-use Rattle.tm_ground.specs.ApartNames.{is_word_byte, is_word, is_own_name}
+use Rattle.tm_names.specs.ApartNames.{is_word_byte, is_word, is_own_name}
 use Rattle.tm_ground.proofs.FormLemmas.{first, second}
 
 abbrev pub all_bytes : List ℕ → Bool

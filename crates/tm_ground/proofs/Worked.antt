@@ -17,7 +17,7 @@ use Rattle.tm_names.specs.declared.resolved.Life.TheVariants as life
 use Rattle.tm_names.specs.declared.resolved.Open.{Prim, Tuple, Array, Wrap, Named, Ref}
 use Rattle.tm_names.specs.declared.resolved.Open.TheBlock.{shape-the_row-Open-1, hidden-the_row-Open-1}
 use Rattle.tm_names.specs.declared.resolved.Resolved.{Resolved}
-use Rattle.tm_ground.specs.ApartNames.{is_word_byte, is_own_name, HasApartNames}
+use Rattle.tm_names.specs.ApartNames.{is_word_byte, is_own_name, HasApartNames}
 use Rattle.tm_ground.specs.Belongs.{StandsFor}
 use Rattle.tm_ground.specs.Closed.{Closed, prim, tuple, array, wrap, named, ref, no_elements, element, put_in}
 use Rattle.tm_ground.specs.Limits.{depth_passes}

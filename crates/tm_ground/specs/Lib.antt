@@ -10,4 +10,3 @@ pub mod Depths
 pub mod Numbered
 pub mod Rows
 pub mod ClosedTexts
-pub mod ApartNames

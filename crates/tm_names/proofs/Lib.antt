@@ -24,5 +24,7 @@ pub mod ReprFormLemmas
 pub mod ValueFormLemmas
 pub mod DefFormLemmas
 pub mod InFormLemmas
+pub mod TokenNames
+pub mod ApartLemmas
 pub mod NarrowLemmas
 pub mod PlacedLemmas

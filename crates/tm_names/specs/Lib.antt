@@ -7,6 +7,7 @@ pub mod Holding
 pub mod Faults
 pub mod Resolutions
 pub mod InForm
+pub mod ApartNames
 pub mod Narrow
 pub mod Source
 pub mod Sights

@@ -1,6 +1,7 @@
 ghost use Rattle.std.specs.Prelude.{◌≡◌, ℕ, ◌⊎◌, IfOk, IfErr, MatchResult};
 ghost use Rattle.tm_base.specs.declared.limit.NameWhy.{NameWhy as Kind};
 ghost use Rattle.tm_lex.specs.Lexes.{Tokenizes};
+ghost use Rattle.tm_names.specs.ApartNames.{HasApartNames};
 ghost use Rattle.tm_names.specs.Checking.{HasCause, IsPlaceOf};
 ghost use Rattle.tm_names.specs.Faults.{HasNoFault, IsFirstFault};
 ghost use Rattle.tm_names.specs.InForm.{IsInForm};
@@ -19,7 +20,8 @@ use std::alloc::Global;
 use tm_lex::Token;
 use tm_parse::Parsed;
 
-/// What the names of a file mean, where none of them is at fault.
+/// What the names of a file mean, where none of them is at fault. Each definition has a name of its own, which
+/// no type has that each file has, and so has each region.
 ///
 /// The file is what `tm_parse::parse` answers for the text and its tokens. `Fault(why, place)` comes
 /// exactly where the file has a fault: this one stands at the least token, counted from 0, and of two at
@@ -35,6 +37,7 @@ pub fn check(
     ensures resolved { IfOk result (λ found. found ≡ resolved_of (name_at text.now tokens.now) parsed.now) }
     ensures sound { IfOk result (λ _. HasNoFault (name_at text.now tokens.now) parsed.now) }
     ensures in_form { IfOk result IsInForm }
+    ensures apart { IfOk result HasApartNames }
     ensures fault { IfErr result (HasCause (name_at text.now tokens.now) parsed.now) }
     ensures place { IfErr result (IsPlaceOf tokens.now) }
 

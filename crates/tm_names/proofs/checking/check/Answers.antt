@@ -1,9 +1,11 @@
 use Rattle.std.proofs.Common.{◌∙◌, sym, ap, inl, subst, arith, All, ◌<◌, length}
+use Rattle.tm_names.proofs.ApartLemmas.{spelled_apart}
 use Rattle.tm_names.proofs.FirstLemmas.{first_stands, no_first, nothing_stands, one_first}
 use Rattle.tm_names.proofs.InFormLemmas.{resolved_in_form, spelled_placed, spelled_within}
 use Rattle.tm_names.specs.declared.fault.NameErr.TheVariants.{Fault}
 use Rattle.tm_names.proofs.NarrowLemmas.{decls_narrow}
 use Rattle.tm_names.proofs.PlacedLemmas.{fault_placed}
+use Rattle.tm_names.specs.ApartNames.{HasApartNames}
 use Rattle.tm_names.specs.InForm.{IsInForm}
 use Rattle.tm_names.specs.Narrow.{IsNarrow}
 use Rattle.tm_names.specs.Written.{name_at}
@@ -54,3 +56,9 @@ returns-in-Ok-resolved-clause-in_form c =
     let sound = nothing_stands (name_at c.args.text.now c.args.tokens.now) c.args.parsed.now (sym c.in-Ok-None.ensures ∙ c.in-Ok-None.field-0-is) in
     let within = spelled_within c.args.text.now c.args.tokens.now c.args.parsed.now c.requires.spelled in
     subst IsInForm (sym c.in-Ok-resolved.ensures) (resolved_in_form (name_at c.args.text.now c.args.tokens.now) c.args.parsed.now sound within)
+
+pub returns-in-Ok-resolved-clause-apart : goal.returns-in-Ok-resolved-clause-apart
+returns-in-Ok-resolved-clause-apart c =
+    let sound = nothing_stands (name_at c.args.text.now c.args.tokens.now) c.args.parsed.now (sym c.in-Ok-None.ensures ∙ c.in-Ok-None.field-0-is) in
+    subst HasApartNames (sym c.in-Ok-resolved.ensures)
+    (spelled_apart c.args.text.now c.args.tokens.now c.args.parsed.now c.utf8.text c.requires.tokenized c.requires.spelled sound)
