@@ -35,8 +35,10 @@ pub mod PartBounds
 pub mod WrittenLemmas
 pub mod TypeBounds
 pub mod EachType
+pub mod Lengths
 pub mod TypeKeeping
 pub mod TypeIntegers
+pub mod TypeLengths
 pub mod PlaceBounds
 pub mod DeclaredClasses
 pub mod LookedUp

@@ -37,7 +37,7 @@ module _ (IsPlace : ℕ → Type 0) where
     prim = λ p. All-nil IsPlace;
     never = All-nil IsPlace;
     tuple = λ ts. All-nil IsPlace;
-    array = λ t n. All-nil IsPlace;
+    array = λ t n l. All-nil IsPlace;
     wrap = λ w t. All-nil IsPlace;
     ref = λ t unique inner h. All-cons IsPlace t.place [] h (All-nil IsPlace);
     nonzero = λ t h is. All-nil IsPlace;

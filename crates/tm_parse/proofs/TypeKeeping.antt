@@ -1,17 +1,20 @@
 -- What is kept of each type that is written in another.
-use Rattle.std.proofs.Common.{◌≡◌, ℕ, zero, suc, refl, sym, subst, Bool, true, Option, Some, None, IfSome, List, [], ◌∷◌, All}
+use Rattle.std.proofs.Common.{◌≡◌, ◌≤◌, ℕ, zero, suc, refl, sym, subst, Bool, true, Option, Some, None, IfSome, List, [], ◌∷◌, All}
 use Rattle.std.proofs.lemmas.List.Elements.{All-nil, All-cons, All-append, All-head, All-tail}
 use Rattle.std.specs.List.{flat_map}
 use Rattle.tm_base.specs.declared.ground.Primitive.{Primitive}
 use Rattle.tm_base.specs.declared.ground.Wrapper.{Wrapper}
 use Rattle.tm_parse.proofs.EachType.{KeepsTypes}
 use Rattle.tm_parse.proofs.Keeping.{Keeps, skipped, word_keeps, one_keeps, to_keeps, seq_keeps, or_keeps, mark_keeps, listed_keeps, listed1_keeps, optional_keeps}
+use Rattle.tm_parse.proofs.Lengths.{length_keeps}
 use Rattle.tm_parse.proofs.Least.{Spells}
 use Rattle.tm_parse.proofs.WrittenLemmas.{written-Prim, written-Never, written-Tuple, written-Array, written-NonZero, written-Wrap, written-Named, written-Ref}
 use Rattle.tm_parse.specs.Bounds.{EachWritten}
 use Rattle.tm_parse.specs.Classes.{among}
+use Rattle.tm_parse.specs.Limits.{most}
 use Rattle.tm_parse.specs.Types.{integer, alias, primitive_of, lifetimes, places, or_none, tuple_or_inner, behind_paren, plain_type, one_level, type_part, read_none, SpellsType}
 use Rattle.tm_parse.specs.Written.{written}
+use Rattle.tm_base.specs.declared.limit.LimitKind.TheVariants as limit
 use Rattle.tm_parse.specs.declared.parsed.Expr.{Expr}
 use Rattle.tm_parse.specs.declared.parsed.Expr.TheVariants as expr
 use Rattle.tm_parse.specs.declared.terminal.Terminal.{Terminal}
@@ -21,7 +24,7 @@ pub record KeepsKinds (Is : Terminal → Type 0) (K : Expr → Type 0) : Type 0 
   pub prim : (p : Primitive) → K (expr.Prim p)
   pub never : K expr.Never
   pub tuple : (ts : List Expr) → K (expr.Tuple ts)
-  pub array : (t : Expr) (n : ℕ) → K (expr.Array t n)
+  pub array : (t : Expr) (n : ℕ) → n ≤ most limit.ArrayLength → K (expr.Array t n)
   pub wrap : (w : Wrapper) (t : Expr) → K (expr.Wrap w t)
   pub ref : (t : Terminal) (unique : Bool) (inner : Expr) → Is t → K (expr.Ref t.place unique inner)
   pub nonzero : (t : Terminal) → among (integer ∷ []) t.class ≡ true → Is t → K (expr.NonZero (primitive_of t))
@@ -71,7 +74,7 @@ module _ (Is : Terminal → Type 0) (K : Expr → Type 0) (kinds : KeepsKinds Is
 
     plain-keeps : Keeps Is Each (plain_type (type_part [] S read_none)).spells
     plain-keeps = or_keeps (to_keeps skipped (λ v k. alone _ (written-Prim _) (kinds.prim _))) (or_keeps (to_keeps skipped (λ v k. alone _ written-Never kinds.never))
-        (or_keeps (to_keeps (seq_keeps skipped (seq_keeps inner skipped)) (λ v k. around _ (written v.1.0) (written-Array v.1.0 _) (kinds.array v.1.0 _) k.1.0.each))
+        (or_keeps (to_keeps (seq_keeps skipped (seq_keeps inner (seq_keeps skipped (seq_keeps length_keeps skipped)))) (λ v k. around _ (written v.1.0) (written-Array v.1.0 _) (kinds.array v.1.0 _ k.1.1.1.0) k.1.0.each))
         (or_keeps (to_keeps (seq_keeps skipped (seq_keeps word_keeps (seq_keeps skipped inner))) (λ v k. around _ (written v.1.1.1) (written-Ref _ _ v.1.1.1) (kinds.ref v.1.0 _ v.1.1.1 k.1.0) k.1.1.1.each))
         (or_keeps (to_keeps (seq_keeps skipped (to_keeps {L = λ t. K (expr.NonZero (primitive_of t))} (seq_keeps skipped (seq_keeps (one_keeps (integer ∷ []) kinds.nonzero) skipped)) (λ v k. k.1.0))) (λ v k. nonzero v.1 k.1))
         (or_keeps (to_keeps (one_keeps (alias ∷ []) {K = λ t. K (expr.NonZero (primitive_of t))} kinds.aliased) nonzero)

@@ -9,9 +9,10 @@ use Rattle.tm_parse.proofs.PlaceBounds.{places_kept}
 use Rattle.tm_parse.proofs.Returning.{file_returned}
 use Rattle.tm_parse.proofs.TypeBounds.{keeps_small}
 use Rattle.tm_parse.proofs.TypeIntegers.{keeps_integers}
+use Rattle.tm_parse.proofs.TypeLengths.{keeps_lengths}
 use Rattle.tm_parse.proofs.VariantBounds.{definition_variants}
 use Rattle.tm_parse.specs.Accepted.{IsFile}
-use Rattle.tm_parse.specs.Bounds.{HasItsVariants, HasFewParts, EachType, IsSmall, HasIntegers, CarriesInteger, IsWithinLimits}
+use Rattle.tm_parse.specs.Bounds.{HasItsVariants, HasFewParts, EachType, IsSmall, HasIntegers, HasShortArrays, CarriesInteger, IsWithinLimits}
 use Rattle.tm_parse.specs.Parsing.{SpellsFile, IsAnswered}
 use Rattle.tm_parse.specs.Places.{EachPlace}
 use Rattle.tm_parse.specs.declared.counts.Counts.{Counts}
@@ -32,8 +33,11 @@ module _ (v : Parsed) (ts : List Terminal) (after : Counts) (f : IsFile v ts aft
   pub integers_kept : All CarriesInteger ts → EachType HasIntegers v
   integers_kept carried = each_type HasIntegers CarriesInteger keeps_integers v ts after f carried
 
+  pub lengths_kept : EachType HasShortArrays v
+  lengths_kept = each_type HasShortArrays (λ t. Unit {0}) keeps_lengths v ts after f (λ k d l. tt)
+
   pub within_limits : All CarriesInteger ts → IsWithinLimits v
-  within_limits carried = record { items = has_few_items v ts after f; variants = variants_kept; parts = parts_kept; types = types_kept; integers = integers_kept carried }
+  within_limits carried = record { items = has_few_items v ts after f; variants = variants_kept; parts = parts_kept; types = types_kept; integers = integers_kept carried; arrays = lengths_kept }
 
 pub within_returned : (ts : List Terminal) (result : Result Parsed ParseErr) → All CarriesInteger ts → IsAnswered ts result → IfOk result IsWithinLimits
 within_returned ts result carried answered = go result (file_returned ts result answered)

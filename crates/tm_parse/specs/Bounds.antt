@@ -1,5 +1,5 @@
 -- What every file keeps that is spelled within the limits.
-use Rattle.std.specs.Prelude.{◌≡◌, ◌≤◌, ◌<◌, Bool, true, IsTrue, IsSome, List, [], ◌∷◌, length, flat_map, All}
+use Rattle.std.specs.Prelude.{◌≡◌, ◌≤◌, ◌<◌, Bool, true, nat_le, IsTrue, IsSome, List, [], ◌∷◌, length, flat_map, All}
 use Rattle.tm_base.specs.declared.definition.Kind.{Kind}
 use Rattle.tm_base.specs.declared.definition.Kind.TheVariants as kind
 use Rattle.tm_base.specs.declared.limit.LimitKind.TheVariants as limit
@@ -12,7 +12,7 @@ use Rattle.tm_parse.specs.Written.{written}
 use Rattle.tm_parse.specs.declared.parsed.Decl.{Decl}
 use Rattle.tm_parse.specs.declared.parsed.DeclField.{DeclField}
 use Rattle.tm_parse.specs.declared.parsed.DeclVariant.{DeclVariant}
-use Rattle.tm_parse.specs.declared.parsed.Expr.{Expr, NonZero}
+use Rattle.tm_parse.specs.declared.parsed.Expr.{Expr, NonZero, Array'}
 use Rattle.tm_parse.specs.declared.parsed.Parsed.{Parsed}
 use Rattle.tm_parse.specs.declared.terminal.Terminal.{Terminal}
 
@@ -63,6 +63,14 @@ is_of_integer other = true
 abbrev pub HasIntegers : Expr → Type 0
 HasIntegers = EachWritten (λ inner. IsTrue (is_of_integer inner))
 
+-- the length of an array is no more than the limit allows
+abbrev pub is_short : Expr → Bool
+is_short (Array' shape row n) = nat_le n (most limit.ArrayLength)
+is_short other = true
+
+abbrev pub HasShortArrays : Expr → Type 0
+HasShortArrays = EachWritten (λ inner. IsTrue (is_short inner))
+
 -- A word for an integer type, or for a `NonZero` of one, carries an integer type.
 abbrev pub CarriesInteger : Terminal → Type 0
 CarriesInteger t = IsTrue (among (integer ∷ alias ∷ []) t.class) → IsTrue (is_integer (primitive_of t))
@@ -74,3 +82,4 @@ pub record IsWithinLimits (file : Parsed) : Type 0 where
   pub parts : All HasFewParts file.decls
   pub types : EachType IsSmall file
   pub integers : EachType HasIntegers file
+  pub arrays : EachType HasShortArrays file

@@ -1,6 +1,6 @@
 ghost use Rattle.std.specs.Prelude.{◌≡◌, ◌↔◌, ◌++◌, ◌∷◌, ◌<◌, [], ℕ, All, Bool as Truth, IsTrue, List};
 ghost use Rattle.tm_parse.specs.Accepted.{IsAnswer, IsFaultAt, IsFile, PassesAt, SpelledBy, answer_of};
-ghost use Rattle.tm_parse.specs.Bounds.{CarriesInteger, EachType, HasFewItems, HasFewParts, HasIntegers, HasItsVariants, IsSmall};
+ghost use Rattle.tm_parse.specs.Bounds.{CarriesInteger, EachType, HasFewItems, HasFewParts, HasIntegers, HasItsVariants, HasShortArrays, IsSmall};
 ghost use Rattle.tm_parse.specs.Events.{Event, terminals};
 ghost use Rattle.tm_parse.specs.NameClasses.{is_lifetime, may_name};
 ghost use Rattle.tm_parse.specs.Parts.{Done, Passed, Stuck};
@@ -27,14 +27,15 @@ pub fn grammar_is_exact()
 /// What each file keeps that is spelled within the limits.
 ///
 /// It has few items of each sort, and each definition few parts of each sort, as the limits say. A struct is
-/// one variant, so is a union, and each variant of an enum has a name. Few types are written in one, and
-/// each `NonZero` is of an integer type where the terminals for integer types carry one. Each place is that
-/// of a terminal.
+/// one variant, so is a union, and each variant of an enum has a name. Few types are written in one, each
+/// array's length is within the limit, and each `NonZero` is of an integer type where the terminals for
+/// integer types carry one. Each place is that of a terminal.
 pub fn files_keep_limits()
     ensures items { (v : File) (ts : List Sign) (after : CountsValue) → IsFile v ts after → HasFewItems v }
     ensures variants { (v : File) (ts : List Sign) (after : CountsValue) → IsFile v ts after → All HasItsVariants v.decls }
     ensures parts { (v : File) (ts : List Sign) (after : CountsValue) → IsFile v ts after → All HasFewParts v.decls }
     ensures types { (v : File) (ts : List Sign) (after : CountsValue) → IsFile v ts after → EachType IsSmall v }
+    ensures arrays { (v : File) (ts : List Sign) (after : CountsValue) → IsFile v ts after → EachType HasShortArrays v }
     ensures integers { (v : File) (ts : List Sign) (after : CountsValue) → IsFile v ts after → All CarriesInteger ts → EachType HasIntegers v }
     ensures places { (v : File) (ts : List Sign) (after : CountsValue) (n : ℕ) → IsFile v ts after → All (λ t. t.place < n) ts → EachPlace (λ place. place < n) v }
 {}

@@ -1,7 +1,7 @@
 use Rattle.std.specs.Prelude.{◌<◌}
 use Rattle.tm_parse.proofs.FileBounds.{has_few_items}
 use Rattle.tm_parse.proofs.PlaceBounds.{places_kept}
-use Rattle.tm_parse.proofs.WithinLimits.{variants_kept, parts_kept, types_kept, integers_kept}
+use Rattle.tm_parse.proofs.WithinLimits.{variants_kept, parts_kept, types_kept, integers_kept, lengths_kept}
 use Rattle.tm_parse.proofs.laws.files_keep_limits.Goals as goal
 
 pub returns-clause-items : goal.returns-clause-items
@@ -15,6 +15,9 @@ returns-clause-parts c = parts_kept
 
 pub returns-clause-types : goal.returns-clause-types
 returns-clause-types c = types_kept
+
+pub returns-clause-arrays : goal.returns-clause-arrays
+returns-clause-arrays c = lengths_kept
 
 pub returns-clause-integers : goal.returns-clause-integers
 returns-clause-integers c = integers_kept
