@@ -74,6 +74,6 @@ module _ (name : ℕ → List ℕ) (file : Parsed) where
       values_distinct = all_distinct;
       bounds_known = bounds_known name file.lifetimes file.bounds;
       defs_typed = defs_typed file.decls;
-      fields_in_form = fields_in_form name file sound within.types within.integers;
-      asks_in_form = asks_in_form name file sound within.types within.integers;
+      fields_in_form = fields_in_form name file sound within.types within.integers within.arrays;
+      asks_in_form = asks_in_form name file sound within.types within.integers within.arrays;
     }

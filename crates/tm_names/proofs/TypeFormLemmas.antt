@@ -1,8 +1,8 @@
 -- A type that a file without faults writes is resolved to one in form.
-use Rattle.std.proofs.Common.{◌≡◌, ℕ, refl, sym, ap, ◌∙◌, subst, arith, inl, inr, ⊎_elim, Bool, true, List, [], ◌∷◌, length, map, All}
+use Rattle.std.proofs.Common.{◌≡◌, ◌^◌, ℕ, refl, sym, ap, ◌∙◌, subst, arith, inl, inr, ⊎_elim, Bool, true, List, [], ◌∷◌, length, map, All}
 use Rattle.std.specs.Prelude.{nat_lt}
 use Rattle.std.specs.List.{list_all, flat_map}
-use Rattle.std.proofs.lemmas.Bool.{and_from, le-leb}
+use Rattle.std.proofs.lemmas.Bool.{and_from, le-leb, leb-true, lt-ltb}
 use Rattle.std.proofs.lemmas.List.{length-map}
 use Rattle.std.proofs.lemmas.List.Elements.{All-contains}
 use Rattle.std.proofs.lemmas.List.Folds.{list_all-map}
@@ -23,7 +23,7 @@ use Rattle.tm_names.specs.Mentions.{mentions_of}
 use Rattle.tm_names.specs.Resolutions.{ask_of, decl_types, declared_of, def_id, def_of, param_of, resolved_of, type_of, variant_types}
 use Rattle.tm_names.specs.Scopes.{Scope, ask_mentions, bound_mentions, decl_scope, outer_scope, scopes_of, variant_mentions}
 use Rattle.tm_names.specs.Written.{is_same}
-use Rattle.tm_parse.specs.Bounds.{EachType, HasIntegers, IsSmall, is_of_integer}
+use Rattle.tm_parse.specs.Bounds.{EachType, HasIntegers, HasShortArrays, IsSmall, is_of_integer, is_short}
 use Rattle.tm_parse.specs.Written as parsed
 use Rattle.tm_parse.specs.declared.parsed.Decl.{Decl}
 use Rattle.tm_parse.specs.declared.parsed.DeclAsk.{DeclAsk}
@@ -73,23 +73,23 @@ module _ (name : ℕ → List ℕ) (file : Parsed) (sound : HasNoFault name file
     abbrev meaning : Expr → Open
     meaning = type_of name file.decls life
 
-    head_known : (e : Expr) → is_of_integer e ≡ true
+    head_known : (e : Expr) → is_of_integer e ≡ true → is_short e ≡ true
         → ((place : ℕ) (places : List ℕ) → Named place places ≡ e → nat_lt (def_id name file.decls place).0 (length resolved.defs) ≡ true)
         → is_head_known (length resolved.defs) (length resolved.regions) (meaning e) ≡ true
     unfolding type_of
-    head_known (Prim p) h named = refl
-    head_known Never h named = refl
-    head_known (Tuple' shape row) h named = refl
-    head_known (Array' shape row n) h named = refl
-    head_known (NonZero p) h named = h
-    head_known (Wrap' w shape row) h named = refl
-    head_known (Named place places) h named = and_from _ _ (named place places refl) (lives_known places)
-    head_known (Ref' place mutable shape row) h named = lives place
+    head_known (Prim p) h l named = refl
+    head_known Never h l named = refl
+    head_known (Tuple' shape row) h l named = refl
+    head_known (Array' shape row n) h l named = let most = leb-true n 4294967295 l in lt-ltb n (2 ^ 32) (omega (arith, most))
+    head_known (NonZero p) h l named = h
+    head_known (Wrap' w shape row) h l named = refl
+    head_known (Named place places) h l named = and_from _ _ (named place places refl) (lives_known places)
+    head_known (Ref' place mutable shape row) h l named = lives place
 
     module _ (scope : Scope) (part : Member scope (scopes_of file)) where
       pub type_in_form : (e : Expr) → ((m : NameMention) → Member (Name m) (mentions_of true e) → Member (Name m) scope.mentions)
-          → IsSmall e → HasIntegers e → is_type_in_form resolved (meaning e) ≡ true
-      type_in_form e mentioned small integers =
+          → IsSmall e → HasIntegers e → HasShortArrays e → is_type_in_form resolved (meaning e) ≡ true
+      type_in_form e mentioned small integers short =
           and_from _ _
           (ap (list_all (is_head_known (length resolved.defs) (length resolved.regions))) (written_resolved name file.decls life e)
           ∙ (list_all-map (is_head_known (length resolved.defs) (length resolved.regions)) meaning (parsed.written e)
@@ -98,12 +98,13 @@ module _ (name : ℕ → List ℕ) (file : Parsed) (sound : HasNoFault name file
         where
           each : (t : Expr) → Member t (parsed.written e) → is_head_known (length resolved.defs) (length resolved.regions) (meaning t) ≡ true
           each t m = head_known t (of_member (λ u. is_of_integer u ≡ true) (parsed.written e) t integers.each m)
+              (of_member (λ u. is_short u ≡ true) (parsed.written e) t short.each m)
               (λ place places same.
               let (mention, here, among) = named_mentioned place places true e (subst (λ u. Member u (parsed.written e)) (sym same) m) in
               subst (λ p. nat_lt (def_id name file.decls p).0 (length resolved.defs) ≡ true) here (meant_known scope part mention (mentioned mention among)))
 
   -- the types of all fields
-  module _ (small : EachType IsSmall file) (integers : EachType HasIntegers file) where
+  module _ (small : EachType IsSmall file) (integers : EachType HasIntegers file) (short : EachType HasShortArrays file) where
     field_in_form : (d : Decl) → Member d file.decls → (v : DeclVariant) → Member v d.variants → (field : DeclField) → Member field v.fields
         → is_type_in_form resolved (type_of name file.decls (param_of name d.params) field.ty) ≡ true
     field_in_form d among v within field here =
@@ -111,6 +112,7 @@ module _ (name : ℕ → List ℕ) (file : Parsed) (sound : HasNoFault name file
         (front (decl_scope d) (map decl_scope file.decls) (outer_scope file ∷ []) (into_map decl_scope d file.decls among)) field.ty
         (λ m mentioned. into_flat_map variant_mentions (Name m) v d.variants within (into_flat_map (λ f. mentions_of true f.ty) (Name m) field v.fields here mentioned))
         (of_field IsSmall file small d among v within field here) (of_field HasIntegers file integers d among v within field here)
+        (of_field HasShortArrays file short d among v within field here)
 
     in_variant : (d : Decl) → Member d file.decls → (v : DeclVariant) → Member v d.variants → (t : Open)
         → Member t (variant_types name file.decls d.params v) → is_type_in_form resolved t ≡ true
@@ -135,14 +137,14 @@ module _ (name : ℕ → List ℕ) (file : Parsed) (sound : HasNoFault name file
 
     -- both types of a question
     asked_in_form : (ask : DeclAsk) → Member ask file.questions → (e : Expr)
-        → ((m : NameMention) → Member (Name m) (mentions_of true e) → Member (Name m) (ask_mentions ask)) → IsSmall e → HasIntegers e
+        → ((m : NameMention) → Member (Name m) (mentions_of true e) → Member (Name m) (ask_mentions ask)) → IsSmall e → HasIntegers e → HasShortArrays e
         → is_type_in_form resolved (type_of name file.decls (declared_of name file.lifetimes) e) ≡ true
-    asked_in_form ask among e mentioned few of_integers =
+    asked_in_form ask among e mentioned few of_integers of_arrays =
         type_in_form (declared_of name file.lifetimes) (declared_known name file.lifetimes) (outer_scope file)
         (behind (outer_scope file) (map decl_scope file.decls) (outer_scope file ∷ []) (inl refl)) e
         (λ m here. behind (Name m) (flat_map bound_mentions file.bounds) (flat_map ask_mentions file.questions)
         (into_flat_map ask_mentions (Name m) ask file.questions among (mentioned m here)))
-        few of_integers
+        few of_integers of_arrays
 
     pub asks_in_form : list_all (is_type_in_form resolved) (asked_types resolved) ≡ true
     asks_in_form = each_passes (is_type_in_form resolved) (asked_types resolved) each
@@ -153,12 +155,13 @@ module _ (name : ℕ → List ℕ) (file : Parsed) (sound : HasNoFault name file
             let (ask, among, same) = from_map (ask_of name file) asked file.questions a in
             let few = of_member (λ question. IsSmall question.src × IsSmall question.dst) file.questions ask small.questions among in
             let of_integers = of_member (λ question. HasIntegers question.src × HasIntegers question.dst) file.questions ask integers.questions among in
+            let of_arrays = of_member (λ question. HasShortArrays question.src × HasShortArrays question.dst) file.questions ask short.questions among in
             let is_one = subst (λ o. Member t (o.src ∷ o.dst ∷ [])) (sym same) b in
             ⊎_elim
             (λ e. subst (λ u. is_type_in_form resolved u ≡ true) e
-            (asked_in_form ask among ask.src (λ m here. front (Name m) (mentions_of true ask.src) (mentions_of true ask.dst) here) few.0 of_integers.0))
+            (asked_in_form ask among ask.src (λ m here. front (Name m) (mentions_of true ask.src) (mentions_of true ask.dst) here) few.0 of_integers.0 of_arrays.0))
             (λ rest. ⊎_elim
             (λ e. subst (λ u. is_type_in_form resolved u ≡ true) e
-            (asked_in_form ask among ask.dst (λ m here. behind (Name m) (mentions_of true ask.src) (mentions_of true ask.dst) here) few.1 of_integers.1))
+            (asked_in_form ask among ask.dst (λ m here. behind (Name m) (mentions_of true ask.src) (mentions_of true ask.dst) here) few.1 of_integers.1 of_arrays.1))
             (λ none. absurd none) rest)
             is_one

@@ -1,7 +1,7 @@
 -- What is kept by each file whose names are resolved: no count passes its limit, each number names what
 -- there is, and definitions are in form. So it is also with other questions in place of the file's, where
 -- these are in form.
-use Rattle.std.specs.Prelude.{ℕ, ◌<◌, ◌≤◌, nat_lt, nat_le, ◌==◌, Bool, true, false, ◌&&◌, IsTrue, List, [], ◌∷◌, ◌++◌, length, flat_map}
+use Rattle.std.specs.Prelude.{ℕ, ◌<◌, ◌≤◌, nat_lt, nat_le, ◌==◌, Bool, true, false, ◌&&◌, ◌^◌, IsTrue, List, [], ◌∷◌, ◌++◌, length, flat_map}
 use Rattle.std.specs.List.{list_all}
 use Rattle.tm_base.specs.declared.definition.Def.{Def}
 use Rattle.tm_base.specs.declared.definition.Variant.{Variant}
@@ -32,9 +32,10 @@ is_life_known regions Static = true
 is_life_known regions (Declared k) = nat_lt k regions
 is_life_known regions (Param k) = true
 
--- where there are so many definitions and regions: a type's own numbers name some, and a `NonZero` holds an
--- integer
+-- where there are so many definitions and regions: a type's own numbers name some, an array's length has 32
+-- bits, and a `NonZero` holds an integer
 abbrev pub is_head_known : ℕ → ℕ → Open → Bool
+is_head_known defs regions (Array' shape row n) = nat_lt n (2 ^ 32)
 is_head_known defs regions (NonZero p) = is_integer p
 is_head_known defs regions (Named def lives) = nat_lt def.0 defs && list_all (is_life_known regions) lives
 is_head_known defs regions (Ref' life mutable shape row) = is_life_known regions life
