@@ -1,6 +1,6 @@
--- In a file in form whose names are apart, no two types that occur have one text, if lengths of arrays are
--- below 2 ^ 64. So references in the order of their texts have an order of their own.
-use Rattle.std.proofs.Common.{◌≡◌, ◌<◌, ◌^◌, true, sym, ◌∙◌, List, [], ◌∷◌, map, length, get_or, All, nat_lt, arith}
+-- In a file in form whose names are apart, no two types that occur have one text. So references in the order
+-- of their texts have an order of their own.
+use Rattle.std.proofs.Common.{◌≡◌, ◌<◌, ◌^◌, true, sym, ◌∙◌, List, [], ◌∷◌, map, length, get_or, nat_lt, arith}
 use Rattle.std.specs.List.{list_all}
 use Rattle.std.proofs.lemmas.Bool.{ltb-true}
 use Rattle.std.proofs.lemmas.List.{get_or-map, length-map}
@@ -18,50 +18,38 @@ use Rattle.tm_ground.proofs.ApartTexts.{AreKnown, IsTold, AreTold, one-text}
 use Rattle.tm_ground.proofs.FormLemmas.{first, second, is_region_known, is_known, are_known}
 use Rattle.tm_ground.proofs.OccurringForm.{occurring-formed}
 
-unfoldable mutual
-  pub HasShortArrays : Closed → Type 0
-  HasShortArrays (tuple cs) = HaveShortArrays cs
-  HasShortArrays (array c n) = (n < 2 ^ 64) × HasShortArrays c
-  HasShortArrays (wrap w c) = HasShortArrays c
-  HasShortArrays (ref region mutable c) = HasShortArrays c
-  HasShortArrays c = Unit {0}
-
-  pub HaveShortArrays : Elements → Type 0
-  HaveShortArrays no_elements = Unit {0}
-  HaveShortArrays (element c cs) = HasShortArrays c × HaveShortArrays cs
-
 module _ (resolved : Resolved) where
   regions-known : (gs : List RegionId) → list_all (is_region_known (length resolved.regions)) gs ≡ true → AreKnown resolved gs
   regions-known [] h = tt
   regions-known (g ∷ gs) h = (ltb-true g.0 _ (first _ _ h), regions-known gs (second (is_region_known (length resolved.regions) g) _ h))
 
   mutual
-    unfolding is_known IsTold HasShortArrays
+    unfolding is_known IsTold
 
-    told : (c : Closed) → is_known (length resolved.defs) (length resolved.regions) c ≡ true → HasShortArrays c → IsTold resolved c
-    told (prim p) h s = tt
-    told never h s = tt
-    told (tuple cs) h s = all-told cs h s
-    told (array c n) h s = (s.0, told c h s.1)
-    told (nonzero p) h s = tt
-    told (wrap w c) h s = told c h s
-    told (named def gs) h s = (ltb-true def.0 _ (first _ _ h), regions-known gs (second (nat_lt def.0 (length resolved.defs)) _ h))
-    told (ref g mutable c) h s = (ltb-true g.0 _ (first _ _ h), told c (second (is_region_known (length resolved.regions) g) _ h) s)
+    told : (c : Closed) → is_known (length resolved.defs) (length resolved.regions) c ≡ true → IsTold resolved c
+    told (prim p) h = tt
+    told never h = tt
+    told (tuple cs) h = all-told cs h
+    told (array c n) h = (let short = ltb-true n (2 ^ 32) (first _ _ h) in omega (arith, short), told c (second (nat_lt n (2 ^ 32)) _ h))
+    told (nonzero p) h = tt
+    told (wrap w c) h = told c h
+    told (named def gs) h = (ltb-true def.0 _ (first _ _ h), regions-known gs (second (nat_lt def.0 (length resolved.defs)) _ h))
+    told (ref g mutable c) h = (ltb-true g.0 _ (first _ _ h), told c (second (is_region_known (length resolved.regions) g) _ h))
 
-    all-told : (cs : Elements) → are_known (length resolved.defs) (length resolved.regions) cs ≡ true → HaveShortArrays cs → AreTold resolved cs
-    all-told no_elements h s = tt
-    all-told (element c cs) h s = (told c (first _ _ h) s.0, all-told cs (second (is_known (length resolved.defs) (length resolved.regions) c) _ h) s.1)
+    all-told : (cs : Elements) → are_known (length resolved.defs) (length resolved.regions) cs ≡ true → AreTold resolved cs
+    all-told no_elements h = tt
+    all-told (element c cs) h = (told c (first _ _ h), all-told cs (second (is_known (length resolved.defs) (length resolved.regions) c) _ h))
 
   module _ (form : IsInForm resolved) (names : HasApartNames resolved) where
-    pub occurring-apart : (c d : Closed) → Occurs resolved c → Occurs resolved d → HasShortArrays c → HasShortArrays d → closed_text resolved c ≡ closed_text resolved d → c ≡ d
-    occurring-apart c d o p s t e =
-        one-text resolved names c d (told c (occurring-formed resolved form c o).known s) (told d (occurring-formed resolved form d p).known t) e
+    pub occurring-apart : (c d : Closed) → Occurs resolved c → Occurs resolved d → closed_text resolved c ≡ closed_text resolved d → c ≡ d
+    occurring-apart c d o p e =
+        one-text resolved names c d (told c (occurring-formed resolved form c o).known) (told d (occurring-formed resolved form d p).known) e
 
-    pub ref-texts-apart : (refs : List Closed) → ListsAll (OccursAs is_ref resolved) refs → All HasShortArrays refs → AreDistinct (map (closed_text resolved) refs)
-    ref-texts-apart refs listed short = record {
+    pub ref-texts-apart : (refs : List Closed) → ListsAll (OccursAs is_ref resolved) refs → AreDistinct (map (closed_text resolved) refs)
+    ref-texts-apart refs listed = record {
       apart = λ i j d k l e.
           let m : j < length refs = omega (arith, l, length-map refs (closed_text resolved)) in
           let n : i < length refs = omega (arith, k, m) in
           let texts = sym (get_or-map (closed_text resolved) refs i never d n) ∙ e ∙ get_or-map (closed_text resolved) refs j never d m in
-          listed.distinct.apart i j never k m (occurring-apart (get_or refs i never) (get_or refs j never) (listed.each i never n).occurs (listed.each j never m).occurs (short i never n) (short j never m) texts);
+          listed.distinct.apart i j never k m (occurring-apart (get_or refs i never) (get_or refs j never) (listed.each i never n).occurs (listed.each j never m).occurs texts);
     }

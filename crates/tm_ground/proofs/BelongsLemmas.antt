@@ -10,17 +10,20 @@ use Rattle.tm_base.specs.declared.ground.Ground.{Ground}
 use Rattle.tm_base.specs.declared.ground.Ground as ground_is
 use Rattle.tm_base.specs.declared.world.World.{World}
 use Rattle.tm_base.specs.Texts.{text_of}
+use Rattle.tm_base.specs.Whole.{AreDistinct}
 use Rattle.tm_base.specs.Worlds.{tables_of}
 use Rattle.tm_names.specs.declared.resolved.Resolved.{Resolved}
 use Rattle.tm_ground.specs.Belongs.{type_of_row, StandsFor, ListsAll, IsQuestionOf, HasItsTypes, IsRowOf, ref_texts, BelongsToFile}
 use Rattle.tm_ground.specs.Closed.{Closed}
 use Rattle.tm_ground.specs.ClosedTexts.{closed_text, AreInOrder}
 use Rattle.tm_ground.specs.Closing.{AreWhole}
+use Rattle.tm_names.specs.ApartNames.{HasApartNames}
 use Rattle.tm_names.specs.InForm.{IsInForm}
 use Rattle.tm_ground.specs.Limits.{is_named, is_ref, OccursAs}
 use Rattle.tm_ground.specs.Numbered.{IsNumbered}
 use Rattle.tm_ground.specs.Occurs.{field_types}
 use Rattle.tm_ground.specs.Rows.{IsNamedRow, IsRefRow, IsAsk, IsWorldOf}
+use Rattle.tm_ground.proofs.ApartRefs.{ref-texts-apart}
 use Rattle.tm_ground.proofs.GrowLemmas.{contains-from_get}
 use Rattle.tm_ground.proofs.OccurringForm.{occurring-formed}
 use Rattle.tm_ground.proofs.StandsLemmas.{stands}
@@ -79,8 +82,8 @@ module _ (resolved : Resolved) (form : IsInForm resolved) (types refs : List Clo
       let count : length world.refs ≡ length refs = AllZip-long _ refs world.refs w.ref_rows in
       ap (λ n. map text-of-number (range_with_len 0 n)) count ∙ by-places text-of-number (closed_text resolved) 0 refs text-at
 
-  pub belongs : AreInOrder resolved refs → BelongsToFile resolved world
-  belongs sorted = record {
+  pub belongs : HasApartNames resolved → AreInOrder resolved refs → BelongsToFile resolved world
+  belongs names sorted = record {
     defs = w.defs;
     regions = w.regions;
     bounds = w.bounds;
@@ -91,4 +94,5 @@ module _ (resolved : Resolved) (form : IsInForm resolved) (types refs : List Clo
     refs = whole.refs.all;
     ref_rows = zip-weaken (IsRefRow types refs) (IsRowOf resolved world) (λ c row r. (r.pointee, r.type, numbers-stand _ _ r.numbered)) refs world.refs w.ref_rows;
     in_order = subst (IsSorted (slice_cmp nat_cmp)) (sym texts-are) sorted;
+    texts_distinct = subst (λ texts. AreDistinct texts) (sym texts-are) (ref-texts-apart resolved form names refs whole.refs.all);
   }

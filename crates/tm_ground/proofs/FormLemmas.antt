@@ -1,7 +1,7 @@
 -- What a written type in form gives with its regions put in: numbers that name what there is, and as many
 -- types as are written.
 use mathlib.Core.Former.{Count, none_left, one_more}
-use Rattle.std.proofs.Common.{◌≡◌, ℕ, zero, suc, Bool, true, false, ◌&&◌, refl, sym, ap, ◌∙◌, List, [], ◌∷◌, ◌++◌, map, length, length-append, slice_get, unwrap_or, nat_lt, arith}
+use Rattle.std.proofs.Common.{◌≡◌, ℕ, zero, suc, Bool, true, false, ◌&&◌, ◌^◌, refl, sym, ap, ◌∙◌, List, [], ◌∷◌, ◌++◌, map, length, length-append, slice_get, unwrap_or, nat_lt, arith}
 use Rattle.std.specs.List.{list_all}
 use Rattle.std.proofs.lemmas.Bool.{and_from}
 use Rattle.std.proofs.lemmas.List.Folds.{list_all-append}
@@ -26,12 +26,13 @@ second false b h = cc
 abbrev pub is_region_known : ℕ → RegionId → Bool
 is_region_known regions region = nat_lt region.0 regions
 
--- where there are so many definitions and regions: numbers name them, and a `NonZero` holds an integer
+-- where there are so many definitions and regions: numbers name them, lengths of arrays have 32 bits, and a
+-- `NonZero` holds an integer
 module _ (defs regions : ℕ) where
   unfoldable mutual
     pub is_known : Closed → Bool
     is_known (tuple cs) = are_known cs
-    is_known (array c n) = is_known c
+    is_known (array c n) = nat_lt n (2 ^ 32) && is_known c
     is_known (nonzero p) = is_integer p
     is_known (wrap w c) = is_known c
     is_known (named def given) = nat_lt def.0 defs && list_all (is_region_known regions) given
@@ -99,7 +100,7 @@ module _ (defs regions : ℕ) (some : nat_lt 0 regions ≡ true) (rs : List Regi
     put_in-known (Prim p) h = refl
     put_in-known Never h = refl
     put_in-known (Tuple' shape row) h = all-known row h
-    put_in-known (Array' shape row n) h = first-known row h
+    put_in-known (Array' shape row n) h = and_from _ _ (first _ _ h) (first-known row (second (nat_lt n (2 ^ 32)) _ h))
     put_in-known (NonZero p) h = first _ _ h
     put_in-known (Wrap' w shape row) h = first-known row h
     put_in-known (Named def ls) h =

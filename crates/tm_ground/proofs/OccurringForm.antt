@@ -1,5 +1,5 @@
 -- In a file in form each type that occurs is in form.
-use Rattle.std.proofs.Common.{◌≡◌, ℕ, zero, suc, ◌+◌, ◌≤◌, Bool, true, refl, sym, ap, subst, ◌∙◌, ⊎_elim, List, [], ◌∷◌, ◌++◌, map, length, Contains, slice_get, unwrap_or, nat_lt, arith}
+use Rattle.std.proofs.Common.{◌≡◌, ℕ, zero, suc, ◌+◌, ◌≤◌, ◌^◌, Bool, true, refl, sym, ap, subst, ◌∙◌, ⊎_elim, List, [], ◌∷◌, ◌++◌, map, length, Contains, slice_get, unwrap_or, nat_lt, arith}
 use Rattle.std.specs.List.{list_all, flat_map}
 use Rattle.std.proofs.lemmas.Bool.{leb-true, lt-ltb}
 use Rattle.std.proofs.lemmas.List.{map-append}
@@ -55,7 +55,7 @@ only-part P c d h i = ⊎_elim (λ e. subst P e h) (λ j. absurd (contains-nothi
 part-known : (defs regions : ℕ) (c d : Closed) → is_known defs regions c ≡ true → Contains (parts_in c) d → is_known defs regions d ≡ true
 unfolding is_known
 part-known defs regions (tuple cs) d h i = elements-known defs regions cs d h i
-part-known defs regions (array c n) d h i = only-part (λ x. is_known defs regions x ≡ true) c d h i
+part-known defs regions (array c n) d h i = only-part (λ x. is_known defs regions x ≡ true) c d (second (nat_lt n (2 ^ 32)) _ h) i
 part-known defs regions (wrap w c) d h i = only-part (λ x. is_known defs regions x ≡ true) c d h i
 part-known defs regions (ref r m c) d h i = only-part (λ x. is_known defs regions x ≡ true) c d (second (is_region_known regions r) _ h) i
 part-known defs regions (prim p) d h i = absurd (contains-nothing d i)

@@ -83,3 +83,5 @@ module _ (resolved : Resolved) (world : World) where
     pub refs : ListsAll (OccursAs is_ref resolved) ref_types
     pub ref_rows : AllZip IsRowOf ref_types world.refs
     pub in_order : IsSorted (slice_cmp nat_cmp) ref_texts
+    -- no two of which are one, so that the numbers are the file's
+    pub texts_distinct : AreDistinct ref_texts

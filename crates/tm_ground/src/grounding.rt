@@ -1,5 +1,6 @@
 ghost use Rattle.std.specs.Prelude.{IfOk, IfErr};
 ghost use Rattle.tm_ground.specs.Belongs.{BelongsToFile};
+ghost use Rattle.tm_names.specs.ApartNames.{HasApartNames};
 ghost use Rattle.tm_names.specs.InForm.{IsInForm};
 ghost use Rattle.tm_ground.specs.Limits.{HasCause, IsWithinLimits};
 
@@ -19,7 +20,8 @@ use tm_names::Resolved;
 /// types occur. `TooDeep`: neither, and some type that occurs is more than 64 types deep by value.
 /// `Memory`: there wasn't enough memory.
 pub fn ground(alloc: Global, resolved: &Resolved) -> Result<World, GroundErr>
-    requires { IsInForm resolved.now }
+    requires form { IsInForm resolved.now }
+    requires names { HasApartNames resolved.now }
     ensures world { IfOk result (λ world. BelongsToFile resolved.now world) }
     ensures fits { IfOk result (λ _. IsWithinLimits resolved.now) }
     ensures cause { IfErr result (HasCause resolved.now) }

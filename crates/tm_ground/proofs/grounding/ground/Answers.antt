@@ -13,7 +13,7 @@ returns-in-Ok-true-clause-cause c = (whole-fits 1024 _ _ c.in-Ok.ensures, whole-
 
 pub returns-clause-world : goal.returns-clause-world
 returns-clause-world c =
-    belongs c.args.resolved.now c.requires (named_types c.in-Ok.found) (closed_types c.in-Ok-in_order.ordered) c.in-Ok-in_order.ensures.whole c.in-Ok-make_world.world (rw c.as_slice-2.ensures at c.in-Ok-make_world.ensures) c.in-Ok-in_order.ensures.sorted
+    belongs c.args.resolved.now c.requires.form (named_types c.in-Ok.found) (closed_types c.in-Ok-in_order.ordered) c.in-Ok-in_order.ensures.whole c.in-Ok-make_world.world (rw c.as_slice-2.ensures at c.in-Ok-make_world.ensures) c.requires.names c.in-Ok-in_order.ensures.sorted
 
 pub returns-clause-fits : goal.returns-clause-fits
 returns-clause-fits c = record {
