@@ -5,17 +5,17 @@ use Rattle.std.proofs.lemmas.List.Elements.{Contains-append_left, Contains-appen
 use Rattle.std.proofs.lemmas.Option.{slice_get-get_or}
 use Rattle.tm_ground.specs.Closed.{Closed}
 
-pub contains-nothing : (x : Closed) → Contains [] x → ⊥
+pub contains-nothing : {X : Type 0} (x : X) → Contains [] x → ⊥
 contains-nothing x h = omega (arith, h.1)
 
-pub contains-cons : (y : Closed) (ys : List Closed) (x : Closed) → Contains (y ∷ ys) x → (y ≡ x) ⊎ Contains ys x
+pub contains-cons : {X : Type 0} (y : X) (ys : List X) (x : X) → Contains (y ∷ ys) x → (y ≡ x) ⊎ Contains ys x
 contains-cons y ys x (zero, l, e) = inl e
 contains-cons y ys x (suc k, l, e) = inr (k, omega (arith, l), e)
 
-pub contains-first : (x : Closed) (xs : List Closed) → Contains (x ∷ xs) x
+pub contains-first : {X : Type 0} (x : X) (xs : List X) → Contains (x ∷ xs) x
 contains-first x xs = (0, omega arith, refl)
 
-pub contains-behind : (y : Closed) (ys : List Closed) (x : Closed) → Contains ys x → Contains (y ∷ ys) x
+pub contains-behind : {X : Type 0} (y : X) (ys : List X) (x : X) → Contains ys x → Contains (y ∷ ys) x
 contains-behind y ys x (k, l, e) = (suc k, omega (arith, l), e)
 
 -- what a filter keeps is there and passes
@@ -38,13 +38,13 @@ filter-contains test (y ∷ ys) x h t = by (test y) refl (filter-contains test y
     by true e rest = ⊎_elim (λ s. subst (λ z. Contains (y ∷ filter test ys) z) s (contains-first y (filter test ys))) (λ i. contains-behind y (filter test ys) x (rest i t)) (contains-cons y ys x h)
     by false e rest = ⊎_elim (λ s. absurd (true≢false (sym t ∙ sym (ap test s) ∙ e))) (λ i. rest i t) (contains-cons y ys x h)
 
-pub contains-flat_map : (f : Closed → List Closed) (xs : List Closed) (x : Closed) → Contains (flat_map f xs) x → (y : Closed) × Contains xs y × Contains (f y) x
+pub contains-flat_map : {X Y : Type 0} (f : Y → List X) (xs : List Y) (x : X) → Contains (flat_map f xs) x → (y : Y) × Contains xs y × Contains (f y) x
 contains-flat_map f [] x h = absurd (contains-nothing x h)
 contains-flat_map f (z ∷ zs) x h =
     let rest = contains-flat_map f zs x in
     ⊎_elim (λ i. (z, contains-first z zs, i)) (λ i. (let (y, j, k) = rest i in (y, contains-behind z zs y j, k))) (Contains-append_cases (f z) (flat_map f zs) x h)
 
-pub flat_map-contains : (f : Closed → List Closed) (xs : List Closed) (y x : Closed) → Contains xs y → Contains (f y) x → Contains (flat_map f xs) x
+pub flat_map-contains : {X Y : Type 0} (f : Y → List X) (xs : List Y) (y : Y) (x : X) → Contains xs y → Contains (f y) x → Contains (flat_map f xs) x
 flat_map-contains f [] y x h i = absurd (contains-nothing y h)
 flat_map-contains f (z ∷ zs) y x h i =
     let rest = flat_map-contains f zs y x in
@@ -54,7 +54,7 @@ flat_map-contains f (z ∷ zs) y x h i =
 pub contains-at : (xs : List Closed) (x : Closed) → Contains xs x → (i : ℕ) × (i < length xs) × (slice_get xs i ≡ Some x)
 contains-at xs x (i, l, e) = (i, l, slice_get-get_or xs i x l ∙ ap (λ (c : Closed). Some c) e)
 
-pub get_or-from_get : (xs : List Closed) (i : ℕ) (x : Closed) → slice_get xs i ≡ Some x → (i < length xs) × (x ≡ get_or xs i x)
+pub get_or-from_get : {X : Type 0} (xs : List X) (i : ℕ) (x : X) → slice_get xs i ≡ Some x → (i < length xs) × (x ≡ get_or xs i x)
 get_or-from_get [] i x h = cc
 get_or-from_get (y ∷ ys) zero x h =
     let same : x ≡ y = cc in

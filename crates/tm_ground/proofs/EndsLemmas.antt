@@ -18,7 +18,7 @@ abbrev pub followed : List RefRow → ℕ → RefId → Spelled
 followed ref_rows m r = follow_row (spelled_within m ref_rows) (slice_get ref_rows r.0)
 
 module _ (types refs : List Closed) (ref_rows : List RefRow) (of_refs : AllZip (IsRefRow types refs) refs ref_rows) where
-  pub count-some : (c : Closed) → 1 ≤ node_count c
+  count-some : (c : Closed) → 1 ≤ node_count c
   count-some c = omega (arith, node_count-parts c)
 
   mutual

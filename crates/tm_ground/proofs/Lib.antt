@@ -32,3 +32,4 @@ pub mod PieceLemmas
 pub mod NameLemmas
 pub mod ApartTexts
 pub mod ApartRefs
+pub mod SharedTexts

@@ -1,7 +1,6 @@
 -- The text of a type by its numbers is that of the closed type, whatever the numbers are.
-use Rattle.std.proofs.Common.{◌≡◌, ℕ, zero, suc, ◌≤◌, true, refl, sym, ap, subst, ◌∙◌, if◌then◌else◌, List, [], ◌∷◌, ◌++◌, Some, slice_get, arith}
+use Rattle.std.proofs.Common.{◌≡◌, ℕ, zero, suc, ◌≤◌, true, refl, ap, ◌∙◌, if◌then◌else◌, List, [], ◌∷◌, ◌++◌, Some, slice_get, arith}
 use Rattle.std.specs.Prelude.{codes, decimal}
-use Rattle.std.specs.List.{AllZip}
 use Rattle.tm_base.specs.declared.definition.Bound.{Bound}
 use Rattle.tm_base.specs.declared.definition.NamedRow.{NamedRow}
 use Rattle.tm_base.specs.declared.definition.RefRow.{RefRow}
@@ -14,24 +13,27 @@ use Rattle.tm_base.specs.Texts.{spelled_text, element_texts, text_of, tuple_text
 use Rattle.tm_base.specs.Worlds.{tables_of}
 use Rattle.tm_base.proofs.GroundLemmas.{spelled_all, spell-Tuple, spell-Array, spell-Wrap}
 use Rattle.tm_names.specs.declared.resolved.Resolved.{Resolved}
+use Rattle.tm_ground.specs.Belongs.{StandsFor, EachStandsFor}
 use Rattle.tm_ground.specs.Closed.{Closed, Elements, prim, never, tuple, array, nonzero, wrap, named, ref, no_elements, element}
 use Rattle.tm_ground.specs.ClosedTexts.{closed_text, closed_texts}
 use Rattle.tm_ground.specs.Limits.{is_ref}
-use Rattle.tm_ground.specs.Numbered.{IsNumbered, EachNumbered}
-use Rattle.tm_ground.specs.Rows.{IsNamedRow, IsRefRow, IsWorldOf}
-use Rattle.tm_ground.proofs.EndsLemmas.{followed, count-some}
-use Rattle.tm_ground.proofs.SizeLemmas.{node_count, node_total}
-use Rattle.tm_ground.proofs.StandsLemmas.{zip-get}
+use Rattle.tm_ground.specs.Numbered.{IsNumbered}
+use Rattle.tm_ground.specs.Rows.{IsWorldOf}
+use Rattle.tm_ground.proofs.EndsLemmas.{followed}
+use Rattle.tm_ground.proofs.SizeLemmas.{node_count, node_total, node_count-parts}
+use Rattle.tm_ground.proofs.StandsLemmas.{stands}
 
-module _ (resolved : Resolved) (types refs : List Closed) (bounds : List Bound) (rows : List NamedRow) (ref_rows : List RefRow)
-    (of_rows : AllZip (IsNamedRow types refs resolved) types rows) (of_refs : AllZip (IsRefRow types refs) refs ref_rows) where
+module _ (resolved : Resolved) (bounds : List Bound) (rows : List NamedRow) (ref_rows : List RefRow) where
   abbrev tables : Tables
   tables = record { defs = resolved.defs; regions = resolved.regions; bounds = bounds; named = rows; refs = ref_rows }
 
-  mutual
-    unfolding IsNumbered node_count spell spelled_within spelled_text closed_text
+  abbrev TextWithin : ℕ → Type 0
+  TextWithin m = (c : Closed) (g : Ground) → StandsFor rows ref_rows c g → node_count c ≤ m → spelled_text tables (spelled_within m ref_rows g) ≡ closed_text resolved c
 
-    text-one : (m : ℕ) → ((c : Closed) (g : Ground) → IsNumbered types refs c g → node_count c ≤ m → spelled_text tables (spelled_within m ref_rows g) ≡ closed_text resolved c) → (c : Closed) (g : Ground) → IsNumbered types refs c g → node_count c ≤ suc m → spelled_text tables (spell (followed ref_rows m) g) ≡ closed_text resolved c
+  mutual
+    unfolding StandsFor node_count spell spelled_within spelled_text closed_text
+
+    text-one : (m : ℕ) → TextWithin m → (c : Closed) (g : Ground) → StandsFor rows ref_rows c g → node_count c ≤ suc m → spelled_text tables (spell (followed ref_rows m) g) ≡ closed_text resolved c
     text-one m below (prim p) g h l = rw h refl
     text-one m below never g h l = rw h refl
     text-one m below (tuple no_elements) g h l = rw h refl
@@ -42,26 +44,21 @@ module _ (resolved : Resolved) (types refs : List Closed) (bounds : List Bound) 
     text-one m below (nonzero p) g h l = rw h refl
     text-one m below (wrap w c) g (k, e, a) l =
         rw e (ap (spelled_text tables) (spell-Wrap (followed ref_rows m) w k) ∙ ap (applied (wrapper_text w)) (text-one m below c k a (omega (arith, l))))
-    text-one m below (named def rs) g (id, e, at) l =
-        let (row, found, s) = zip-get (IsNamedRow types refs resolved) types rows id.0 (named def rs) of_rows at in
-        rw e (ap (row_text tables) found ∙ sym (ap (closed_text resolved) s.type))
-    text-one m below (ref region mutable c) g (r, e, at) l =
-        let (row, found, s) = zip-get (IsRefRow types refs) refs ref_rows r.0 (ref region mutable c) of_refs at in
-        let one : ref region mutable c ≡ ref row.region row.mutable s.pointee = s.type in
-        let same : c ≡ s.pointee = cc in
-        let inner = below c row.pointee (subst (λ x. IsNumbered types refs x row.pointee) (sym same) s.numbered) (omega (arith, l)) in
+    text-one m below (named def rs) g (id, e, row, found, same) l = rw e (ap (row_text tables) found ∙ ap (closed_text resolved) same)
+    text-one m below (ref region mutable c) g (r, e, row, found, a, b, d) l =
+        let inner = below c row.pointee d (omega (arith, l)) in
         let followed = ap (λ o. spelled_text tables (follow_row (spelled_within m ref_rows) o)) found in
         let pointee = ap (λ t. codes "&" ++ region_text tables row.region ++ (if row.mutable then codes " mut " else codes " ") ++ t) inner in
-        rw e (followed ∙ pointee ∙ ap (closed_text resolved) (ap (ref row.region row.mutable) same ∙ sym s.type))
+        rw e (followed ∙ pointee ∙ ap (λ x. closed_text resolved (ref x row.mutable c)) a ∙ ap (λ x. closed_text resolved (ref region x c)) b)
 
-    text-each : (m : ℕ) → ((c : Closed) (g : Ground) → IsNumbered types refs c g → node_count c ≤ m → spelled_text tables (spelled_within m ref_rows g) ≡ closed_text resolved c) → (cs : Elements) (gs : List Ground) → EachNumbered types refs cs gs → node_total cs ≤ m → element_texts tables (spelled_all (spell (followed ref_rows m)) gs) ≡ closed_texts resolved cs
+    text-each : (m : ℕ) → TextWithin m → (cs : Elements) (gs : List Ground) → EachStandsFor rows ref_rows cs gs → node_total cs ≤ m → element_texts tables (spelled_all (spell (followed ref_rows m)) gs) ≡ closed_texts resolved cs
     text-each m below no_elements gs h l = rw h refl
     text-each m below (element c cs) [] h l = absurd h
     text-each m below (element c cs) (g ∷ gs) (a, b) l = rw (text-one m below c g a (omega (arith, l)), text-each m below cs gs b (omega (arith, l))) refl
 
-  pub text-within : (m : ℕ) (c : Closed) (g : Ground) → IsNumbered types refs c g → node_count c ≤ m → spelled_text tables (spelled_within m ref_rows g) ≡ closed_text resolved c
+  pub text-within : (m : ℕ) → TextWithin m
   unfolding spelled_within
-  text-within zero c g h l = absurd (omega (arith, l, count-some types refs ref_rows of_refs c))
+  text-within zero c g h l = absurd (omega (arith, l, node_count-parts c))
   text-within (suc m) c g h l = text-one m (text-within m) c g h l
 
 -- a reference's number is of its closed type
@@ -79,4 +76,5 @@ numbered-ref types refs (ref region mutable c) k t at = (record { 0 = k }, refl,
 -- the text of the reference with a number
 pub ref-text : (resolved : Resolved) (types refs : List Closed) (world : World) → IsWorldOf resolved types refs world → (k : ℕ) (c : Closed) → slice_get refs k ≡ Some c → is_ref c ≡ true → node_count c ≤ 64 → text_of (tables_of world) (ground_is.Ref (record { 0 = k })) ≡ closed_text resolved c
 ref-text resolved types refs world w k c at t l =
-    rw (w.defs, w.regions) (text-within resolved types refs world.bounds world.named world.refs w.named w.ref_rows 64 c (ground_is.Ref (record { 0 = k })) (numbered-ref types refs c k t at) l)
+    rw (w.defs, w.regions) (text-within resolved world.bounds world.named world.refs 64 c (ground_is.Ref (record { 0 = k }))
+    (stands resolved types refs world.named world.refs w.named w.ref_rows c (ground_is.Ref (record { 0 = k })) (numbered-ref types refs c k t at)) l)

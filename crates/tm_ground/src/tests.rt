@@ -1,4 +1,5 @@
 ghost use Rattle.std.specs.Prelude.{◌≡◌, ◌∷◌, [], IfOk};
+ghost use Rattle.tm_names.specs.ApartNames.{HasApartNames};
 ghost use Rattle.tm_names.specs.InForm.{IsInForm};
 ghost use Rattle.tm_names.specs.declared.resolved.Open.{Prim, Ref};
 ghost use Rattle.tm_names.specs.declared.resolved.Life.TheVariants.{Static};
@@ -28,7 +29,8 @@ fn reference(alloc: Global, mutable: bool, pointee: Primitive) -> Result<Open, M
 
 /// `ask &'static u16 => &'static mut u8;`.
 fn sample(alloc: Global) -> Result<Resolved, Memory>
-    ensures { IfOk result (λ file. IsInForm file) }
+    ensures form { IfOk result (λ file. IsInForm file) }
+    ensures names { IfOk result (λ file. HasApartNames file) }
 {
     let mut name = Text::new(alloc);
     name.push_str("'static")?;
