@@ -1,4 +1,5 @@
 ghost use Rattle.std.specs.Prelude.{◌≡◌, ◌≤◌, IfOk, IfErr, length, slice_get};
+ghost use Rattle.tm_names.specs.ApartNames.{HasApartNames};
 ghost use Rattle.tm_names.specs.InForm.{IsInForm};
 ghost use Rattle.tm_run.specs.Examined.{AreTokensOf, IsAnsweredWorld, IsMeaningOf, IsParsedOf, IsResolvedOf, IsStop, fault_at, no_token_at};
 ghost use Rattle.tm_run.specs.Faults.{start_of};
@@ -105,6 +106,7 @@ fn resolved(alloc: Global, text: &str, tokens: &[Token], parsed: &Parsed) -> Res
     requires parsed { IsParsedOf text.now tokens.now parsed.now }
     ensures resolved { IfOk result (IsResolvedOf text.now tokens.now parsed.now) }
     ensures in_form { IfOk result IsInForm }
+    ensures apart { IfOk result HasApartNames }
     ensures stop { IfErr result (IsStop text.now) }
 {
     match check(alloc, text, tokens, parsed) {
@@ -122,6 +124,7 @@ fn meaning(alloc: Global, text: &str) -> Result<Resolved, Stop>
     requires { length text.now ≤ 1048576 }
     ensures meaning { IfOk result (IsMeaningOf text.now) }
     ensures in_form { IfOk result IsInForm }
+    ensures apart { IfOk result HasApartNames }
     ensures stop { IfErr result (IsStop text.now) }
 {
     let tokens = tokens(alloc, text)?;
