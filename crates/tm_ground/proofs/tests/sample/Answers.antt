@@ -1,3 +1,4 @@
+use Rattle.std.proofs.Common.{rules}
 use Rattle.tm_ground.proofs.SampleForm.{sample_apart, sample_in_form}
 use Rattle.tm_ground.proofs.tests.sample.Goals as goal
 
