@@ -25,5 +25,5 @@ file() { # FIELDS-OF-EACH
 
 for fields in 1 256; do
     file "$fields" >"$work/file"
-    measure "$work/file" "$(printf '%3d fields in each definition' "$fields")"
+    cost_of "$work/file" "$(printf '%3d fields in each definition' "$fields")"
 done

@@ -21,5 +21,5 @@ file() { # DEFINITIONS FIELDS QUESTIONS
 
 for definitions in 64 128 256; do
     file "$definitions" 256 256 >"$work/file"
-    measure "$work/file" "$(printf '%3d definitions of 256 fields' "$definitions")"
+    cost_of "$work/file" "$(printf '%3d definitions of 256 fields' "$definitions")"
 done

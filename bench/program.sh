@@ -13,7 +13,7 @@ instructions() { # FILE
 }
 
 # A line on a file: its bytes, the instructions and the seconds that a run over it takes, and what it writes.
-measure() { # FILE WHAT
+cost_of() { # FILE WHAT
     /usr/bin/env time -f '%e' "$program" <"$1" >"$work/out" 2>"$work/seconds"
     printf '%s, %7d bytes: %12d instructions, %s s: %s\n' "$2" "$(wc -c <"$1")" "$(instructions "$1")" \
         "$(tail -n 1 "$work/seconds")" "$(tail -n 1 "$work/out")"
