@@ -1,25 +1,20 @@
 -- The least of some numbers, words and types: where it is known of each whether a fact holds of it, and
 -- it holds of one.
 use Rattle.std.proofs.Common.{◌≡◌, ℕ, suc, ◌<◌, ◌≤◌, ◌⊎◌, inl, inr, refl, true, false, List, [], ◌∷◌, arith, nat_lt}
-use Rattle.std.proofs.lemmas.Bool.{cases_lt, both_ways, false_from_ne_true, ltb-false}
+use Rattle.std.proofs.lemmas.Bool.{cases_lt, ltb-false}
 use Rattle.std.proofs.lemmas.Bool.Decides.{nat_tests}
 use Rattle.tm_base.specs.Cells.{Word}
 use Rattle.tm_base.specs.Orders.{list_less, word_less, text_less}
-use Rattle.tm_base.proofs.OrderLemmas.{word_less-asym, word_less-trans, list_less-trans}
+use Rattle.tm_base.proofs.OrderLemmas.{word_less-trans, list_less-trans, nat_lt-total}
+use Rattle.tm_base.proofs.ValidTestLemmas.{word_less-irrefl}
 use Rattle.tm_laws.proofs.ListedLemmas.{LeastFound, least_in, Listed}
 use Rattle.tm_laws.proofs.WordSearchLemmas.{below, below-has}
-
-word_less-irrefl : (w : Word) → word_less w w ≡ false
-word_less-irrefl w = false_from_ne_true (word_less w w) (λ h. both_ways (word_less w w) (word_less-asym w w h) h)
 
 nat_lt-irrefl : (n : ℕ) → nat_lt n n ≡ false
 nat_lt-irrefl n = grind (arith, nat_tests)
 
 nat_lt-trans : (l m n : ℕ) → nat_lt l m ≡ true → nat_lt m n ≡ true → nat_lt l n ≡ true
 nat_lt-trans l m n h k = grind (arith, nat_tests)
-
-nat_lt-total : (m n : ℕ) → nat_lt m n ≡ false → nat_lt n m ≡ false → m ≡ n
-nat_lt-total m n h k = grind (arith, nat_tests)
 
 pub text_less-irrefl : (text : List ℕ) → text_less text text ≡ false
 unfolding list_less

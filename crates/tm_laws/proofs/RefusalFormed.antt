@@ -17,11 +17,7 @@ use Rattle.tm_base.specs.Spelled.{ends, spelled}
 use Rattle.tm_base.specs.Whole.{written_types, is_head_in_form, is_type_over, is_type_in_form, are_types_in_form}
 use Rattle.tm_base.specs.Worlds.{tables_of, IsTypeOver}
 use Rattle.tm_base.proofs.GroundLemmas.{written_types-Tuple, written_types-Array, written_types-Wrap}
-use Rattle.tm_base.proofs.WorldLemmas.{list_all-at}
-
-list_all-flat_map : {X Y : Type 0} (p : Y → Bool) (f : X → List Y) (xs : List X) → list_all p (flat_map f xs) ≡ list_all (λ x. list_all p (f x)) xs
-list_all-flat_map p f [] = refl
-list_all-flat_map p f (x ∷ xs) = list_all-append p (f x) (flat_map f xs) ∙ ap (λ b. list_all p (f x) && b) (list_all-flat_map p f xs)
+use Rattle.tm_base.proofs.WorldLemmas.{list_all-at, list_all-flat_map}
 
 list_all-weaker : {X : Type 0} (p q : X → Bool) → ((x : X) → p x ≡ true → q x ≡ true) → (xs : List X) → list_all p xs ≡ true → list_all q xs ≡ true
 list_all-weaker p q each [] h = refl
