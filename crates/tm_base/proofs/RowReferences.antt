@@ -49,21 +49,21 @@ byte_to_bool A (inl none) = none (Byte 0 ∷ []) zero_byte
 byte_to_bool A (inr (inl (e, every))) = two_is_no_bool (every (Byte 2 ∷ []) two_byte)
 byte_to_bool A (inr (inr (e, other))) = cc
 
-taken_word : (A : ℕ → ℕ → Type 0) (r t : ℕ) → (x : ℕ) × A x t × (pointer_of r ≡ pointer_of x) → A r t
+taken_word : (A : ℕ → ℕ → Type 0) (r t : ℕ) → (x : ℕ) × A x t × (pointer_of 8 r ≡ pointer_of 8 x) → A r t
 taken_word A r t (x, a, e) = subst (λ (y : ℕ). A y t) (sym (ap first_ref e)) a
 
 -- a reference whose words are taken may be taken itself
 taken_ref : (A : ℕ → ℕ → Type 0) (r t : ℕ) → Transmutes A nothing (reference r) (reference t) → A r t
 unfolding Valid layout_of
-taken_ref A r t (inl none) = absurd (none (pointer_of r) (r, refl, refl))
-taken_ref A r t (inr (inl (e, every))) = taken_word A r t (every (pointer_of r) (r, refl, refl))
+taken_ref A r t (inl none) = absurd (none (pointer_of 8 r) (r, refl, refl))
+taken_ref A r t (inr (inl (e, every))) = taken_word A r t (every (pointer_of 8 r) (r, refl, refl))
 taken_ref A r t (inr (inr (e, other))) = cc
 
 -- and the other way round
 ref_taken : (A : ℕ → ℕ → Type 0) (r t : ℕ) → A r t → Transmutes A nothing (reference r) (reference t)
 unfolding Valid layout_of
 ref_taken A r t a = inr (inl (refl, λ w value. each w value)) where
-  each : (w : Word) → (x : ℕ) × (x ≡ r) × (w ≡ pointer_of x) → (x : ℕ) × A x t × (fit w 8 ≡ pointer_of x)
+  each : (w : Word) → (x : ℕ) × (x ≡ r) × (w ≡ pointer_of 8 x) → (x : ℕ) × A x t × (fit w 8 ≡ pointer_of 8 x)
   each w (x, same, e) = (x, subst (λ (y : ℕ). A y t) (sym same) a, rw e refl)
 
 -- Two levels below, &&u8 isn't taken as &&bool:

@@ -161,11 +161,11 @@ unfolding valid_test layout_of list_less
 message-word = refl
 
 -- a reference is no bytes, and bytes are no reference
-reference-itself : fits false (reference 3) (pointer_of 3) ≡ true
+reference-itself : fits false (reference 3) (pointer_of 8 3) ≡ true
 unfolding valid_test layout_of list_less
 reference-itself = refl
 
-reference-no_bytes : fits false (prim p.Usize) (pointer_of 3) ≡ false
+reference-no_bytes : fits false (prim p.Usize) (pointer_of 8 3) ≡ false
 unfolding valid_test layout_of list_less
 reference-no_bytes = refl
 
@@ -177,15 +177,15 @@ option-null : is_source_word (option (reference 3)) (replicate 8 (Byte 0)) ≡ t
 unfolding valid_test layout_of list_less
 option-null = refl
 
-option-some : fits false (option (reference 3)) (pointer_of 3) ≡ true
+option-some : fits false (option (reference 3)) (pointer_of 8 3) ≡ true
 unfolding valid_test layout_of list_less
 option-some = refl
 
 -- free bytes take no reference, and `MaybeUninit` of one takes it whole
-maybe-no_reference : fits false (array (wrap w.MaybeUninit u8) 4) (pointer_of 3) ≡ false
+maybe-no_reference : fits false (array (wrap w.MaybeUninit u8) 4) (pointer_of 8 3) ≡ false
 unfolding valid_test layout_of list_less
 maybe-no_reference = refl
 
-maybe-reference : fits false (wrap w.MaybeUninit (reference 3)) (pointer_of 3) ≡ true
+maybe-reference : fits false (wrap w.MaybeUninit (reference 3)) (pointer_of 8 3) ≡ true
 unfolding valid_test layout_of list_less
 maybe-reference = refl

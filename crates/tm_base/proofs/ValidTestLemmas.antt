@@ -13,7 +13,7 @@ use Rattle.tm_base.specs.declared.ground.Primitive.{Primitive}
 use Rattle.tm_base.specs.declared.ground.Primitive.TheVariants as primitive
 use Rattle.tm_base.specs.declared.ground.Wrapper.{Wrapper}
 use Rattle.tm_base.specs.declared.ground.Wrapper.TheVariants as wrapper
-use Rattle.tm_base.specs.Cells.{Word, IsByte, IsFree, Times, number_of, pointer_of}
+use Rattle.tm_base.specs.Cells.{Word, IsByte, IsFree, Times, number_of, pointer_of, pointer_size}
 use Rattle.tm_base.specs.Expanded.{Expanded, Fields, Variants, too_deep, prim, never, unit, tuple, array, nonzero, phantom, wrap, ref, named, no_fields, field, no_variants, variant}
 use Rattle.tm_base.specs.Layout.{layout_of, size_of, prim_size, place_at, tag_layout}
 use Rattle.tm_base.specs.Orders.{word_less}
@@ -217,9 +217,9 @@ tag_test-decides : (n : ℕ) (value : ℤ) (w : Word) → Decides (tag_test n va
 tag_test-decides n value w = Decides-and (are_bytes n w) (number_of w == twos_complement n value) (are_bytes-decides n w) (Decides-eqb (number_of w) (twos_complement n value))
 
 -- the reference that stands first decides which one it is
-ref_decides : (A : ℕ → ℕ → Bool) (t : ℕ) (w : Word) → Decides (A (first_ref w) t && word_same w (pointer_of (first_ref w))) ((x : ℕ) × IsTrue (A x t) × (w ≡ pointer_of x))
+ref_decides : (A : ℕ → ℕ → Bool) (t : ℕ) (w : Word) → Decides (A (first_ref w) t && word_same w (pointer_of pointer_size (first_ref w))) ((x : ℕ) × IsTrue (A x t) × (w ≡ pointer_of pointer_size x))
 ref_decides A t w =
-    let both = Decides-and (A (first_ref w) t) (word_same w (pointer_of (first_ref w))) (λ h. h, λ h. h) (word_same-decides w (pointer_of (first_ref w))) in (
+    let both = Decides-and (A (first_ref w) t) (word_same w (pointer_of pointer_size (first_ref w))) (λ h. h, λ h. h) (word_same-decides w (pointer_of pointer_size (first_ref w))) in (
       λ h. (first_ref w, (both.0 h).0, (both.0 h).1),
       λ (x, a, e).
           let same : first_ref w ≡ x = rw e refl in

@@ -36,9 +36,9 @@ number_of (c ∷ cs) = byte_of c + 256 * number_of cs
 abbrev pub pointer_size : ℕ
 pointer_size = 8
 
--- all cells of a value of the reference type x
-abbrev pub pointer_of : ℕ → Word
-pointer_of x = map (λ k. Ptr (record { 0 = x }) k) (range_with_len 0 pointer_size)
+-- all cells of a value of the reference type x, where a reference has so many bytes
+abbrev pub pointer_of : ℕ → ℕ → Word
+pointer_of size x = map (λ k. Ptr (record { 0 = x }) k) (range_with_len 0 size)
 
 -- A relation of source references to target references says which value a reference may hold. Where
 -- a target reference t may also hold itself, as a place that no source fills yet, the value is of the

@@ -9,7 +9,7 @@ use Rattle.tm_base.specs.declared.ground.Primitive.{Primitive}
 use Rattle.tm_base.specs.declared.ground.Primitive.TheVariants.{Bool as bool', Char}
 use Rattle.tm_base.specs.declared.ground.Wrapper.{Wrapper}
 use Rattle.tm_base.specs.declared.ground.Wrapper.TheVariants.{Option as option, MaybeUninit}
-use Rattle.tm_base.specs.Cells.{Word, IsByte, IsFree, number_of, pointer_of, Times}
+use Rattle.tm_base.specs.Cells.{Word, IsByte, IsFree, number_of, pointer_of, pointer_size, Times}
 use Rattle.tm_base.specs.Expanded.{Expanded, Fields, Variants, too_deep, prim, never, unit, tuple, array, nonzero, phantom, wrap, ref, named, no_fields, field, no_variants, variant}
 use Rattle.tm_base.specs.Layout.{prim_size, round_up, place_at, greatest_align, structs, tag_layout, layout_of, size_of, variant_layouts}
 
@@ -79,7 +79,7 @@ module _ (A : ℕ → ℕ → Type 0) (keep : Bool) where
     Valid (nonzero p) w = AreBytes (prim_size p) w × (0 < number_of w)
     Valid phantom w = w ≡ []
     Valid (wrap k t) w = WrapValid k (size_of t) (Valid t) w
-    Valid (ref t) w = (x : ℕ) × A x t.0 × (w ≡ pointer_of x)
+    Valid (ref t) w = (x : ℕ) × A x t.0 × (w ≡ pointer_of pointer_size x)
     Valid (named id Struct repr variants) w = (length w ≡ size_of (named id Struct repr variants)) × StructValid repr.packed variants w
     Valid (named id Union repr variants) w = (length w ≡ size_of (named id Union repr variants)) × UnionValid variants w
     Valid (named id Enum repr variants) w = (length w ≡ size_of (named id Enum repr variants)) × SomeVariantValid repr.tag (fields_place repr variants) (first_place repr) variants w

@@ -8,7 +8,7 @@ use Rattle.tm_base.specs.declared.ground.Primitive.{Primitive}
 use Rattle.tm_base.specs.declared.ground.Primitive.TheVariants.{Bool as bool', Char}
 use Rattle.tm_base.specs.declared.ground.Wrapper.{Wrapper}
 use Rattle.tm_base.specs.declared.ground.Wrapper.TheVariants.{Option as option, MaybeUninit}
-use Rattle.tm_base.specs.Cells.{Word, number_of, pointer_of}
+use Rattle.tm_base.specs.Cells.{Word, number_of, pointer_of, pointer_size}
 use Rattle.tm_base.specs.Expanded.{Expanded, Fields, Variants, too_deep, prim, never, unit, tuple, array, nonzero, phantom, wrap, ref, named, no_fields, field, no_variants, variant}
 use Rattle.tm_base.specs.Layout.{prim_size, place_at, tag_layout, layout_of, size_of}
 use Rattle.tm_base.specs.Orders.{word_less}
@@ -90,7 +90,7 @@ module _ (A : ℕ → ℕ → Bool) (keep : Bool) where
     valid_test (nonzero p) w = are_bytes (prim_size p) w && nat_lt 0 (number_of w)
     valid_test phantom w = word_same w []
     valid_test (wrap k t) w = wrap_test k (size_of t) (valid_test t) w
-    valid_test (ref t) w = A (first_ref w) t.0 && word_same w (pointer_of (first_ref w))
+    valid_test (ref t) w = A (first_ref w) t.0 && word_same w (pointer_of pointer_size (first_ref w))
     valid_test (named id Struct repr variants) w = (length w == size_of (named id Struct repr variants)) && struct_test repr.packed variants w
     valid_test (named id Union repr variants) w = (length w == size_of (named id Union repr variants)) && union_test variants w
     valid_test (named id Enum repr variants) w = (length w == size_of (named id Enum repr variants)) && some_variant_test repr.tag (fields_place repr variants) (first_place repr) variants w
