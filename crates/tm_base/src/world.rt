@@ -4,6 +4,7 @@ ghost use Rattle.tm_base.specs.Whole.{are_defs_in_form, are_regions_known, are_r
 use crate::ask::Ask;
 use crate::definition::{Bound, Def, NamedRow, RefRow};
 use crate::list::List;
+use crate::profile::Profile;
 use crate::text::Text;
 
 /// All that the answers to some questions rest on, with the questions.
@@ -12,6 +13,7 @@ use crate::text::Text;
 /// [`crate::NamedId`] one in `named`, and a [`crate::RefId`] one in `refs`. The region 0 is `'static`.
 #[derive(Debug, Drop)]
 pub struct World {
+    pub profile: Profile,
     pub defs: List<Def>,
     pub regions: List<Text>,
     pub bounds: List<Bound>,
@@ -40,6 +42,7 @@ pub(crate) mod tests {
     /// A world without types and questions.
     pub(crate) fn empty_world(alloc: Global) -> World {
         World {
+            profile: Profile::Le64,
             defs: List::new(alloc),
             regions: List::new(alloc),
             bounds: List::new(alloc),
