@@ -1,3 +1,4 @@
+pub mod CellLemmas
 pub mod TreeLemmas
 pub mod ValidLemmas
 pub mod CompatibleLemmas

@@ -2,6 +2,7 @@
 use Rattle.std.proofs.Common.{◌≡◌, ℕ, zero, suc, ◌+◌, ◌⊎◌, inl, inr, refl, subst, false, None, [], ◌∷◌, take, arith}
 use Rattle.std.proofs.lemmas.Bool.Decides.{nat_tests}
 use Rattle.std.proofs.lemmas.List.Elements.{All-cons, All-nil}
+use Rattle.tm_base.specs.declared.profile.Profile.TheVariants.{Le64}
 use Rattle.tm_base.specs.declared.answer.Answer.TheVariants.{No, NoAt}
 use Rattle.tm_base.specs.declared.answer.Rule.TheVariants.{ByteValue, TargetUninhabited}
 use Rattle.tm_base.specs.declared.ask.Ask.{Ask}
@@ -28,7 +29,7 @@ use Rattle.tm_base.proofs.RowReferences.{byte_to_bool}
 use Rattle.tm_base.proofs.RowTypes.{u8, the_bool}
 
 abbrev no_tables : Tables
-no_tables = record { defs = []; regions = []; bounds = []; named = []; refs = [] }
+no_tables = record { profile = Le64; defs = []; regions = []; bounds = []; named = []; refs = [] }
 
 -- a type that holds nothing and isn't at fault
 abbrev IsPlain : Ground → Type 0
@@ -53,17 +54,17 @@ plain-judged = IsJudged-from no_tables IsPlain plain-closed plain-sound
 abbrev byte_as_bool : Ask
 byte_as_bool = record { src = Prim p.U8; dst = Prim p.Bool; assume = nothing }
 
-bool_zero : PrimValid p.Bool (Byte 0 ∷ [])
+bool_zero : PrimValid Le64 p.Bool (Byte 0 ∷ [])
 bool_zero = ((refl, All-cons IsByte (Byte 0) [] (omega arith) (All-nil IsByte)), omega arith)
 
-bool_one : PrimValid p.Bool (Byte 1 ∷ [])
+bool_one : PrimValid Le64 p.Bool (Byte 1 ∷ [])
 bool_one = ((refl, All-cons IsByte (Byte 1) [] (omega arith) (All-nil IsByte)), omega arith)
 
-no_bool_begins_with_two : (rest : Word) → PrimValid p.Bool (Byte 2 ∷ rest) → ⊥
+no_bool_begins_with_two : (rest : Word) → PrimValid Le64 p.Bool (Byte 2 ∷ rest) → ⊥
 no_bool_begins_with_two rest ((size, bytes), low) = absurd (omega arith)
 
 -- a byte that no `bool` begins with isn't less than 02
-not_below_two : (w : Word) → PrimValid p.U8 w → (Viable (Compatible no_tables nothing) false the_bool (take 1 (fit w 1)) → ⊥) → word_less w (Byte 2 ∷ []) ≡ false
+not_below_two : (w : Word) → PrimValid Le64 p.U8 w → (Viable (Compatible no_tables nothing) false the_bool (take 1 (fit w 1)) → ⊥) → word_less w (Byte 2 ∷ []) ≡ false
 unfolding list_less Valid
 not_below_two [] (size, bytes) stops = absurd (omega arith)
 not_below_two (Byte zero ∷ []) (size, bytes) stops = absurd (stops ([], bool_zero))

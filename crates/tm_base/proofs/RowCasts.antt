@@ -1,6 +1,7 @@
 -- Casts of the worked rows that speak of all words of a type.
 use Rattle.std.proofs.Common.{◌≡◌, ℕ, zero, suc, ◌⊎◌, inl, inr, refl, true, false, Bool, [], ◌∷◌, arith, sym, subst, ⊎_elim, ◌==◌}
 use Rattle.std.proofs.lemmas.List.Elements.{All-head, All-cons, All-nil}
+use Rattle.tm_base.specs.declared.profile.Profile.TheVariants.{Le64}
 use Rattle.tm_base.specs.declared.assume.Assume.{Assume}
 use Rattle.tm_base.specs.declared.cell.Cell.TheVariants.{Byte, Uninit, Ptr}
 use Rattle.tm_base.specs.declared.ground.Primitive.TheVariants as p
@@ -25,7 +26,7 @@ abbrev never_taken : ℕ → ℕ → Bool
 never_taken x t = false
 
 -- one byte that is at most 1 is 00 or 01
-pub bit_word : (w : Word) → PrimValid p.Bool w → (w ≡ Byte 0 ∷ []) ⊎ (w ≡ Byte 1 ∷ [])
+pub bit_word : (w : Word) → PrimValid Le64 p.Bool w → (w ≡ Byte 0 ∷ []) ⊎ (w ≡ Byte 1 ∷ [])
 bit_word [] ((size, bytes), low) = absurd (omega arith)
 bit_word (Byte zero ∷ []) ((size, bytes), low) = inl refl
 bit_word (Byte (suc zero) ∷ []) ((size, bytes), low) = inr refl
@@ -34,7 +35,7 @@ bit_word (Uninit ∷ []) ((size, bytes), low) = absurd (All-head IsByte Uninit [
 bit_word (Ptr r k ∷ []) ((size, bytes), low) = absurd (All-head IsByte (Ptr r k) [] bytes)
 bit_word (c ∷ d ∷ w) ((size, bytes), low) = absurd (omega arith)
 
-pub two_is_no_bool : PrimValid p.Bool (Byte 2 ∷ []) → ⊥
+pub two_is_no_bool : PrimValid Le64 p.Bool (Byte 2 ∷ []) → ⊥
 two_is_no_bool ((size, bytes), low) = absurd (omega arith)
 
 -- each of the two words is one of a union of 0 and 1

@@ -1,6 +1,7 @@
 -- References that lead back to themselves, and references that may be written through.
 use Rattle.std.proofs.Common.{◌≡◌, ℕ, zero, suc, ◌⊎◌, ⊎_elim, inl, inr, refl, sym, subst, true, false, None, [], ◌∷◌, arith, pos}
 use Rattle.std.specs.List.{Contains}
+use Rattle.tm_base.specs.declared.profile.Profile.TheVariants.{Le64}
 use Rattle.tm_base.specs.declared.definition.Def.{Def}
 use Rattle.tm_base.specs.declared.definition.Kind.TheVariants.{Struct}
 use Rattle.tm_base.specs.declared.definition.NamedRow.{NamedRow}
@@ -25,6 +26,7 @@ use Rattle.tm_base.proofs.RowTypes.{repr_c, u8, the_bool, reference, struct, two
 -- 0 is &mut bool, and 1 is &mut u8
 abbrev written_through : Tables
 written_through = record {
+  profile = Le64;
   defs = [];
   regions = [];
   bounds = [];
@@ -55,6 +57,7 @@ the_named k = Named (record { 0 = k })
 -- 0 leads to a `bool` and back to itself, and 1 to a `u8` and back to itself
 abbrev chains : Tables
 chains = record {
+  profile = Le64;
   defs = chain_def ∷ [];
   regions = [];
   bounds = [];

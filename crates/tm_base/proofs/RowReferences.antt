@@ -1,5 +1,6 @@
 -- References of the worked rows: how far they go together.
 use Rattle.std.proofs.Common.{◌≡◌, ℕ, zero, suc, ◌<◌, ◌⊎◌, inl, inr, refl, sym, ◌∙◌, ap, subst, false, None, [], ◌∷◌, List, arith}
+use Rattle.tm_base.specs.declared.profile.Profile.TheVariants.{Le64}
 use Rattle.tm_base.specs.declared.cell.Cell.TheVariants.{Byte}
 use Rattle.tm_base.specs.declared.definition.Bound.{Bound}
 use Rattle.tm_base.specs.declared.definition.RefRow.{RefRow}
@@ -35,6 +36,7 @@ shared g = record { mutable = false; region = the_region; pointee = g }
 -- 0 is &&bool, 1 is &&u8, 2 is &bool, and 3 is &u8
 abbrev nested : Tables
 nested = record {
+  profile = Le64;
   defs = [];
   regions = [];
   bounds = [];

@@ -2,6 +2,7 @@
 use Rattle.std.proofs.Common.{◌≡◌, refl, true, [], ◌∷◌}
 use Rattle.std.specs.Prelude.{codes}
 use Rattle.std.specs.Fmt.{digits}
+use Rattle.tm_base.specs.declared.profile.Profile.TheVariants.{Le64}
 use Rattle.tm_base.specs.declared.definition.Kind.TheVariants.{Struct}
 use Rattle.tm_base.specs.declared.ground.Ground.{Prim, Tuple, Array, Named, NonZero, Wrap, Ref}
 use Rattle.tm_base.specs.declared.ground.Ground.TheBlock.{hidden-the_row-Ground-0, shape-the_row-Ground-0, hidden-the_row-Ground-1, shape-the_row-Ground-1}
@@ -15,6 +16,7 @@ use Rattle.tm_base.proofs.RowTypes.{repr_c}
 -- 0 is `&'a mut P<'a, 'static>`
 abbrev tables : Tables
 tables = record {
+  profile = Le64;
   defs = record { name = codes "P"; kind = Struct; repr = repr_c; variants = [] } ∷ [];
   regions = codes "'static" ∷ codes "'a" ∷ [];
   bounds = [];

@@ -1,5 +1,6 @@
 -- Types of the worked rows, written out.
 use Rattle.std.proofs.Common.{◌≡◌, ℕ, refl, true, false, Bool, None, Some, [], ◌∷◌, pos, ◌==◌}
+use Rattle.tm_base.specs.declared.profile.Profile.TheVariants.{Le64}
 use Rattle.tm_base.specs.declared.definition.Def.{Def}
 use Rattle.tm_base.specs.declared.definition.Kind.TheVariants.{Struct, Union, Enum}
 use Rattle.tm_base.specs.declared.definition.NamedRow.{NamedRow}
@@ -35,28 +36,28 @@ repr_align n = record { c = true; transparent = false; tag = None; packed = None
 
 -- built-in types
 abbrev pub the_bool : Expanded
-the_bool = prim p.Bool
+the_bool = prim Le64 p.Bool
 
 abbrev pub the_char : Expanded
-the_char = prim p.Char
+the_char = prim Le64 p.Char
 
 abbrev pub u8 : Expanded
-u8 = prim p.U8
+u8 = prim Le64 p.U8
 
 abbrev pub u16 : Expanded
-u16 = prim p.U16
+u16 = prim Le64 p.U16
 
 abbrev pub u32 : Expanded
-u32 = prim p.U32
+u32 = prim Le64 p.U32
 
 abbrev pub u64 : Expanded
-u64 = prim p.U64
+u64 = prim Le64 p.U64
 
 abbrev pub bytes : ℕ → Expanded
 bytes n = array u8 n
 
 abbrev pub reference : ℕ → Expanded
-reference r = ref (record { 0 = r })
+reference r = ref Le64 (record { 0 = r })
 
 abbrev pub option : Expanded → Expanded
 option t = wrap w.Option t
@@ -66,13 +67,13 @@ abbrev pub the_id : NamedId
 the_id = record { 0 = 0 }
 
 abbrev pub struct : Repr → Fields → Expanded
-struct repr members = named the_id Struct repr (variant (pos 0) members no_variants)
+struct repr members = named Le64 the_id Struct repr (variant (pos 0) members no_variants)
 
 abbrev pub union : Repr → Fields → Expanded
-union repr members = named the_id Union repr (variant (pos 0) members no_variants)
+union repr members = named Le64 the_id Union repr (variant (pos 0) members no_variants)
 
 abbrev pub enum : Repr → Variants → Expanded
-enum repr arms = named the_id Enum repr arms
+enum repr arms = named Le64 the_id Enum repr arms
 
 abbrev pub two : Expanded → Expanded → Fields
 two t u = field true t (field true u no_fields)
@@ -122,7 +123,7 @@ message = enum repr_u8 (variant (pos 1) no_fields (variant (pos 2) (one u16) (va
 
 -- #[repr(transparent)] struct (NonZeroU16), whose field is private
 abbrev pub port : Expanded
-port = struct repr_transparent (field false (nonzero p.U16) no_fields)
+port = struct repr_transparent (field false (nonzero Le64 p.U16) no_fields)
 
 -- whether a word is one of a source, and whether a target takes it, fitted; references hold themselves
 abbrev pub is_source_word : Expanded → Word → Bool
@@ -138,6 +139,6 @@ padded_def = record { name = 83 ∷ []; kind = Struct; repr = repr_c; variants =
 abbrev padded_row : NamedRow
 padded_row = record { def = record { 0 = 0 }; regions = []; types = (ground.Prim p.U8 ∷ ground.Prim p.U16 ∷ []) ∷ [] }
 
-padded-expanded : expanded (padded_def ∷ []) (padded_row ∷ []) (ground.Named the_id) ≡ padded
+padded-expanded : expanded Le64 (padded_def ∷ []) (padded_row ∷ []) (ground.Named the_id) ≡ padded
 unfolding expanded_within out-Ground denote.Hole.Carrier.out
 padded-expanded = refl

@@ -1,5 +1,6 @@
 -- Which words the worked rows' types take.
 use Rattle.std.proofs.Common.{◌≡◌, refl, true, false, [], ◌∷◌, ◌++◌, negsuc, replicate}
+use Rattle.tm_base.specs.declared.profile.Profile.TheVariants.{Le64}
 use Rattle.tm_base.specs.declared.cell.Cell.TheVariants.{Byte, Uninit, Ptr}
 use Rattle.tm_base.specs.declared.ground.Primitive.TheVariants as p
 use Rattle.tm_base.specs.declared.ground.Wrapper.TheVariants as w
@@ -55,11 +56,11 @@ bool-two : fits false the_bool (Byte 2 ∷ []) ≡ false
 unfolding valid_test layout_of list_less
 bool-two = refl
 
-nonzero-zero : fits false (nonzero p.U16) (Byte 0 ∷ Byte 0 ∷ []) ≡ false
+nonzero-zero : fits false (nonzero Le64 p.U16) (Byte 0 ∷ Byte 0 ∷ []) ≡ false
 unfolding valid_test layout_of list_less
 nonzero-zero = refl
 
-nonzero-one : fits false (nonzero p.U16) (Byte 0 ∷ Byte 1 ∷ []) ≡ true
+nonzero-one : fits false (nonzero Le64 p.U16) (Byte 0 ∷ Byte 1 ∷ []) ≡ true
 unfolding valid_test layout_of list_less
 nonzero-one = refl
 
@@ -165,7 +166,7 @@ reference-itself : fits false (reference 3) (pointer_of 8 3) ≡ true
 unfolding valid_test layout_of list_less
 reference-itself = refl
 
-reference-no_bytes : fits false (prim p.Usize) (pointer_of 8 3) ≡ false
+reference-no_bytes : fits false (prim Le64 p.Usize) (pointer_of 8 3) ≡ false
 unfolding valid_test layout_of list_less
 reference-no_bytes = refl
 

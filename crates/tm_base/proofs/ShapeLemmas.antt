@@ -1,14 +1,13 @@
 -- Private parts, alternatives, leaves and the size of words, at each kind of tree.
 use Rattle.std.proofs.Common.{◌≡◌, ℕ, zero, suc, ◌+◌, ◌*◌, ◌≤◌, true, List, [], ◌∷◌, length, ◌∙◌, sym, ap, subst, refl, arith, length-append, inl, inr, ◌↔◌}
-use Rattle.std.proofs.lemmas.List.FromFn.{length-map-range_with_len}
 use Rattle.tm_base.specs.declared.tree.Tree.{Tree, Row_of-Tree, end_of-Tree, more_of-Tree, items-the_row-Tree, items_hidden-the_row-Tree-0, Never, Range, Pad, Ref, Seq, Alt, Repeat, Private}
 use Rattle.tm_base.specs.declared.tree.Tree.TheBlock.{hidden-the_row-Tree-0, shape-the_row-Tree-1, hidden-the_row-Tree-1}
 use Rattle.tm_base.specs.declared.cell.RefId.{RefId}
-use Rattle.tm_base.specs.declared.cell.Cell.TheVariants.{Ptr}
-use Rattle.tm_base.specs.Cells.{Word, Times, pointer_of}
+use Rattle.tm_base.specs.Cells.{Word, Times}
 use Rattle.tm_base.specs.Shapes.{leaves_of, row_leaves, all_leaves, row_length, HasNoPrivate, RowHasNoPrivate, NonePrivate, HasNoAlternatives, RowHasNoAlternatives, NoneAlternative, HasSize}
 use Rattle.tm_base.specs.Transmutes.{holds}
 use Rattle.tm_base.specs.Trees.{TreeWord}
+use Rattle.tm_base.proofs.CellLemmas.{length-pointer_of}
 use Rattle.tm_base.proofs.TreeLemmas.{TreeWord-Seq, TreeWord-Alt, TreeWord-Repeat}
 
 -- ---- private parts
@@ -93,10 +92,6 @@ unfolding leaves_of shape-the_row-Tree-1 hidden-the_row-Tree-1 denote.Hole.Carri
 leaves_of-Repeat pointer n t = times_one n (leaves_of pointer t)
 
 -- ---- sizes of words
-
--- all cells of a reference are as many as it has bytes
-pub length-pointer_of : (size x : ℕ) → length (pointer_of size x) ≡ size
-length-pointer_of size x = length-map-range_with_len (λ k. Ptr (record { 0 = x }) k) 0 size
 
 pub HasSize-Never : (pointer n : ℕ) → HasSize pointer n Never
 unfolding TreeWord

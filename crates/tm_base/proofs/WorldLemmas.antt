@@ -59,7 +59,7 @@ written-itself p (Ref r) h = left_true (p (Ref r)) true h
 module _ (world : World) where
   -- the test that each type of the world passes
   abbrev pub passes : Ground → Bool
-  passes = is_type_in_form world.defs world.named world.refs
+  passes = is_type_in_form world.profile world.defs world.named world.refs
 
   abbrev names : List Ground
   names = map (λ k. Named (record { 0 = k })) (range_with_len 0 (length world.named))
@@ -133,6 +133,6 @@ module _ (world : World) where
       )
 
   -- a type that passes is whole
-  pub passes-whole : (g : Ground) → IsTrue (passes g) → IsTrue (is_whole (expanded world.defs world.named g))
-  passes-whole g h = right_true (is_head_in_form (length world.named) (length world.refs) (out-Ground g)) (is_whole (expanded world.defs world.named g))
-      (left_true (is_head_in_form (length world.named) (length world.refs) (out-Ground g) && is_whole (expanded world.defs world.named g)) (ends (spelled world.refs g)) h)
+  pub passes-whole : (g : Ground) → IsTrue (passes g) → IsTrue (is_whole (expanded world.profile world.defs world.named g))
+  passes-whole g h = right_true (is_head_in_form (length world.named) (length world.refs) (out-Ground g)) (is_whole (expanded world.profile world.defs world.named g))
+      (left_true (is_head_in_form (length world.named) (length world.refs) (out-Ground g) && is_whole (expanded world.profile world.defs world.named g)) (ends (spelled world.refs g)) h)

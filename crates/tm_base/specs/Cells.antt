@@ -27,14 +27,10 @@ byte_of (Byte b) = b
 byte_of Uninit = 0
 byte_of (Ptr r k) = 0
 
--- the number that some bytes hold. Byte order stands here alone: the least byte comes first
-abbrev pub number_of : Word → ℕ
-number_of [] = 0
-number_of (c ∷ cs) = byte_of c + 256 * number_of cs
-
--- how many bytes a reference has
-abbrev pub pointer_size : ℕ
-pointer_size = 8
+-- the number that some bytes hold, the least byte first
+abbrev pub little_endian : Word → ℕ
+little_endian [] = 0
+little_endian (c ∷ cs) = byte_of c + 256 * little_endian cs
 
 -- all cells of a value of the reference type x, where a reference has so many bytes
 abbrev pub pointer_of : ℕ → ℕ → Word

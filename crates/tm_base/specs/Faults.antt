@@ -16,9 +16,9 @@ use Rattle.tm_base.specs.Weight.{weight_limit, weight_of}
 -- these. `Option<T>` is listed exactly where T is such a type.
 unfoldable mutual
   pub is_nullable : Expanded → Bool
-  is_nullable (ref r) = true
-  is_nullable (nonzero p) = true
-  is_nullable (named id Struct repr variants) = repr.transparent && variant_nullable variants
+  is_nullable (ref profile r) = true
+  is_nullable (nonzero profile p) = true
+  is_nullable (named profile id Struct repr variants) = repr.transparent && variant_nullable variants
   is_nullable t = false
 
   pub field_nullable : Fields → Bool
@@ -52,17 +52,17 @@ sized_count (l ∷ ls) = (if is_trivial l then 0 else 1) + sized_count ls
 
 -- a transparent struct has two fields or more that aren't of size 0 and alignment 1
 abbrev pub has_two_sized : Expanded → Bool
-has_two_sized (named id Struct repr variants) = repr.transparent && nat_le 2 (sized_count (only (variant_layouts variants)))
+has_two_sized (named profile id Struct repr variants) = repr.transparent && nat_le 2 (sized_count (only (variant_layouts variants)))
 has_two_sized t = false
 
 -- `align` is written on the type
 abbrev pub has_align : Expanded → Bool
-has_align (named id kind repr _) = is_some repr.align
+has_align (named profile id kind repr _) = is_some repr.align
 has_align t = false
 
 -- `packed` is written on the type
 abbrev pub is_packed : Expanded → Bool
-is_packed (named id kind repr _) = is_some repr.packed
+is_packed (named profile id kind repr _) = is_some repr.packed
 is_packed t = false
 
 -- a cause, where a test says so
@@ -78,7 +78,7 @@ or_else (Some why) other = Some why
 abbrev pub own_fault : Expanded → Option Why
 own_fault (tuple members) = Some Tuple
 own_fault (wrap w t) = when (is_option w && not (is_nullable t)) OptionNotListed
-own_fault (named id kind repr variants) = or_else (when (lacks_repr kind repr) NoRepr) (when (lacks_range kind repr variants) CEnumRange)
+own_fault (named profile id kind repr variants) = or_else (when (lacks_repr kind repr) NoRepr) (when (lacks_range kind repr variants) CEnumRange)
 own_fault t = None
 
 -- the first of the causes that are asked of a type only where its parts have a layout
@@ -102,7 +102,7 @@ unfoldable mutual
   part_at_fault (tuple members) = field_at_fault members
   part_at_fault (array t n) = at_fault_over (part_at_fault t) t
   part_at_fault (wrap w t) = at_fault_over (part_at_fault t) t
-  part_at_fault (named id kind repr variants) = variant_at_fault variants
+  part_at_fault (named profile id kind repr variants) = variant_at_fault variants
   part_at_fault t = false
 
   pub field_at_fault : Fields → Bool

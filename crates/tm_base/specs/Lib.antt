@@ -1,5 +1,6 @@
 pub mod formers
 pub mod Cells
+pub mod Profiles
 pub mod Expanded
 pub mod Layout
 pub mod Integers

@@ -4,9 +4,9 @@ use Rattle.std.specs.Prelude.{ℕ, ◌+◌, ◌*◌, max}
 use Rattle.tm_base.specs.declared.definition.Kind.TheVariants.{Struct, Union, Enum}
 use Rattle.tm_base.specs.declared.ground.Wrapper.{Wrapper}
 use Rattle.tm_base.specs.declared.ground.Wrapper.TheVariants.{Option as option, MaybeUninit}
-use Rattle.tm_base.specs.Cells.{pointer_size}
 use Rattle.tm_base.specs.Expanded.{Expanded, Fields, Variants, too_deep, prim, never, unit, tuple, array, nonzero, phantom, wrap, ref, named, no_fields, field, no_variants, variant}
 use Rattle.tm_base.specs.Layout.{prim_size, tag_layout, size_of}
+use Rattle.tm_base.specs.Profiles.{pointer_size}
 
 -- the greatest weight of a type that isn't too large
 abbrev pub weight_limit : ℕ
@@ -21,18 +21,18 @@ wrapper_weight w n = 0
 unfoldable mutual
   pub weight_of : Expanded → ℕ
   weight_of too_deep = 1
-  weight_of (prim p) = prim_size p
+  weight_of (prim profile p) = prim_size profile p
   weight_of never = 1
   weight_of unit = 1
   weight_of (tuple members) = 1
   weight_of (array t n) = max 1 (n * weight_of t)
-  weight_of (nonzero p) = prim_size p
+  weight_of (nonzero profile p) = prim_size profile p
   weight_of phantom = 1
   weight_of (wrap w t) = weight_of t + wrapper_weight w (size_of t)
-  weight_of (ref r) = pointer_size
-  weight_of (named id Struct repr variants) = max (max 1 (size_of (named id Struct repr variants))) (struct_weight variants)
-  weight_of (named id Union repr variants) = union_weight (max 1 (size_of (named id Union repr variants))) variants
-  weight_of (named id Enum repr variants) = enum_weight (max 1 (size_of (named id Enum repr variants))) (tag_layout repr.tag).size variants
+  weight_of (ref profile r) = pointer_size profile
+  weight_of (named profile id Struct repr variants) = max (max 1 (size_of (named profile id Struct repr variants))) (struct_weight variants)
+  weight_of (named profile id Union repr variants) = union_weight (max 1 (size_of (named profile id Union repr variants))) variants
+  weight_of (named profile id Enum repr variants) = enum_weight (max 1 (size_of (named profile id Enum repr variants))) (tag_layout profile repr.tag).size variants
 
   -- the fields together
   pub fields_weight : Fields → ℕ

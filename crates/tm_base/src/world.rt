@@ -26,10 +26,10 @@ pub struct World {
     pub ghost few_refs: { length refs ≤ 64 },
     pub ghost few_questions: { length questions ≤ 256 },
     pub ghost regions_known: { IsTrue (are_regions_known (length regions) bounds named refs) },
-    pub ghost defs_in_form: { IsTrue (are_defs_in_form defs) },
+    pub ghost defs_in_form: { IsTrue (are_defs_in_form profile defs) },
     pub ghost values_distinct: { AreValuesDistinct defs },
     pub ghost rows_in_form: { IsTrue (are_rows_in_form defs named) },
-    pub ghost types_in_form: { IsTrue (are_types_in_form defs named refs questions) },
+    pub ghost types_in_form: { IsTrue (are_types_in_form profile defs named refs questions) },
     pub ghost named_distinct: { AreDistinct named },
     pub ghost refs_distinct: { AreDistinct refs },
 }
