@@ -1,4 +1,5 @@
 pub mod CellLemmas
+pub mod FaultLemmas
 pub mod TreeLemmas
 pub mod ValidLemmas
 pub mod CompatibleLemmas

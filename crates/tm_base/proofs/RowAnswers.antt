@@ -13,7 +13,7 @@ use Rattle.tm_base.specs.Answers.{IsAnswer}
 use Rattle.tm_base.specs.Cells.{Word, fit, IsByte}
 use Rattle.tm_base.specs.Compatible.{Compatible}
 use Rattle.tm_base.specs.Expanded.{expanded_within, never}
-use Rattle.tm_base.specs.Faults.{fault_of, part_at_fault, is_nullable}
+use Rattle.tm_base.specs.Faults.{fault_of, is_nullable}
 use Rattle.tm_base.specs.Layout.{layout_of}
 use Rattle.tm_base.specs.Orders.{list_less, word_less}
 use Rattle.tm_base.specs.Parts.{some_part}
@@ -42,7 +42,7 @@ plain-closed g h (inr (inl e)) step = absurd (Contains-none h (subst (λ (x : Gr
 plain-closed g h (inr (inr e)) step = absurd (Contains-none h (subst (λ (x : Ground). Enters no_tables x h) e step))
 
 plain-sound : (g : Ground) → IsPlain g → fault_of (expanded_in no_tables g) ≡ None
-unfolding expanded_within out-Ground denote.Hole.Carrier.out fault_of part_at_fault is_nullable some_part weight_of layout_of
+unfolding expanded_within out-Ground denote.Hole.Carrier.out fault_of some_part is_nullable weight_of layout_of
 plain-sound g (inl e) = rw e refl
 plain-sound g (inr (inl e)) = rw e refl
 plain-sound g (inr (inr e)) = rw e refl

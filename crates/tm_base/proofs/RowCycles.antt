@@ -10,10 +10,10 @@ use Rattle.tm_base.specs.declared.ground.Primitive.TheVariants as p
 use Rattle.tm_base.specs.Cells.{Word}
 use Rattle.tm_base.specs.Compatible.{CompatibleTo, Compatible, MeetsLocally}
 use Rattle.tm_base.specs.Expanded.{expanded_within}
-use Rattle.tm_base.specs.Faults.{fault_of, part_at_fault, is_nullable}
+use Rattle.tm_base.specs.Faults.{fault_of, is_nullable}
 use Rattle.tm_base.specs.Layout.{layout_of}
 use Rattle.tm_base.specs.Parts.{some_part}
-use Rattle.tm_base.specs.Reaches.{IsJudged, Enters, LeadsIn}
+use Rattle.tm_base.specs.Reaches.{IsJudged, Enters, ChainIn}
 use Rattle.tm_base.specs.Tables.{Tables, expanded_in}
 use Rattle.tm_base.specs.Transmutes.{Transmutes, Same}
 use Rattle.tm_base.specs.Valid.{Valid}
@@ -87,7 +87,7 @@ chains-closed g h (inr (inr (inr (inr (inl e))))) step = absurd (Contains-none h
 chains-closed g h (inr (inr (inr (inr (inr e))))) step = absurd (Contains-none h (subst (λ (x : Ground). Enters chains x h) e step))
 
 chains-sound : (g : Ground) → IsChainType g → fault_of (expanded_in chains g) ≡ None
-unfolding expanded_within out-Ground denote.Hole.Carrier.out fault_of part_at_fault is_nullable some_part weight_of layout_of
+unfolding expanded_within out-Ground denote.Hole.Carrier.out fault_of some_part is_nullable weight_of layout_of
 chains-sound g (inl e) = rw e refl
 chains-sound g (inr (inl e)) = rw e refl
 chains-sound g (inr (inr (inl e))) = rw e refl
@@ -99,7 +99,7 @@ chains-judged : (g : Ground) → IsChainType g → IsJudged chains g
 chains-judged = IsJudged-from chains IsChainType chains-closed chains-sound
 
 chains-meet : MeetsLocally chains nothing (shared (the_named 0)) (shared (the_named 1))
-unfolding expanded_within out-Ground denote.Hole.Carrier.out some_part layout_of LeadsIn
+unfolding expanded_within out-Ground denote.Hole.Carrier.out some_part layout_of ChainIn
 chains-meet = record {
   source = chains-judged (the_named 0) (inl refl);
   target = chains-judged (the_named 1) (inr (inl refl));

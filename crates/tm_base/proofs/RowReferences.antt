@@ -10,11 +10,11 @@ use Rattle.tm_base.specs.declared.ground.Primitive.TheVariants as p
 use Rattle.tm_base.specs.Cells.{Word, fit, pointer_of}
 use Rattle.tm_base.specs.Compatible.{CompatibleTo, MeetsLocally}
 use Rattle.tm_base.specs.Expanded.{expanded_within}
-use Rattle.tm_base.specs.Faults.{fault_of, part_at_fault, is_nullable}
+use Rattle.tm_base.specs.Faults.{fault_of, is_nullable}
 use Rattle.tm_base.specs.Layout.{layout_of}
 use Rattle.tm_base.specs.Outlives.{Outlives, IsBound}
 use Rattle.tm_base.specs.Parts.{some_part}
-use Rattle.tm_base.specs.Reaches.{IsJudged, Enters, LeadsIn}
+use Rattle.tm_base.specs.Reaches.{IsJudged, Enters, ChainIn}
 use Rattle.tm_base.specs.Tables.{Tables, expanded_in}
 use Rattle.tm_base.specs.Transmutes.{Transmutes}
 use Rattle.tm_base.specs.Valid.{Valid}
@@ -87,7 +87,7 @@ nested-closed g h (inr (inr (inl e))) step = absurd (Contains-none h (subst (λ 
 nested-closed g h (inr (inr (inr e))) step = absurd (Contains-none h (subst (λ (x : Ground). Enters nested x h) e step))
 
 nested-sound : (g : Ground) → IsNestedType g → fault_of (expanded_in nested g) ≡ None
-unfolding expanded_within out-Ground denote.Hole.Carrier.out fault_of part_at_fault is_nullable some_part weight_of layout_of
+unfolding expanded_within out-Ground denote.Hole.Carrier.out fault_of some_part is_nullable weight_of layout_of
 nested-sound g (inl e) = rw e refl
 nested-sound g (inr (inl e)) = rw e refl
 nested-sound g (inr (inr (inl e))) = rw e refl
@@ -97,7 +97,7 @@ nested-judged : (g : Ground) → IsNestedType g → IsJudged nested g
 nested-judged = IsJudged-from nested IsNestedType nested-closed nested-sound
 
 nested-inner : MeetsLocally nested nothing (shared (Prim p.U8)) (shared (Prim p.Bool))
-unfolding expanded_within out-Ground denote.Hole.Carrier.out some_part layout_of LeadsIn
+unfolding expanded_within out-Ground denote.Hole.Carrier.out some_part layout_of ChainIn
 nested-inner = record {
   source = nested-judged (Prim p.U8) (inr (inr (inr refl)));
   target = nested-judged (Prim p.Bool) (inr (inr (inl refl)));
@@ -105,7 +105,7 @@ nested-inner = record {
 }
 
 nested-outer : MeetsLocally nested nothing (shared (ref_to 3)) (shared (ref_to 2))
-unfolding expanded_within out-Ground denote.Hole.Carrier.out some_part layout_of LeadsIn
+unfolding expanded_within out-Ground denote.Hole.Carrier.out some_part layout_of ChainIn
 nested-outer = record {
   source = nested-judged (ref_to 3) (inr (inl refl));
   target = nested-judged (ref_to 2) (inl refl);
@@ -125,12 +125,12 @@ abbrev longer_first : List Bound
 longer_first = record { longer = record { 0 = 1 }; shorter = record { 0 = 2 } } ∷ []
 
 pub outlives_forward : Outlives longer_first (record { 0 = 1 }) (record { 0 = 2 })
-unfolding LeadsIn
+unfolding ChainIn
 outlives_forward = inl (1, (record { 0 = 2 }, (0, omega arith, refl), refl))
 
 -- no bound leads away from 'b
-from_shorter : (n : ℕ) (a b : RegionId) → a ≡ record { 0 = 2 } → LeadsIn (IsBound longer_first) n a b → b ≡ record { 0 = 2 }
-unfolding LeadsIn
+from_shorter : (n : ℕ) (a b : RegionId) → a ≡ record { 0 = 2 } → ChainIn (IsBound longer_first) n a b → b ≡ record { 0 = 2 }
+unfolding ChainIn
 from_shorter zero a b e same = sym same ∙ e
 from_shorter (suc n) a b e (next, step, way) =
     let here = ap (λ (bound : Bound). bound.longer.0) (Contains-one _ _ step) in

@@ -1,5 +1,6 @@
 -- Which types have no guaranteed layout, and why: the Rust Reference, "Type layout", and std's page on
--- `Option`, "Representation". The order of the causes is this project's, and so are the last two.
+-- `Option`, "Representation". That `packed` holds no `align` is the Reference's own rule, in "The alignment
+-- modifiers". The order of the causes is this project's, and so is the last one.
 use Rattle.std.specs.Prelude.{ℕ, nat_lt, nat_le, Bool, true, false, ◌&&◌, ◌||◌, not, if◌then◌else◌, Option, Some, None, is_some, is_none, List, [], ◌∷◌, ◌+◌}
 use Rattle.tm_base.specs.declared.answer.Why.{Why}
 use Rattle.tm_base.specs.declared.answer.Why.TheVariants.{NoRepr, Tuple, OptionNotListed, CEnumRange, TransparentFields, PackedHoldsAlign, TooLarge}
@@ -9,7 +10,7 @@ use Rattle.tm_base.specs.declared.definition.Repr.{Repr}
 use Rattle.tm_base.specs.Expanded.{Expanded, Fields, Variants, tuple, array, nonzero, wrap, ref, named, no_fields, field, no_variants, variant}
 use Rattle.tm_base.specs.Integers.{fits_signed}
 use Rattle.tm_base.specs.Layout.{Layout, is_trivial, only, variant_layouts}
-use Rattle.tm_base.specs.Parts.{some_part, is_option}
+use Rattle.tm_base.specs.Parts.{some_part, some_within, is_option}
 use Rattle.tm_base.specs.Weight.{weight_limit, weight_of}
 
 -- No value has all its bytes 0: a reference, a `NonZero`, or a `repr(transparent)` struct round one of
@@ -88,31 +89,15 @@ layout_fault t =
     (or_else (when (is_packed t && some_part has_align t) PackedHoldsAlign)
     (when (nat_lt weight_limit (weight_of t)) TooLarge))
 
--- the first cause of a type, where it's known whether a part by value is or holds a type at fault
-abbrev pub fault_over : Bool → Expanded → Option Why
-fault_over below t = or_else (own_fault t) (if below then None else layout_fault t)
+-- one of the causes holds of the type by itself, whatever its parts are
+abbrev pub has_cause : Expanded → Bool
+has_cause t = is_some (own_fault t) || is_some (layout_fault t)
 
--- the type is at fault, or a part by value is or holds a type at fault
-abbrev pub at_fault_over : Bool → Expanded → Bool
-at_fault_over below t = is_some (fault_over below t) || below
-
--- some part by value is, or holds by value, a type at fault
-unfoldable mutual
-  pub part_at_fault : Expanded → Bool
-  part_at_fault (tuple members) = field_at_fault members
-  part_at_fault (array t n) = at_fault_over (part_at_fault t) t
-  part_at_fault (wrap w t) = at_fault_over (part_at_fault t) t
-  part_at_fault (named profile id kind repr variants) = variant_at_fault variants
-  part_at_fault t = false
-
-  pub field_at_fault : Fields → Bool
-  field_at_fault no_fields = false
-  field_at_fault (field public t rest) = at_fault_over (part_at_fault t) t || field_at_fault rest
-
-  pub variant_at_fault : Variants → Bool
-  variant_at_fault no_variants = false
-  variant_at_fault (variant value members rest) = field_at_fault members || variant_at_fault rest
-
--- the first cause for which a type is at fault
+-- The first cause for which a type is at fault. The last three are asked only where no part by value is or
+-- holds a type at fault.
 unfoldable pub fault_of : Expanded → Option Why
-fault_of t = fault_over (part_at_fault t) t
+fault_of t = or_else (own_fault t) (if some_part has_cause t then None else layout_fault t)
+
+-- the type is at fault, or holds by value, at any depth, a type at fault
+abbrev pub has_no_layout : Expanded → Bool
+has_no_layout = some_within has_cause

@@ -118,8 +118,8 @@ enum_layout profile r variants =
     then struct_layout None None (tag_layout profile r.tag ∷ union_layout None None (structs [] variants) ∷ [])
     else union_layout None None (structs (tag_layout profile r.tag ∷ []) variants)
 
--- the fields of a struct or a union, which is one variant
-abbrev pub only : List (List Layout) → List Layout
+-- what stands for the fields of a struct or a union, which is one variant
+abbrev pub only : {X : Type 0} → List (List X) → List X
 only [] = []
 only (fields ∷ others) = fields
 

@@ -53,8 +53,8 @@ all_public no_fields = true
 all_public (field public t rest) = public && all_public rest
 
 -- a struct or a union may be made: private types keep their words, or each field is public
-abbrev pub IsOpen : Bool → Fields → Type 0
-IsOpen keep members = IsTrue (keep || all_public members)
+abbrev pub MayBeMade : Bool → Fields → Type 0
+MayBeMade keep members = IsTrue (keep || all_public members)
 
 -- The words of a type, where A says which values a reference may hold, and `keep` that private types
 -- keep their words.
@@ -78,11 +78,11 @@ module _ (A : ℕ → ℕ → Type 0) (keep : Bool) where
     -- the fields of a `repr(transparent)` struct but one have no bytes, so they too may stand in order
     pub StructValid : Option ℕ → Variants → Word → Type 0
     StructValid packed no_variants w = ⊥
-    StructValid packed (variant value members others) w = IsOpen keep members × FieldsValid packed 0 members w
+    StructValid packed (variant value members others) w = MayBeMade keep members × FieldsValid packed 0 members w
 
     pub UnionValid : Variants → Word → Type 0
     UnionValid no_variants w = ⊥
-    UnionValid (variant value members others) w = IsOpen keep members × SomeFieldValid members w
+    UnionValid (variant value members others) w = MayBeMade keep members × SomeFieldValid members w
 
     -- What is left of a word at a place inside its struct: free bytes up to the first field, the field,
     -- and what is left behind it; behind the last field, free bytes.

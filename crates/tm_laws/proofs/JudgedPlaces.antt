@@ -13,7 +13,7 @@ use Rattle.tm_base.specs.declared.ground.Wrapper.{Wrapper}
 use Rattle.tm_base.specs.declared.ground.Wrapper.TheVariants as wrapper
 use Rattle.tm_base.specs.Expanded.{Expanded, Fields, Variants, too_deep, prim, never, unit, tuple, array, nonzero, phantom, wrap, ref, named, no_fields, field, no_variants, variant, elements, fields_of, variants_of, defined, row_of, wrapped, level}
 use Rattle.tm_base.specs.Parts.{some_part, some_field, some_variant, some_within, is_too_deep, is_whole}
-use Rattle.tm_base.specs.Reaches.{LeadsIn, argument_of, row_parts, parts_within, parts_of, pointees_of, IsJudged}
+use Rattle.tm_base.specs.Reaches.{ChainIn, argument_of, row_parts, parts_within, parts_of, pointees_of, IsJudged}
 use Rattle.tm_base.specs.Tables.{Tables, expanded_in}
 use Rattle.tm_base.specs.Whole.{is_type_over}
 use Rattle.tm_base.specs.Worlds.{IsTypeOver}
@@ -131,7 +131,7 @@ module _ (tables : Tables) where
 
   -- the parts of a judged type are judged
   parts-judged : (g : Ground) → IsJudged tables g → AllJudged (parts_of tables g)
-  unfolding LeadsIn
+  unfolding ChainIn
   parts-judged g judged h at = λ k (n, way).
       let step = Contains-from_IsIn (parts_of tables g ++ pointees_of tables g) h (IsIn-left (parts_of tables g) (pointees_of tables g) h at) in
       judged k (suc n, (h, step, way))
@@ -143,7 +143,7 @@ module _ (tables : Tables) where
       subst (PartsPass IsOfJudged) same (level-judged (out-Ground g) (parts-judged g judged) (subst IsDeepEnough (sym same) deep))
 
   judged-faultless : (t : Expanded) → IsOfJudged t → HasNoFault t
-  unfolding LeadsIn
+  unfolding ChainIn
   judged-faultless t (g, judged, deep, e) = subst HasNoFault e (judged g (0, refl))
 
   -- a judged type over the tables, and all that it holds by value, have no fault

@@ -4,7 +4,7 @@ use Rattle.tm_base.specs.declared.definition.Kind.TheVariants.{Struct}
 use Rattle.tm_base.specs.declared.ground.Ground.{Ground, out-Ground, Prim, Named}
 use Rattle.tm_base.specs.declared.ground.Primitive.TheVariants as p
 use Rattle.tm_base.specs.Expanded.{expanded_within}
-use Rattle.tm_base.specs.Faults.{fault_of, part_at_fault, is_nullable}
+use Rattle.tm_base.specs.Faults.{fault_of, is_nullable}
 use Rattle.tm_base.specs.Layout.{layout_of}
 use Rattle.tm_base.specs.Parts.{some_part}
 use Rattle.tm_base.specs.Reaches.{Enters, IsJudged}
@@ -46,7 +46,7 @@ known-closed g h (inr (inl e)) step = absurd (Contains-none h (subst (λ (x : Gr
 known-closed g h (inr (inr e)) step = absurd (Contains-none h (subst (λ (x : Ground). Enters one_struct x h) e step))
 
 known-sound : (g : Ground) → IsKnown g → fault_of (expanded_in one_struct g) ≡ None
-unfolding expanded_within out-Ground denote.Hole.Carrier.out fault_of part_at_fault is_nullable some_part weight_of layout_of
+unfolding expanded_within out-Ground denote.Hole.Carrier.out fault_of some_part is_nullable weight_of layout_of
 known-sound g (inl e) = rw e refl
 known-sound g (inr (inl e)) = rw e refl
 known-sound g (inr (inr e)) = rw e refl

@@ -10,7 +10,7 @@ use Rattle.tm_base.specs.declared.definition.Kind.TheVariants.{Struct, Union, En
 use Rattle.tm_base.specs.declared.definition.Repr.{Repr}
 use Rattle.tm_base.specs.declared.ground.NamedId.{NamedId}
 use Rattle.tm_base.specs.Expanded.{Expanded, Fields, Variants, too_deep, prim, never, unit, tuple, array, nonzero, phantom, wrap, ref, named, no_fields, field, no_variants, variant}
-use Rattle.tm_base.specs.Faults.{fault_of, fault_over, own_fault, layout_fault, at_fault_over, part_at_fault, field_at_fault, variant_at_fault, has_two_sized, or_else, when}
+use Rattle.tm_base.specs.Faults.{fault_of, fault_over, own_fault, layout_fault, at_fault_over, field_at_fault, variant_at_fault, has_two_sized, or_else, when}
 use Rattle.tm_base.specs.Layout.{Layout, places, size_of, tag_layout, layout_of, field_layouts, variant_layouts}
 use Rattle.tm_base.specs.Places.{at_front, places_of, variant_places}
 use Rattle.tm_base.specs.Valid.{fields_place}
@@ -84,10 +84,10 @@ first_cause false why other h = refl
 first_cause true why other h = absurd cc
 
 -- a type without a fault, none of whose parts is at fault, isn't a transparent struct of two fields with bytes
-one_sized-field : (t : Expanded) → HasNoFault t → part_at_fault t ≡ false → has_two_sized t ≡ false
+one_sized-field : (t : Expanded) → HasNoFault t → some_part has_cause t ≡ false → has_two_sized t ≡ false
 unfolding fault_of
 one_sized-field t h parts =
-    let whole : or_else (own_fault t) (if part_at_fault t then None else layout_fault t) ≡ None = h in
+    let whole : or_else (own_fault t) (if some_part has_cause t then None else layout_fault t) ≡ None = h in
     let here : or_else (own_fault t) (layout_fault t) ≡ None = subst (λ (b : Bool). or_else (own_fault t) (if b then None else layout_fault t) ≡ None) parts whole in
     first_cause (has_two_sized t) TransparentFields _ (or_else-second (own_fault t) (layout_fault t) here)
 
@@ -96,14 +96,14 @@ none_fault None b h e = e
 none_fault (Some why) b h e = absurd cc
 
 -- a type without a fault whose parts have none isn't at fault
-not_at_fault : (t : Expanded) → HasNoFault t → part_at_fault t ≡ false → at_fault_over (part_at_fault t) t ≡ false
+not_at_fault : (t : Expanded) → HasNoFault t → some_part has_cause t ≡ false → at_fault_over (some_part has_cause t) t ≡ false
 unfolding fault_of
-not_at_fault t h parts = none_fault (fault_over (part_at_fault t) t) (part_at_fault t) h parts
+not_at_fault t h parts = none_fault (fault_over (some_part has_cause t) t) (some_part has_cause t) h parts
 
 mutual
-  unfolding EachPart part_at_fault
+  unfolding EachPart some_part
 
-  parts-sound : (t : Expanded) → EachPart HasNoFault t → part_at_fault t ≡ false
+  parts-sound : (t : Expanded) → EachPart HasNoFault t → some_part has_cause t ≡ false
   parts-sound too_deep h = refl
   parts-sound (prim p) h = refl
   parts-sound never h = refl
@@ -119,7 +119,7 @@ mutual
   fields-sound : (members : Fields) → EachField HasNoFault members → field_at_fault members ≡ false
   fields-sound no_fields h = refl
   fields-sound (field public t rest) (none, parts, others) =
-      or_from (at_fault_over (part_at_fault t) t) (field_at_fault rest) (not_at_fault t none (parts-sound t parts)) (fields-sound rest others)
+      or_from (at_fault_over (some_part has_cause t) t) (field_at_fault rest) (not_at_fault t none (parts-sound t parts)) (fields-sound rest others)
 
   variants-sound : (vs : Variants) → EachVariant HasNoFault vs → variant_at_fault vs ≡ false
   variants-sound no_variants h = refl

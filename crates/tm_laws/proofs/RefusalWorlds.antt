@@ -24,7 +24,7 @@ use Rattle.tm_base.specs.Reaches.{Enters, Reaches, argument_of, row_parts, row_p
 use Rattle.tm_base.specs.Tables.{expanded_in, pointee_in}
 use Rattle.tm_base.specs.Transmutes.{Same, IsSourceWord}
 use Rattle.tm_base.specs.Worlds.{tables_of, IsTypeOver}
-use Rattle.tm_base.proofs.JudgedLemmas.{LeadsIn-keeps}
+use Rattle.tm_base.proofs.JudgedLemmas.{ChainIn-keeps}
 use Rattle.tm_laws.proofs.CompatibleKnownLemmas.{Compatible-rows}
 use Rattle.tm_laws.proofs.RefusalFormed.{formed, PartsFormed, formed-level, IsFormed, row-formed, pointee-formed, over-formed, All-from_list_all}
 use Rattle.tm_laws.proofs.RefusalSwaps.{IsClosed, IsOfSources}
@@ -161,7 +161,7 @@ module _ (world : World) where
 
   -- the references of each type that a type over the world reaches are the world's
   pub reached-known : (g h : Ground) → IsTypeOver (tables_of world) g → Reaches (tables_of world) g h → HasKnownLeaves (expanded_in (tables_of world) h)
-  reached-known g h over (n, way) = formed-known h (LeadsIn-keeps (Enters (tables_of world)) (IsFormed world) enters-formed n g h (over-formed world g over) way)
+  reached-known g h over (n, way) = formed-known h (ChainIn-keeps (Enters (tables_of world)) (IsFormed world) enters-formed n g h (over-formed world g over) way)
 
   pub compatible-of_sources : (assume : Assume) → IsOfSources (Compatible (tables_of world) assume)
   compatible-of_sources assume x t h =

@@ -10,7 +10,7 @@ use Rattle.tm_base.specs.declared.ground.Primitive.{Primitive}
 use Rattle.tm_base.specs.declared.ground.Primitive.TheVariants as P
 use Rattle.tm_base.specs.declared.ground.Wrapper.{Wrapper}
 use Rattle.tm_base.specs.Expanded.{Expanded, Fields, prim, never, unit, tuple, array, nonzero, phantom, wrap, ref}
-use Rattle.tm_base.specs.Faults.{fault_of, is_nullable, own_fault, layout_fault, part_at_fault, or_else, when, has_align, has_two_sized, is_packed}
+use Rattle.tm_base.specs.Faults.{fault_of, is_nullable, own_fault, layout_fault, or_else, when, has_align, has_two_sized, is_packed}
 use Rattle.tm_base.specs.Layout.{layout_of, prim_size, size_of}
 use Rattle.tm_base.specs.Parts.{some_part, some_field, some_within, has_interior, is_option, is_cell, is_cell_wrapper}
 use Rattle.tm_base.specs.Weight.{weight_of, weight_limit, wrapper_weight}
@@ -50,7 +50,7 @@ not_too_large w h = ap (λ b. when b TooLarge) (sym (past w h)) where
   past w h = grind (arith, nat_tests)
 
 pub primitive-facts : (p : Primitive) (n : ℕ) → n ≡ prim_size p → IsFactsOf (prim p) (whole_facts false n n n)
-unfolding fault_of part_at_fault refusal_of is_nullable some_part layout_of weight_of
+unfolding fault_of some_part refusal_of is_nullable layout_of weight_of
 primitive-facts p n e =
     let small : prim_size p ≤ 16 = prim_size-small p in
     let none : None ≡ weight_fault (prim_size p) = not_too_large (prim_size p) (omega arith) in record {
@@ -63,7 +63,7 @@ primitive-facts p n e =
     }
 
 pub nonzero-facts : (p : Primitive) (n : ℕ) → n ≡ prim_size p → IsFactsOf (nonzero p) (whole_facts true n n n)
-unfolding fault_of part_at_fault refusal_of is_nullable some_part layout_of weight_of
+unfolding fault_of some_part refusal_of is_nullable layout_of weight_of
 nonzero-facts p n e =
     let small : prim_size p ≤ 16 = prim_size-small p in
     let none : None ≡ weight_fault (prim_size p) = not_too_large (prim_size p) (omega arith) in record {
@@ -76,7 +76,7 @@ nonzero-facts p n e =
     }
 
 pub never-facts : IsFactsOf never (whole_facts false 0 1 1)
-unfolding fault_of part_at_fault refusal_of is_nullable some_part layout_of weight_of
+unfolding fault_of some_part refusal_of is_nullable layout_of weight_of
 never-facts = record {
   fault = refl;
   refusal = refl;
@@ -87,7 +87,7 @@ never-facts = record {
 }
 
 pub unit-facts : IsFactsOf unit (whole_facts false 0 1 1)
-unfolding fault_of part_at_fault refusal_of is_nullable some_part layout_of weight_of
+unfolding fault_of some_part refusal_of is_nullable layout_of weight_of
 unit-facts = record {
   fault = refl;
   refusal = refl;
@@ -98,7 +98,7 @@ unit-facts = record {
 }
 
 pub phantom-facts : IsFactsOf phantom (whole_facts false 0 1 1)
-unfolding fault_of part_at_fault refusal_of is_nullable some_part layout_of weight_of
+unfolding fault_of some_part refusal_of is_nullable layout_of weight_of
 phantom-facts = record {
   fault = refl;
   refusal = refl;
@@ -109,7 +109,7 @@ phantom-facts = record {
 }
 
 pub ref-facts : (r : RefId) → IsFactsOf (ref r) (whole_facts true 8 8 8)
-unfolding fault_of part_at_fault refusal_of is_nullable some_part layout_of weight_of
+unfolding fault_of some_part refusal_of is_nullable layout_of weight_of
 ref-facts r = record {
   fault = refl;
   refusal = refl;
@@ -123,7 +123,7 @@ ref-facts r = record {
 
 pub tuple-facts : (members : Fields) (aligned interior : Bool) → aligned ≡ some_field has_align members → interior ≡ some_field is_cell members
     → IsFactsOf (tuple members) (record (whole_facts false 0 1 1) { fault = Some Tuple; refusal = Some Tuple; aligned = aligned; interior = interior })
-unfolding fault_of part_at_fault refusal_of is_nullable some_part layout_of weight_of
+unfolding fault_of some_part refusal_of is_nullable layout_of weight_of
 tuple-facts members aligned interior a i = record {
   fault = refl;
   refusal = refl;
@@ -136,7 +136,7 @@ tuple-facts members aligned interior a i = record {
 -- ---- what holds of all types with parts
 
 -- a type's first fault, where it's known for which cause its parts have no layout
-pub fault-from : (t : Expanded) (below given : Option Why) → part_at_fault t ≡ is_some below → (below ≡ None → given ≡ layout_fault t) → first_fault (own_fault t) below given ≡ fault_of t
+pub fault-from : (t : Expanded) (below given : Option Why) → some_part has_cause t ≡ is_some below → (below ≡ None → given ≡ layout_fault t) → first_fault (own_fault t) below given ≡ fault_of t
 unfolding fault_of
 fault-from t None given p g = rw (p, g refl) refl
 fault-from t (Some why) given p g = rw p refl
@@ -146,7 +146,7 @@ light w true e h = cc
 light w false e h = grind (arith, nat_tests)
 
 -- a type for which there is no cause isn't too heavy
-pub light-from : (t : Expanded) → part_at_fault t ≡ false → fault_of t ≡ None → weight_of t ≤ weight_limit
+pub light-from : (t : Expanded) → some_part has_cause t ≡ false → fault_of t ≡ None → weight_of t ≤ weight_limit
 unfolding fault_of
 light-from t p e =
     let f = subst (λ b. or_else (own_fault t) (if b then None else layout_fault t) ≡ None) p e in
@@ -161,7 +161,7 @@ capped-past w = ap (λ b. when b TooLarge) (past w) where
   past w = grind (arith, nat_tests)
 
 -- all facts of a type, where it's known for which cause its parts have no layout
-pub composed-facts : (t : Expanded) (r : Facts) (below given : Option Why) → part_at_fault t ≡ is_some below → refusal_of t ≡ or_else (fault_of t) below
+pub composed-facts : (t : Expanded) (r : Facts) (below given : Option Why) → some_part has_cause t ≡ is_some below → refusal_of t ≡ or_else (fault_of t) below
     → (below ≡ None → given ≡ layout_fault t) → r.fault ≡ first_fault (own_fault t) below given → r.refusal ≡ option_or r.fault below
     → r.nullable ≡ is_nullable t → r.aligned ≡ some_within has_align t → r.interior ≡ has_interior t
     → (below ≡ None → fault_of t ≡ None → weight_of t ≤ weight_limit → HasLayout t r) → IsFactsOf t r
@@ -188,7 +188,7 @@ array-past x w e = ap (λ b. when b TooLarge) (past x w e) where
 
 pub array-facts : (t : Expanded) (n : ℕ) (e r : Facts) → IsFactsOf t e → r.fault ≡ first_fault None e.refusal (weight_fault r.weight) → r.refusal ≡ option_or r.fault e.refusal
     → r.nullable ≡ false → r.aligned ≡ e.aligned → r.interior ≡ e.interior → r.size ≡ capped (n * e.size) → r.align ≡ e.align → r.weight ≡ max (capped (n * e.weight)) 1 → IsFactsOf (array t n) r
-unfolding part_at_fault refusal_of is_nullable some_part layout_of weight_of
+unfolding some_part refusal_of is_nullable layout_of weight_of
 array-facts t n e r known f q nullable aligned interior size align weight =
     composed-facts (array t n) r e.refusal (weight_fault r.weight)
     (at_fault-refused t ∙ ap is_some (sym known.refusal))
@@ -223,7 +223,7 @@ wrapper_weight-is w n m e = ap (wrapper_weight w) e
 
 pub wrapped-facts : (w : Wrapper) (t : Expanded) (e r : Facts) → IsFactsOf t e → r.fault ≡ first_fault (when (is_option w && not e.nullable) OptionNotListed) e.refusal (weight_fault r.weight) → r.refusal ≡ option_or r.fault e.refusal
     → r.nullable ≡ false → r.aligned ≡ e.aligned → r.interior ≡ (is_cell_wrapper w || e.interior) → r.size ≡ e.size → r.align ≡ e.align → r.weight ≡ capped (e.weight + wrapper_weight w e.size) → IsFactsOf (wrap w t) r
-unfolding part_at_fault refusal_of is_nullable some_part layout_of weight_of
+unfolding some_part refusal_of is_nullable layout_of weight_of
 wrapped-facts w t e r known f q nullable aligned interior size align weight =
     composed-facts (wrap w t) r e.refusal (weight_fault r.weight)
     (at_fault-refused t ∙ ap is_some (sym known.refusal))

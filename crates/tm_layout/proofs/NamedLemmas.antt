@@ -9,7 +9,7 @@ use Rattle.tm_base.specs.declared.definition.Repr.{Repr}
 use Rattle.tm_base.specs.declared.definition.Variant.{Variant}
 use Rattle.tm_base.specs.declared.ground.NamedId.{NamedId}
 use Rattle.tm_base.specs.Expanded.{Variants, named, no_variants, variant}
-use Rattle.tm_base.specs.Faults.{fault_of, own_fault, layout_fault, part_at_fault, has_two_sized, lacks_repr, lacks_range, has_align, when, or_else}
+use Rattle.tm_base.specs.Faults.{fault_of, own_fault, layout_fault, has_two_sized, lacks_repr, lacks_range, has_align, when, or_else}
 use Rattle.tm_base.specs.Layout.{layout_of, size_of, align_of, named_layout, variant_layouts}
 use Rattle.tm_base.specs.Parts.{some_part, some_variant}
 use Rattle.tm_base.specs.Places.{named_places}
@@ -54,7 +54,7 @@ module _ (id : NamedId) (kind : Kind) (repr : Repr) (vs : List Variant) (cases :
   own-same h = ap (λ b. or_else (when (lacks_repr kind repr) NoRepr) (when b CEnumRange)) (range-same kind repr vs cases h)
 
   below-same : AreVariantFacts cases facts → part_at_fault (named id kind repr cases) ≡ is_some (variants_together facts).refusal
-  unfolding part_at_fault
+  unfolding some_part
   below-same k = variant_at_fault-faulty cases ∙ sym (variants-refused cases) ∙ ap is_some (sym (variants-known cases facts k).refusal)
 
   refusal-same : AreVariantFacts cases facts → refusal_of (named id kind repr cases) ≡ or_else (fault_of (named id kind repr cases)) (variants_together facts).refusal
@@ -119,11 +119,11 @@ module _ (id : NamedId) (kind : Kind) (repr : Repr) (vs : List Variant) (cases :
 -- a type that has a layout has no more bytes than may be
 pub size-light : (id : NamedId) (kind : Kind) (repr : Repr) (vs : List Variant) (cases : Variants) → InForm kind repr vs → AreVariantsFor vs cases → refusal_of (named id kind repr cases) ≡ None
     → (named_layout kind repr (variant_layouts cases)).size ≤ weight_limit
-unfolding refusal_of part_at_fault layout_of
+unfolding refusal_of some_part layout_of
 size-light id kind repr vs cases form h none =
     let t = named id kind repr cases in
     let sound : fault_of t ≡ None = none-first (fault_of t) (variant_refusal cases) none in
-    let below : part_at_fault t ≡ false = variant_at_fault-faulty cases ∙ sym (variants-refused cases) ∙ ap is_some (none-second (fault_of t) (variant_refusal cases) none) in
+    let below : some_part has_cause t ≡ false = variant_at_fault-faulty cases ∙ sym (variants-refused cases) ∙ ap is_some (none-second (fault_of t) (variant_refusal cases) none) in
     let small : weight_of t ≤ weight_limit = light-from t below sound in
     let heavy : size_of t ≤ weight_of t = heavier id kind repr vs cases form h (sound-has id kind repr cases sound) in
     omega arith

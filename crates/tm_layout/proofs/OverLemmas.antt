@@ -17,7 +17,7 @@ use Rattle.tm_base.specs.Whole.{written_types, is_head_in_form, is_type_over, is
 use Rattle.tm_base.specs.Worlds.{tables_of, IsTypeOver}
 use Rattle.tm_base.proofs.ExpandedLemmas.{expanded-level}
 use Rattle.tm_base.proofs.GroundLemmas.{written_types-Tuple, written_types-Array, written_types-Wrap}
-use Rattle.tm_base.proofs.JudgedLemmas.{LeadsIn-keeps, Contains-none, Contains-one}
+use Rattle.tm_base.proofs.JudgedLemmas.{ChainIn-keeps, Contains-none, Contains-one}
 use Rattle.tm_base.proofs.WorldLemmas.{list_all-at}
 
 both_pass : (a b : Bool) → (a && b) ≡ true → (a ≡ true) × (b ≡ true)
@@ -237,4 +237,4 @@ module _ (world : World) where
   -- what is reached is over the world
   pub reached-over : (g h : Ground) → IsTypeOver (tables_of world) g → Reaches (tables_of world) g h → IsTypeOver (tables_of world) h
   reached-over g h o (n, way) =
-      LeadsIn-keeps (Enters (tables_of world)) (λ k. over k ≡ true) (λ a b p step. step-over a b (out-Ground a) refl p step) n g h o way
+      ChainIn-keeps (Enters (tables_of world)) (λ k. over k ≡ true) (λ a b p step. step-over a b (out-Ground a) refl p step) n g h o way

@@ -3,7 +3,7 @@ use Rattle.std.proofs.Common.{◌≡◌, refl, sym, ap, ◌∙◌, Bool, true, f
 use Rattle.std.specs.Option.{is_some, option_or}
 use Rattle.tm_base.specs.declared.answer.Why.{Why}
 use Rattle.tm_base.specs.Expanded.{Expanded, Fields, Variants, too_deep, prim, never, unit, tuple, array, nonzero, phantom, wrap, ref, named, no_fields, field, no_variants, variant}
-use Rattle.tm_base.specs.Faults.{fault_of, fault_over, part_at_fault, field_at_fault, variant_at_fault, at_fault_over, or_else}
+use Rattle.tm_base.specs.Faults.{fault_of, fault_over, field_at_fault, variant_at_fault, at_fault_over, or_else}
 use Rattle.tm_base.specs.Parts.{some_part, some_field, some_variant}
 use Rattle.tm_layout.specs.declared.facts.Facts.{Facts}
 use Rattle.tm_layout.specs.Known.{IsFactsOf}
@@ -28,18 +28,18 @@ none-second (Some why) b e = cc
 
 -- a part is or holds a type at fault, where one of the types that are held at any depth is at fault
 mutual
-  unfolding part_at_fault some_part fault_of
+  unfolding some_part fault_of
 
-  pub part_at_fault-faulty : (t : Expanded) → part_at_fault t ≡ some_part is_faulty t
+  pub part_at_fault-faulty : (t : Expanded) → some_part has_cause t ≡ some_part is_faulty t
   part_at_fault-faulty too_deep = refl
   part_at_fault-faulty (prim p) = refl
   part_at_fault-faulty never = refl
   part_at_fault-faulty unit = refl
   part_at_fault-faulty (tuple members) = field_at_fault-faulty members
-  part_at_fault-faulty (array t n) = ap (λ b. is_some (fault_over (part_at_fault t) t) || b) (part_at_fault-faulty t)
+  part_at_fault-faulty (array t n) = ap (λ b. is_some (fault_over (some_part has_cause t) t) || b) (part_at_fault-faulty t)
   part_at_fault-faulty (nonzero p) = refl
   part_at_fault-faulty phantom = refl
-  part_at_fault-faulty (wrap w t) = ap (λ b. is_some (fault_over (part_at_fault t) t) || b) (part_at_fault-faulty t)
+  part_at_fault-faulty (wrap w t) = ap (λ b. is_some (fault_over (some_part has_cause t) t) || b) (part_at_fault-faulty t)
   part_at_fault-faulty (ref r) = refl
   part_at_fault-faulty (named id kind repr variants) = variant_at_fault-faulty variants
 
@@ -48,7 +48,7 @@ mutual
   field_at_fault-faulty (field public t rest) =
       let a = part_at_fault-faulty t in
       let b = field_at_fault-faulty rest in
-      ap (λ b. (is_some (fault_over (part_at_fault t) t) || b) || field_at_fault rest) a ∙ ap (λ b. (is_some (fault_over (part_at_fault t) t) || some_part is_faulty t) || b) b
+      ap (λ b. (is_some (fault_over (some_part has_cause t) t) || b) || field_at_fault rest) a ∙ ap (λ b. (is_some (fault_over (some_part has_cause t) t) || some_part is_faulty t) || b) b
 
   pub variant_at_fault-faulty : (variants : Variants) → variant_at_fault variants ≡ some_variant is_faulty variants
   variant_at_fault-faulty no_variants = refl
@@ -94,9 +94,9 @@ mutual
       cc
 
 -- what is asked of a part: it is or holds a type at fault
-pub at_fault-refused : (t : Expanded) → at_fault_over (part_at_fault t) t ≡ is_some (refusal_of t)
+pub at_fault-refused : (t : Expanded) → at_fault_over (some_part has_cause t) t ≡ is_some (refusal_of t)
 unfolding fault_of
-at_fault-refused t = ap (λ b. is_some (fault_over (part_at_fault t) t) || b) (part_at_fault-faulty t) ∙ sym (refused-exactly t)
+at_fault-refused t = ap (λ b. is_some (fault_over (some_part has_cause t) t) || b) (part_at_fault-faulty t) ∙ sym (refused-exactly t)
 
 -- a type for which there is no cause isn't at fault
 pub sound-fault : (t : Expanded) → refusal_of t ≡ None → fault_of t ≡ None
