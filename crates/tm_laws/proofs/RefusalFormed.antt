@@ -82,12 +82,12 @@ module _ (world : World) where
   is_formed = formed (length world.named) (length world.refs)
 
   abbrev passes : Ground → Bool
-  passes = is_type_in_form world.defs world.named world.refs
+  passes = is_type_in_form world.profile world.defs world.named world.refs
 
   passes_formed : (g : Ground) → passes g ≡ true → is_head_in_form (length world.named) (length world.refs) (out-Ground g) ≡ true
   passes_formed g h =
-      (and_parts (is_head_in_form (length world.named) (length world.refs) (out-Ground g)) (is_whole (expanded world.defs world.named g))
-      (and_parts (is_head_in_form (length world.named) (length world.refs) (out-Ground g) && is_whole (expanded world.defs world.named g)) (ends (spelled world.refs g)) h).0).0
+      (and_parts (is_head_in_form (length world.named) (length world.refs) (out-Ground g)) (is_whole (expanded world.profile world.defs world.named g))
+      (and_parts (is_head_in_form (length world.named) (length world.refs) (out-Ground g) && is_whole (expanded world.profile world.defs world.named g)) (ends (spelled world.refs g)) h).0).0
 
   written_formed : (gs : List Ground) → list_all passes (flat_map written_types gs) ≡ true → list_all is_formed gs ≡ true
   written_formed gs h =
@@ -138,4 +138,4 @@ module _ (world : World) where
   -- a type over the world is
   pub over-formed : (g : Ground) → IsTypeOver (tables_of world) g → IsFormed g
   unfolding is_type_over
-  over-formed g h = (and_parts (is_formed g) (is_whole (expanded world.defs world.named g)) h).0
+  over-formed g h = (and_parts (is_formed g) (is_whole (expanded world.profile world.defs world.named g)) h).0
