@@ -33,12 +33,14 @@ unfoldable mutual
   row_types end_of-Ground = []
   row_types (more_of-Ground g gs) = written_types g ++ row_types gs
 
--- all types of a world: its named types, and what is written as a field, a pointee and in a question
+-- All types of a world: its named types, and what is written as an argument, a field and a pointee and in
+-- a question.
 abbrev pub all_types : List NamedRow → List RefRow → List Ask → List Ground
 all_types named refs questions =
     map (λ k. Named (record { 0 = k })) (range_with_len 0 (length named))
     ++ flat_map written_types (
-    flat_map (λ row. flat_map (λ types. types) row.types) named
+    flat_map (λ row. row.args) named
+    ++ flat_map (λ row. flat_map (λ types. types) row.types) named
     ++ map (λ row. row.pointee) refs
     ++ flat_map (λ ask. ask.src ∷ ask.dst ∷ []) questions)
 
@@ -60,7 +62,7 @@ is_type_over profile defs named refs g =
 -- doesn't come back to itself. That no part is deeper than the limit says that none holds itself.
 abbrev pub is_type_in_form : Profile → List Def → List NamedRow → List RefRow → Ground → Bool
 is_type_in_form profile defs named refs g =
-    is_head_in_form (length named) (length refs) (out-Ground g) && is_whole (expanded profile defs named g) && ends (spelled refs g)
+    is_head_in_form (length named) (length refs) (out-Ground g) && is_whole (expanded profile defs named g) && ends (spelled named refs g)
 
 -- each type of a world
 unfoldable pub are_types_in_form : Profile → List Def → List NamedRow → List RefRow → List Ask → Bool

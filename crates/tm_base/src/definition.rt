@@ -65,6 +65,7 @@ pub struct Def {
 pub struct NamedRow {
     pub def: DefId,
     pub regions: List<RegionId>,
+    pub args: List<Ground>,
     pub types: List<List<Ground>>,
 }
 
