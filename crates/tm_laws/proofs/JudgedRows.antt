@@ -26,7 +26,7 @@ one_struct = record {
   defs = record { name = 83 ∷ []; kind = Struct; repr = repr_c; variants = record { name = []; value = pos 0; fields = record { name = 97 ∷ []; public = true } ∷ record { name = 98 ∷ []; public = true } ∷ [] } ∷ [] } ∷ [];
   regions = [];
   bounds = [];
-  named = record { def = record { 0 = 0 }; regions = []; types = (Prim p.U8 ∷ Prim p.U16 ∷ []) ∷ [] } ∷ [];
+  named = record { def = record { 0 = 0 }; regions = []; args = []; types = (Prim p.U8 ∷ Prim p.U16 ∷ []) ∷ [] } ∷ [];
   refs = [];
 }
 
