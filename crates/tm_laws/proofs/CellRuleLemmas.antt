@@ -54,8 +54,8 @@ module _ (world : World) (ask : Ask) (src_over : IsTypeOver (tables_of world) as
   CellFound before c = (rule : Rule) × (fault : Option RefFault) × IsCellRule (tables_of world) ask before c rule fault × IsLeastFault (tables_of world) ask before fault
 
   byte_rule : (before : Word) (b : ℕ) → Dec (SomeByteGoesOn (tables_of world) ask before) → CellFound before (Some (Byte b))
-  byte_rule before b (yes goes) = (ByteValue, None, (inl (refl, goes), refl), tt)
-  byte_rule before b (no stuck) = (BytesForReference, None, (inr (refl, stuck), refl), tt)
+  byte_rule before b (yes goes) = (ByteValue, None, inl (refl, goes, refl), tt)
+  byte_rule before b (no stuck) = (BytesForReference, None, inr (refl, stuck, refl), tt)
 
   ref_found : (w : Word) (o : ℕ) (r : RefId) (k : ℕ) → IsValue (tables_of world) ask w → IsRefusedAt (tables_of world) ask w o
       → slice_get (fit w (size_of t)) o ≡ Some (Ptr r k) → k ≡ 0 → (u : ℕ) → IsOpen (tables_of world) ask (take o (fit w (size_of t))) u
