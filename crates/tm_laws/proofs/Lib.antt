@@ -20,6 +20,7 @@ pub mod RefusalFormed
 pub mod RefusalWorlds
 pub mod LeastLemmas
 pub mod ViableKnownLemmas
+pub mod RefusedLemmas
 pub mod FaultyLemmas
 pub mod RefRuleLemmas
 pub mod CellRuleLemmas

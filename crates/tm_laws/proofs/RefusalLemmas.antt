@@ -17,8 +17,9 @@ use Rattle.tm_base.specs.Transmutes.{Same}
 use Rattle.tm_base.specs.Valid.{Valid}
 use Rattle.tm_base.specs.Viable.{HasWord, Viable, RefusesAt, StandsOpen}
 use Rattle.tm_base.proofs.ValidLemmas.{Valid-length}
+use Rattle.tm_laws.specs.WordLaws.{IsClosed, IsOfSources}
 use Rattle.tm_laws.proofs.RefusalMoves.{All-second, All-middle}
-use Rattle.tm_laws.proofs.RefusalSwaps.{IsClosed, IsOfSources, own-isn't-needed, swap, swapped}
+use Rattle.tm_laws.proofs.RefusalSwaps.{own-isn't-needed, swap, swapped}
 use Rattle.tm_laws.proofs.WholeLeaves.{Leaf, leaves}
 use Rattle.tm_laws.proofs.WholeTypes.{IsFor}
 use Rattle.tm_laws.proofs.WholeWords.{IsCellOf, IsHeldBy, pointers-related, StandsWhole, append-split, whole-references}

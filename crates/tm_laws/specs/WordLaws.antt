@@ -1,0 +1,31 @@
+-- Where a target refuses a word.
+use Rattle.std.specs.Prelude.{◌≡◌, ℕ, ◌^◌, ◌<◌, ◌↔◌, Bool}
+use Rattle.std.specs.List.{All}
+use Rattle.tm_base.specs.declared.cell.Cell.{Cell}
+use Rattle.tm_base.specs.declared.cell.Cell.TheVariants.{Byte, Uninit, Ptr}
+use Rattle.tm_base.specs.Cells.{Word}
+use Rattle.tm_base.specs.Expanded.{Expanded}
+use Rattle.tm_base.specs.Layout.{size_of}
+use Rattle.tm_base.specs.Transmutes.{Fits, holds}
+use Rattle.tm_base.specs.Viable.{HasWord, RefusesAt}
+
+-- The cell is no byte of a reference that stands open: those of a source have numbers below 2 ^ 32.
+abbrev pub IsClosed : Cell → Type 0
+IsClosed (Byte b) = Unit {0}
+IsClosed Uninit = Unit {0}
+IsClosed (Ptr r k) = r.0 < 2 ^ 32
+
+-- a relation of references of a source
+abbrev pub IsOfSources : (ℕ → ℕ → Type 0) → Type 0
+IsOfSources A = (x t : ℕ) → A x t → x < 2 ^ 32
+
+-- a target refuses a word at one offset at most
+abbrev pub RefusedAtOneOffset : Type 0
+RefusedAtOneOffset =
+    (A : ℕ → ℕ → Bool) (keep : Bool) (t : Expanded) (w : Word) (o p : ℕ) → RefusesAt (holds A) keep t w o → RefusesAt (holds A) keep t w p → o ≡ p
+
+-- a target that has a word refuses a word of a source, inside of its own size, exactly where that doesn't fit
+abbrev pub RefusedWhereUnfit : Type 0
+RefusedWhereUnfit =
+    (A : ℕ → ℕ → Bool) (keep : Bool) (t : Expanded) (w : Word) → IsOfSources (holds A) → All IsClosed w → HasWord (holds A) keep t
+    → (¬ Fits (holds A) keep t w) ↔ ((o : ℕ) × (o < size_of t) × RefusesAt (holds A) keep t w o)
