@@ -13,6 +13,7 @@ pub mod CompatibleKnownLemmas
 pub mod WholeLeaves
 pub mod WholeTypes
 pub mod WholeWords
+pub mod WholeRuns
 pub mod RefusalMoves
 pub mod RefusalSwaps
 pub mod RefusalLemmas

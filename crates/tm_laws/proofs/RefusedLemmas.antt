@@ -1,17 +1,16 @@
 -- A target refuses a word at one offset at most, and at one where the word doesn't fit.
-use Rattle.std.proofs.Common.{◌≡◌, ℕ, ◌+◌, ◌^◌, ◌<◌, ◌≤◌, ◌⊎◌, ◌↔◌, inl, inr, sym, ◌∙◌, ap, subst, Bool, true, ◌++◌, take, drop, arith, append_assoc}
+use Rattle.std.proofs.Common.{◌≡◌, ℕ, ◌+◌, ◌^◌, ◌<◌, ◌≤◌, ◌⊎◌, ◌↔◌, inl, inr, sym, subst, Bool, ◌++◌, take, drop, arith, append_assoc}
 use Rattle.std.specs.List.{All}
 use Rattle.std.proofs.lemmas.Bool.{cases_lt}
 use Rattle.std.proofs.lemmas.List.{take-append-drop, take-take}
 use Rattle.tm_base.specs.Cells.{Word, fit, OrOwn}
 use Rattle.tm_base.specs.Expanded.{Expanded}
 use Rattle.tm_base.specs.Layout.{size_of}
-use Rattle.tm_base.specs.Transmutes.{Fits, holds}
+use Rattle.tm_base.specs.Transmutes.{Fits}
 use Rattle.tm_base.specs.Valid.{Valid}
 use Rattle.tm_base.specs.Viable.{HasWord, Viable, RefusesAt}
 use Rattle.tm_base.proofs.ValidLemmas.{Valid-grows}
 use Rattle.tm_laws.specs.WordLaws.{IsClosed, IsOfSources}
-use Rattle.tm_laws.proofs.DecideLemmas.{Dec-is}
 use Rattle.tm_laws.proofs.RefusalLemmas.{refused-somewhere}
 use Rattle.tm_laws.proofs.ViableKnownLemmas.{Viable-known}
 

@@ -1,12 +1,15 @@
--- Where a target refuses a word.
+-- Where a target refuses a word, and how references stand in the words of a source.
 use Rattle.std.specs.Prelude.{◌≡◌, ℕ, ◌^◌, ◌<◌, ◌↔◌, Bool}
 use Rattle.std.specs.List.{All}
 use Rattle.tm_base.specs.declared.cell.Cell.{Cell}
 use Rattle.tm_base.specs.declared.cell.Cell.TheVariants.{Byte, Uninit, Ptr}
-use Rattle.tm_base.specs.Cells.{Word}
+use Rattle.tm_base.specs.declared.ground.Ground.{Ground}
+use Rattle.tm_base.specs.Cells.{Word, HasWholeReferences}
 use Rattle.tm_base.specs.Expanded.{Expanded}
 use Rattle.tm_base.specs.Layout.{size_of}
-use Rattle.tm_base.specs.Transmutes.{Fits, holds}
+use Rattle.tm_base.specs.Profiles.{pointer_size}
+use Rattle.tm_base.specs.Tables.{Tables, expanded_in}
+use Rattle.tm_base.specs.Transmutes.{IsSourceWord, Fits, holds}
 use Rattle.tm_base.specs.Viable.{HasWord, RefusesAt}
 
 -- The cell is no byte of a reference that stands open: those of a source have numbers below 2 ^ 32.
@@ -29,3 +32,8 @@ abbrev pub RefusedWhereUnfit : Type 0
 RefusedWhereUnfit =
     (A : ℕ → ℕ → Bool) (keep : Bool) (t : Expanded) (w : Word) → IsOfSources (holds A) → All IsClosed w → HasWord (holds A) keep t
     → (¬ Fits (holds A) keep t w) ↔ ((o : ℕ) × (o < size_of t) × RefusesAt (holds A) keep t w o)
+
+-- a word of a source has whole references, of as many cells as the tables' profile gives them
+abbrev pub WordsHaveWholeReferences : Type 0
+WordsHaveWholeReferences =
+    (tables : Tables) (g : Ground) (w : Word) → IsSourceWord (expanded_in tables g) w → HasWholeReferences (pointer_size tables.profile) w
