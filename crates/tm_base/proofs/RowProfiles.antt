@@ -1,14 +1,14 @@
 -- How the profiles differ: the byte order of numbers, and how many bytes `usize` and references have.
-use Rattle.std.proofs.Common.{◌≡◌, refl, true, false, None, Some, [], ◌∷◌, ◌++◌, pos, negsuc, replicate}
-use Rattle.tm_base.specs.declared.cell.Cell.TheVariants.{Byte}
+use Rattle.std.proofs.Common.{◌≡◌, refl, ap, true, false, None, Some, [], ◌∷◌, ◌++◌, length, pos, negsuc, replicate, arith}
+use Rattle.tm_base.specs.declared.cell.Cell.TheVariants.{Byte, Uninit}
 use Rattle.tm_base.specs.declared.definition.Kind.TheVariants.{Enum}
 use Rattle.tm_base.specs.declared.definition.Repr.{Repr}
 use Rattle.tm_base.specs.declared.ground.Primitive.TheVariants as p
 use Rattle.tm_base.specs.declared.profile.Profile.{Profile}
 use Rattle.tm_base.specs.declared.profile.Profile.TheVariants.{Le64, Be64, Le32}
-use Rattle.tm_base.specs.Cells.{Word, pointer_of}
-use Rattle.tm_base.specs.Expanded.{Expanded, prim, nonzero, ref, named, no_fields, field, no_variants, variant}
-use Rattle.tm_base.specs.Layout.{layout_of, size_of, align_of}
+use Rattle.tm_base.specs.Cells.{Word, pointer_of, HasWholeReferences, nothing_left, byte_first, uninit_first, reference_first}
+use Rattle.tm_base.specs.Expanded.{Expanded, prim, ref, named, no_fields, field, no_variants, variant}
+use Rattle.tm_base.specs.Layout.{layout_of}
 use Rattle.tm_base.specs.Orders.{list_less}
 use Rattle.tm_base.specs.Profiles.{number_of}
 use Rattle.tm_base.specs.ValidTest.{valid_test}
@@ -83,6 +83,18 @@ four_bytes-64 = refl
 eight_bytes-64 : is_source_word (reference_for Be64) (pointer_of 8 3) ≡ true
 unfolding valid_test layout_of list_less
 eight_bytes-64 = refl
+
+-- a word with half of a reference has none that are whole
+whole-32 : HasWholeReferences 4 (Uninit ∷ pointer_of 4 3)
+whole-32 = uninit_first _ (pointer_of 4 3) refl (reference_first 3 _ [] refl (nothing_left [] refl))
+
+half-64 : ¬ HasWholeReferences 8 (pointer_of 4 3)
+half-64 (nothing_left _ e) = cc
+half-64 (byte_first b _ rest e h) = cc
+half-64 (uninit_first _ rest e h) = cc
+half-64 (reference_first x _ rest e h) =
+    let long = ap length e in
+    absurd (omega arith)
 
 -- ---- `usize`, and `#[repr(usize)] enum { X = 1, Y(u8) = 2 }`
 
