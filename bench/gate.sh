@@ -21,10 +21,11 @@ kind_of() { # FOLDER WORDS
 }
 
 sample() {
-    local at stat fields folder words key
+    local at program stat fields folder words key
     for at in /proc/[0-9]*; do
-        { read -r stat <"$at/stat"; } 2>/dev/null || continue
-        [[ $stat == *"(rattle)"* ]] || continue
+        # (a copy that a prover makes of itself has another name, and the same words)
+        { IFS= read -r -d '' program <"$at/cmdline" && read -r stat <"$at/stat"; } 2>/dev/null || continue
+        [[ $program == */rattle ]] || continue
         read -ra fields <<<"${stat##*) }"
         key=${at#/proc/}.${fields[19]}
         if [ -z "${owner[$key]:-}" ]; then
@@ -40,19 +41,21 @@ sample() {
 
 table() {
     local key
+    echo "| Crate | Proof | Tests | Edits | All |"
+    echo "|---|---|---|---|---|"
     for key in "${!spent[@]}"; do
         echo "${owner[$key]} ${spent[$key]}"
-    done | awk -v ticks="$ticks" '
+    done | sort | awk -v ticks="$ticks" '
         function row(name, proof, tests, edits) {
             printf "| %s | %.1f | %.1f | %.1f | %.1f |\n", name, proof, tests, edits, proof + tests + edits
         }
-        { minutes = $3 / ticks / 60; of[$1, $2] += minutes; all[$2] += minutes; crates[$1] }
-        END {
-            print "| Crate | Proof | Tests | Edits | All |\n|---|---|---|---|---|"
-            for (one in crates) row("`" one "`", of[one, "proof"], of[one, "tests"], of[one, "edits"]) | "sort"
-            close("sort")
-            row("all", all["proof"], all["tests"], all["edits"])
-        }'
+        function flush_one() {
+            if (one != "") row("`" one "`", of["proof"], of["tests"], of["edits"])
+            of["proof"] = of["tests"] = of["edits"] = 0
+        }
+        $1 != one { flush_one(); one = $1 }
+        { of[$2] += $3 / ticks / 60; all[$2] += $3 / ticks / 60 }
+        END { flush_one(); row("all", all["proof"], all["tests"], all["edits"]) }'
 }
 
 mkdir "$work/tmp"
