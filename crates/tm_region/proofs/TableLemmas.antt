@@ -12,7 +12,7 @@ use Rattle.tm_base.specs.Outlives.{static, IsBound, Outlives}
 use Rattle.tm_base.specs.Reaches.{LeadsIn, Leads}
 use Rattle.tm_base.specs.Whole.{is_bound_known, are_regions_known}
 use Rattle.tm_region.specs.Order.{IsOrderOf}
-use Rattle.tm_region.specs.Table.{has, lone_row, leads_in, outlives_in}
+use Rattle.tm_region.specs.Table.{IsAdded, has, lone_row, leads_in, outlives_in}
 use Rattle.tm_region.proofs.ChainLemmas.{Through, Leads-through, Leads-from_through}
 
 -- the table tells where a chain of the bounds leads from each of its regions
@@ -24,12 +24,8 @@ same_region : (a b : RegionId) → a.0 ≡ b.0 → a ≡ b
 same_region a b e = ap (λ (n : ℕ). let r : RegionId = record { 0 = n } in r) e
 
 module _ (bounds : List Bound) (bound : Bound) (old new : List (List Bool)) where
-  -- what `add` says of the tables
-  abbrev Added : Type 0
-  Added = (a b : ℕ) → has new a b ≡ (has old a b || (has old a bound.longer.0 && has old bound.shorter.0 b))
-
   -- with a bound more
-  pub IsTableOf-add : IsTableOf bounds old → length new ≡ length old → bound.longer.0 < length old → bound.shorter.0 < length old → Added → IsTableOf (bounds ++ bound ∷ []) new
+  pub IsTableOf-add : IsTableOf bounds old → length new ≡ length old → bound.longer.0 < length old → bound.shorter.0 < length old → IsAdded bound old new → IsTableOf (bounds ++ bound ∷ []) new
   IsTableOf-add table long longer shorter added = record {
     sound = λ a b below h. Leads-from_through bounds bound a b (through a b (omega arith) (or_cases _ _ (sym (added a.0 b.0) ∙ h)));
     complete = λ a b below (n, way). added a.0 b.0 ∙ told a b (omega arith) (Leads-through bounds bound n a b way);

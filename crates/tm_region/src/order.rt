@@ -1,10 +1,10 @@
-ghost use Rattle.std.specs.Prelude.{◌≡◌, ℕ, ◌<◌, ◌≤◌, ◌&&◌, ◌||◌, ◌↔◌, IsTrue, IfOk, List, length, map};
+ghost use Rattle.std.specs.Prelude.{◌≡◌, ◌<◌, ◌≤◌, ◌↔◌, IsTrue, IfOk, List, length, map};
 ghost use Rattle.std.specs.List.{list_all, range_with_len};
 ghost use Rattle.tm_base.specs.declared.definition.Bound.{Bound};
 ghost use Rattle.tm_base.specs.Outlives.{Outlives};
 ghost use Rattle.tm_base.specs.Whole.{is_bound_known};
 ghost use Rattle.tm_region.specs.Order.{IsOrderOf};
-ghost use Rattle.tm_region.specs.Table.{has, leads_in, lone_row, outlives_in};
+ghost use Rattle.tm_region.specs.Table.{IsAdded, leads_in, lone_row, outlives_in};
 
 use crate::row::{Row, join, lone_row};
 use std::alloc::{AllocError, Global};
@@ -38,8 +38,8 @@ impl Order {
     }
 
     /// Whether the one region outlives the other: a chain of bounds, of any length, leads from `longer` to
-    /// `shorter` or to `'static`. So each region outlives itself, and `'static` outlives all. Of a region that
-    /// the world doesn't have nothing else holds.
+    /// `shorter` or to `'static`. So each region outlives itself, and `'static` outlives all. A region that the
+    /// world doesn't have outlives itself alone.
     pub fn outlives(&self, longer: RegionId, shorter: RegionId) -> bool
         ensures answer { result ≡ outlives_in self.now longer shorter }
         ensures exact { (bounds : List Bound) → IsOrderOf bounds self.now → IsTrue result ↔ Outlives bounds longer shorter }
@@ -77,7 +77,7 @@ impl Order {
         requires shorter { bound.shorter.0 < length self.old }
         requires few { length self.old ≤ 17 }
         ensures count { length self.new ≡ length self.old }
-        ensures added { (a b : ℕ) → has self.new a b ≡ (has self.old a b || (has self.old a bound.longer.0 && has self.old bound.shorter.0 b)) }
+        ensures added { IsAdded bound self.old self.new }
     {
         let behind = self.rows[bound.shorter.0 as usize];
         for row in self.rows.iter_mut() {

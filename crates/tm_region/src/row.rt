@@ -1,5 +1,5 @@
-ghost use Rattle.std.specs.Prelude.{◌≡◌, ℕ, ◌<◌, ◌||◌, false, slice_index_or};
-ghost use Rattle.tm_region.specs.Table.{lone_row};
+ghost use Rattle.std.specs.Prelude.{◌≡◌, ℕ, ◌<◌, ◌||◌};
+ghost use Rattle.tm_region.specs.Table.{lone_row, stands_in};
 
 /// The most regions that a world has.
 const MOST: usize = 17;
@@ -19,7 +19,7 @@ pub fn lone_row(region: usize) -> Row
 
 /// Adds to a row what stands in another.
 pub fn join(row: &mut Row, other: &Row)
-    ensures { (b : ℕ) → slice_index_or row.new b false ≡ (slice_index_or row.old b false || slice_index_or other.now b false) }
+    ensures { (b : ℕ) → stands_in row.new b ≡ (stands_in row.old b || stands_in other.now b) }
 {
     for (place, has) in row.iter_mut().enumerate() {
         *has = *has || other[place];
