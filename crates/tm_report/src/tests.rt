@@ -16,7 +16,7 @@ fn says(alloc: Global, fault: FileFault, line: &str) -> bool {
 }
 
 #[test]
-fn says_where_the_text_is_wrong(rt: HostRuntime) {
+fn says_what_is_wrong(rt: HostRuntime) {
     let start = At { byte: 0, line: 1 };
     let end = At { byte: 9, line: 1 };
     for (fault, line) in [
@@ -41,6 +41,8 @@ fn says_where_the_text_is_wrong(rt: HostRuntime) {
             FileFault::EndOfFile(end),
             "unexpected end at byte 9, line 1\n",
         ),
+        (FileFault::BadRefutation(3), "bad refutation at line 3\n"),
+        (FileFault::NoQuestion(2), "no question 2\n"),
         (FileFault::NotYet, "not built yet\n"),
     ] {
         assert!(rt; says(rt.alloc(), fault, line), "{line}");
@@ -52,8 +54,15 @@ fn says_which_limit_is_passed(rt: HostRuntime) {
     for (kind, line) in [
         (LimitKind::FileBytes, "limit file-bytes 1048576 passed\n"),
         (LimitKind::NamedTypes, "limit named-types 1024 passed\n"),
+        (LimitKind::ClosedNodes, "limit closed-nodes 256 passed\n"),
         (LimitKind::References, "limit references 64 passed\n"),
         (LimitKind::Depth, "limit depth 64 passed\n"),
+        (
+            LimitKind::RefutationCells,
+            "limit refutation-cells 16777216 passed\n",
+        ),
+        (LimitKind::TextBytes, "limit text-bytes 67108864 passed\n"),
+        (LimitKind::MatrixTypes, "limit matrix-types 64 passed\n"),
     ] {
         assert!(rt;
             says(rt.alloc(), FileFault::Passed(kind, None), line),
@@ -81,6 +90,10 @@ fn says_where_a_limit_is_passed(rt: HostRuntime) {
         (
             LimitKind::Parameters,
             "limit parameters 4 passed at byte 80, line 2\n",
+        ),
+        (
+            LimitKind::TypeParameters,
+            "limit type-parameters 4 passed at byte 80, line 2\n",
         ),
         (
             LimitKind::Fields,
