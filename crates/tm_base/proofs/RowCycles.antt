@@ -49,7 +49,7 @@ abbrev chain_def : Def
 chain_def = record { name = []; kind = Struct; repr = repr_c; variants = record { name = []; value = pos 0; fields = record { name = 97 ∷ []; public = true } ∷ record { name = 98 ∷ []; public = true } ∷ [] } ∷ [] }
 
 abbrev chain_row : ℕ → Ground → NamedRow
-chain_row r g = record { def = record { 0 = 0 }; regions = []; types = (g ∷ ref_to r ∷ []) ∷ [] }
+chain_row r g = record { def = record { 0 = 0 }; regions = []; args = []; types = (g ∷ ref_to r ∷ []) ∷ [] }
 
 abbrev the_named : ℕ → Ground
 the_named k = Named (record { 0 = k })

@@ -13,14 +13,19 @@ use Rattle.tm_base.specs.Tables.{Tables}
 use Rattle.tm_base.specs.Texts.{text_of, spelled_text}
 use Rattle.tm_base.proofs.RowTypes.{repr_c}
 
--- 0 is `&'a mut P<'a, 'static>`
+-- The named type 0 is `P<'a, 'static>`, 1 is `P<u8>`, 2 is `P<'a, P<u8>, &'a mut P<'a, 'static>>`; the
+-- reference 0 is `&'a mut P<'a, 'static>`.
 abbrev tables : Tables
 tables = record {
   profile = Le64;
   defs = record { name = codes "P"; kind = Struct; repr = repr_c; variants = [] } ∷ [];
   regions = codes "'static" ∷ codes "'a" ∷ [];
   bounds = [];
-  named = record { def = record { 0 = 0 }; regions = record { 0 = 1 } ∷ record { 0 = 0 } ∷ []; types = [] } ∷ [];
+  named =
+      record { def = record { 0 = 0 }; regions = record { 0 = 1 } ∷ record { 0 = 0 } ∷ []; args = []; types = [] }
+      ∷ record { def = record { 0 = 0 }; regions = []; args = Prim p.U8 ∷ []; types = [] }
+      ∷ record { def = record { 0 = 0 }; regions = record { 0 = 1 } ∷ []; args = Named (record { 0 = 1 }) ∷ Ref (record { 0 = 0 }) ∷ []; types = [] }
+      ∷ [];
   refs = record { mutable = true; region = record { 0 = 1 }; pointee = Named (record { 0 = 0 }) } ∷ [];
 }
 
@@ -43,3 +48,12 @@ array-text = refl
 reference-text : text_of tables (Ref (record { 0 = 0 })) ≡ codes "&'a mut P<'a, 'static>"
 unfolding spell spelled_within spelled_text hidden-the_row-Ground-1 shape-the_row-Ground-1 denote.Hole.Carrier.hidden
 reference-text = refl
+
+argument-text : text_of tables (Named (record { 0 = 1 })) ≡ codes "P<u8>"
+unfolding spell spelled_within spelled_text hidden-the_row-Ground-1 shape-the_row-Ground-1 denote.Hole.Carrier.hidden
+argument-text = refl
+
+-- regions first, and what stands in an argument is written out too
+given-text : text_of tables (Named (record { 0 = 2 })) ≡ codes "P<'a, P<u8>, &'a mut P<'a, 'static>>"
+unfolding spell spelled_within spelled_text hidden-the_row-Ground-1 shape-the_row-Ground-1 denote.Hole.Carrier.hidden
+given-text = refl

@@ -137,7 +137,7 @@ abbrev padded_def : Def
 padded_def = record { name = 83 ∷ []; kind = Struct; repr = repr_c; variants = record { name = []; value = pos 0; fields = record { name = 97 ∷ []; public = true } ∷ record { name = 98 ∷ []; public = true } ∷ [] } ∷ [] }
 
 abbrev padded_row : NamedRow
-padded_row = record { def = record { 0 = 0 }; regions = []; types = (ground.Prim p.U8 ∷ ground.Prim p.U16 ∷ []) ∷ [] }
+padded_row = record { def = record { 0 = 0 }; regions = []; args = []; types = (ground.Prim p.U8 ∷ ground.Prim p.U16 ∷ []) ∷ [] }
 
 padded-expanded : expanded Le64 (padded_def ∷ []) (padded_row ∷ []) (ground.Named the_id) ≡ padded
 unfolding expanded_within out-Ground denote.Hole.Carrier.out

@@ -3,6 +3,7 @@ use Rattle.std.proofs.Common.{ℕ, sym, subst, Bool, List, ◌↔◌, inl, inr, 
 use Rattle.tm_base.specs.declared.tree.Tree.{Tree, Row_of-Tree, end_of-Tree, more_of-Tree, items-the_row-Tree, items_hidden-the_row-Tree-0, Seq, Alt, Repeat, Private}
 use Rattle.tm_base.specs.declared.tree.Tree.TheBlock.{hidden-the_row-Tree-0, shape-the_row-Tree-1, hidden-the_row-Tree-1}
 use Rattle.tm_base.specs.Cells.{Word, Times}
+use Rattle.tm_base.specs.Laws.{TreesRead}
 use Rattle.tm_base.specs.Trees.{TreeWord, RowInTurn, RowOneOf, InTurn, OneOf}
 
 module _ (pointer : ℕ) (A : ℕ → ℕ → Type 0) (keep : Bool) where
@@ -43,3 +44,18 @@ module _ (pointer : ℕ) (A : ℕ → ℕ → Type 0) (keep : Bool) where
   pub TreeWord-Private : (t : Tree) (w : Word) → TreeWord pointer A keep (Private t) w ↔ (IsTrue keep × TreeWord pointer A keep t w)
   unfolding TreeWord shape-the_row-Tree-1 hidden-the_row-Tree-1 denote.Hole.Carrier.hidden
   TreeWord-Private t w = (λ h. (h.0, ⊎_elim (λ x. x) (λ x. absurd x) h.1), λ h. (h.0, inl h.1))
+
+  -- the words of each kind of tree
+  pub trees-read : TreesRead pointer A keep
+  unfolding TreeWord
+  trees-read =
+      record {
+        never = λ w h. h;
+        range = λ low high w. (λ h. h, λ h. h);
+        pad = λ w. (λ h. h, λ h. h);
+        reference = λ t w. (λ h. h, λ h. h);
+        sequence = TreeWord-Seq;
+        alternative = TreeWord-Alt;
+        repetition = TreeWord-Repeat;
+        private = TreeWord-Private;
+      }

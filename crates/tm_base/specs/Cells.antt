@@ -1,7 +1,7 @@
 -- Cells and words: what is known of the bytes of a value, from its first byte on.
 -- Initialised and uninitialised bytes are those of the documentation of `core::mem::MaybeUninit`;
 -- that a byte may be one of a reference, and of which, is this project's.
-use Rattle.std.specs.Prelude.{ℕ, ◌≡◌, ◌+◌, ◌-◌, ◌*◌, ◌<◌, ◌^◌, ◌⊎◌, List, [], ◌∷◌, ◌++◌, length, take, map, replicate, zero, suc}
+use Rattle.std.specs.Prelude.{ℕ, ◌≡◌, ◌+◌, ◌-◌, ◌*◌, ◌<◌, ◌^◌, ◌⊎◌, ◌==◌, Bool, ◌||◌, List, [], ◌∷◌, ◌++◌, length, take, map, replicate, zero, suc}
 use Rattle.std.specs.List.{range_with_len}
 use Rattle.tm_base.specs.declared.cell.Cell.{Cell}
 use Rattle.tm_base.specs.declared.cell.Cell.TheVariants.{Byte, Uninit, Ptr}
@@ -44,6 +44,10 @@ own t = 2 ^ 32 + t
 
 abbrev pub OrOwn : (ℕ → ℕ → Type 0) → ℕ → ℕ → Type 0
 OrOwn A x t = A x t ⊎ (x ≡ own t)
+
+-- The same of a test. So what holds for every test of references holds where they may hold themselves.
+abbrev pub or_own : (ℕ → ℕ → Bool) → ℕ → ℕ → Bool
+or_own test x t = test x t || (x == own t)
 
 -- What m bytes hold where w was written: its first m cells, and uninitialised bytes up to m.
 -- The documentation of `core::mem::TransmuteFrom`: reading one field of a `repr(C)` union after

@@ -15,9 +15,11 @@ use Rattle.tm_base.specs.declared.ground.Ground.{Ground, out-Ground, Row_of-Grou
 use Rattle.tm_base.specs.declared.ground.Ground.TheOpen.{Ground-F}
 use Rattle.tm_base.specs.declared.ground.Primitive.{Primitive}
 use Rattle.tm_base.specs.declared.ground.Primitive.TheVariants.{I64}
+use Rattle.tm_base.specs.declared.limit.LimitKind.TheVariants.{Fields, Variants}
 use Rattle.tm_base.specs.declared.profile.Profile.{Profile}
 use Rattle.tm_base.specs.Expanded.{expanded}
 use Rattle.tm_base.specs.Integers.{is_integer, is_tag_type, fits_integer}
+use Rattle.tm_base.specs.Limits.{limit_number}
 use Rattle.tm_base.specs.Parts.{is_whole}
 use Rattle.tm_base.specs.Spelled.{ends, spelled}
 
@@ -33,12 +35,14 @@ unfoldable mutual
   row_types end_of-Ground = []
   row_types (more_of-Ground g gs) = written_types g ++ row_types gs
 
--- all types of a world: its named types, and what is written as a field, a pointee and in a question
+-- All types of a world: its named types, and what is written as an argument, a field and a pointee and in
+-- a question.
 abbrev pub all_types : List NamedRow → List RefRow → List Ask → List Ground
 all_types named refs questions =
     map (λ k. Named (record { 0 = k })) (range_with_len 0 (length named))
     ++ flat_map written_types (
-    flat_map (λ row. flat_map (λ types. types) row.types) named
+    flat_map (λ row. row.args) named
+    ++ flat_map (λ row. flat_map (λ types. types) row.types) named
     ++ map (λ row. row.pointee) refs
     ++ flat_map (λ ask. ask.src ∷ ask.dst ∷ []) questions)
 
@@ -60,7 +64,7 @@ is_type_over profile defs named refs g =
 -- doesn't come back to itself. That no part is deeper than the limit says that none holds itself.
 abbrev pub is_type_in_form : Profile → List Def → List NamedRow → List RefRow → Ground → Bool
 is_type_in_form profile defs named refs g =
-    is_head_in_form (length named) (length refs) (out-Ground g) && is_whole (expanded profile defs named g) && ends (spelled refs g)
+    is_head_in_form (length named) (length refs) (out-Ground g) && is_whole (expanded profile defs named g) && ends (spelled named refs g)
 
 -- each type of a world
 unfoldable pub are_types_in_form : Profile → List Def → List NamedRow → List RefRow → List Ask → Bool
@@ -144,7 +148,7 @@ is_def_in_form profile def =
     && is_absent_or is_alignment def.repr.packed && is_absent_or is_alignment def.repr.align
     && are_variants_in_form def.kind def.variants
     && list_all (λ v. is_value_in_form profile def.repr.tag v.value) def.variants
-    && nat_le (length def.variants) 256 && nat_le (field_total def.variants) 256
+    && nat_le (length def.variants) (limit_number Variants) && nat_le (field_total def.variants) (limit_number Fields)
 
 -- each definition of a world
 unfoldable pub are_defs_in_form : Profile → List Def → Bool
