@@ -84,7 +84,7 @@ byte_as_bool-answer = record {
     has_word = (Byte 0 ∷ [], bool_zero);
     value = two_byte;
     offset = record { goes_to = (Byte 0 ∷ [], bool_zero); stops = λ (rest, valid). no_bool_begins_with_two rest valid };
-    rule_holds = inr (omega arith, (inl (refl, (0, ([], bool_zero))), refl));
+    rule_holds = inr (omega arith, inl (refl, (0, ([], bool_zero)), refl));
   };
   is_least = (
     λ v p value refused. (omega arith, λ e. not_below_two v value (subst (λ (n : ℕ). Viable (Compatible no_tables nothing) false the_bool (take (n + 1) (fit v 1)) → ⊥) e refused.stops)),

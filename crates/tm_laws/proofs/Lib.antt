@@ -11,6 +11,7 @@ pub mod OutlivesKnownLemmas
 pub mod TransmutesKnownLemmas
 pub mod CompatibleKnownLemmas
 pub mod WholeLeaves
+pub mod WholeTypes
 pub mod WholeWords
 pub mod RefusalMoves
 pub mod RefusalSwaps
