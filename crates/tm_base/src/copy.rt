@@ -40,11 +40,7 @@ fn copy_all(alloc: Global, types: &[Ground]) -> Result<List<Ground>, Memory>
 {
     let mut copies = List::new(alloc);
     for item in types {
-        let copy = item.copy(alloc)?;
-        match copies.push(copy) {
-            Ok(()) => {}
-            Err(_) => return Err(Memory),
-        }
+        copies.add(item.copy(alloc)?)?;
     }
     Ok(copies)
 }
@@ -70,10 +66,7 @@ impl Variant {
         let name = self.name.copy(alloc)?;
         let mut fields = List::new(alloc);
         for field in self.fields.as_slice() {
-            match fields.push(field.copy(alloc)?) {
-                Ok(()) => {}
-                Err(_) => return Err(Memory),
-            }
+            fields.add(field.copy(alloc)?)?;
         }
         Ok(Variant {
             name,
@@ -91,10 +84,7 @@ impl Def {
         let name = self.name.copy(alloc)?;
         let mut variants = List::new(alloc);
         for variant in self.variants.as_slice() {
-            match variants.push(variant.copy(alloc)?) {
-                Ok(()) => {}
-                Err(_) => return Err(Memory),
-            }
+            variants.add(variant.copy(alloc)?)?;
         }
         Ok(Def {
             name,
@@ -117,10 +107,8 @@ mod tests {
         let array = Ground::Array(Boxed::new(alloc, Ground::Prim(Primitive::U8))?, 4);
         let option = Ground::Wrap(Wrapper::Option, Boxed::new(alloc, array)?);
         let mut elements = List::new(alloc);
-        match elements.push(option) {
-            Ok(()) => Ok(Ground::Tuple(elements)),
-            Err(_) => Err(Memory),
-        }
+        elements.add(option)?;
+        Ok(Ground::Tuple(elements))
     }
 
     fn is_sample(ground: &Ground) -> bool {
@@ -163,19 +151,13 @@ mod tests {
             name: field_name,
             public: true,
         };
-        match fields.push(field) {
-            Ok(()) => {}
-            Err(_) => return Err(Memory),
-        }
+        fields.add(field)?;
         let variant = Variant {
             name: Text::new(alloc),
             value: 0,
             fields,
         };
-        match variants.push(variant) {
-            Ok(()) => {}
-            Err(_) => return Err(Memory),
-        }
+        variants.add(variant)?;
         let repr = Repr {
             c: true,
             transparent: false,

@@ -7,13 +7,11 @@ ghost use Rattle.tm_base.specs.Worlds.{tables_of};
 use crate::cell::RefId;
 use crate::definition::{NamedRow, RefRow, RegionId};
 use crate::ground::{Ground, NamedId, Primitive, Wrapper};
+use crate::limit::LimitKind;
 use crate::memory::Memory;
 use crate::text::Text;
 use crate::world::World;
 use std::alloc::Global;
-
-/// How many names and references may be followed behind one another.
-const FOLLOWING_LIMIT: u32 = 1024 + 64;
 
 /// The canonical text of a type of the world, as Rust writes it: regions by their declared names or as
 /// `'static`, and one space behind each comma and semicolon. A number that names nothing in the world is
@@ -24,7 +22,8 @@ pub fn text_of(alloc: Global, world: &World, g: &Ground) -> Result<Text, Memory>
     ensures { IfOk result (λ text. text ≡ text_of (tables_of world.now) g.now) }
 {
     let mut text = Text::new(alloc);
-    write_type(alloc, world, FOLLOWING_LIMIT, g, &mut text)?;
+    let most = LimitKind::NamedTypes.number() + LimitKind::References.number();
+    write_type(alloc, world, most, g, &mut text)?;
     Ok(text)
 }
 
@@ -100,10 +99,8 @@ fn is_given(row: &NamedRow) -> bool
 fn write_number(alloc: Global, number: u32, text: &mut Text) -> Result<(), Memory>
     ensures { OnOk result (text.new ≡ text.old ++ decimal number) }
 {
-    match format!(in alloc; "{number}") {
-        Ok(digits) => text.push_str(digits.as_str()),
-        Err(_) => Err(Memory),
-    }
+    let digits = format!(in alloc; "{number}")?;
+    text.push_str(digits.as_str())
 }
 
 /// Writes `NonZero` of a primitive.
@@ -370,10 +367,8 @@ mod tests {
         let array = Ground::Array(Boxed::new(alloc, Ground::Prim(Primitive::U8))?, 4);
         let option = Ground::Wrap(Wrapper::Option, Boxed::new(alloc, array)?);
         let mut elements = List::new(alloc);
-        match elements.push(option) {
-            Ok(()) => text_of(alloc, &empty_world(alloc), &Ground::Tuple(elements)),
-            Err(_) => Err(Memory),
-        }
+        elements.add(option)?;
+        text_of(alloc, &empty_world(alloc), &Ground::Tuple(elements))
     }
 
     #[test]

@@ -88,13 +88,13 @@ module _ (world : World) where
   formed g = list_all head (written_types g)
 
   abbrev part : Ground → Expanded
-  part = expanded world.defs world.named
+  part = expanded world.profile world.defs world.named
 
   abbrev passes : Ground → Bool
-  passes = is_type_in_form world.defs world.named world.refs
+  passes = is_type_in_form world.profile world.defs world.named world.refs
 
   abbrev over : Ground → Bool
-  over = is_type_over world.defs world.named world.refs
+  over = is_type_over world.profile world.defs world.named world.refs
 
   over-from : (g : Ground) → formed g ≡ true → is_whole (part g) ≡ true → over g ≡ true
   unfolding is_type_over
@@ -191,8 +191,8 @@ module _ (world : World) where
     k-formed : formed k ≡ true
     k-formed = one-formed g k (ap written_types same ∙ written_types-Wrap w k ∙ ap (λ x. x ∷ written_types k) (sym same)) both.0
 
-    leveled : part g ≡ level part world.defs world.named (Ground-F.Wrap w k)
-    leveled = expanded-level world.defs world.named g both.1 ∙ ap (level part world.defs world.named) e
+    leveled : part g ≡ level part world.profile world.defs world.named (Ground-F.Wrap w k)
+    leveled = expanded-level world.profile world.defs world.named g both.1 ∙ ap (level part world.profile world.defs world.named) e
 
     held : part g ≡ wrap w (part k) → Contains (k ∷ []) h → over h ≡ true
     held is in_it = subst (λ x. over x ≡ true) (Contains-one k h in_it) (over-from k k-formed (one-whole g k w is both.1))
@@ -213,14 +213,14 @@ module _ (world : World) where
       let all : list_all head (Tuple gs ∷ flat_map written_types gs) ≡ true = sym (ap (list_all head) (ap written_types same ∙ written_types-Tuple gs)) ∙ both.0 in
       let each : list_all formed gs ≡ true = sym (list_all-flat_map head written_types gs) ∙ (both_pass (head (Tuple gs)) (list_all head (flat_map written_types gs)) all).1 in
       over-from h (list_all-in formed gs h each at)
-      (members-whole g gs h (expanded-level world.defs world.named g both.1 ∙ ap (level part world.defs world.named) e) both.1 at)
+      (members-whole g gs h (expanded-level world.profile world.defs world.named g both.1 ∙ ap (level part world.profile world.defs world.named) e) both.1 at)
 
   element-over : (g k h : Ground) (n : ℕ) → out-Ground g ≡ Ground-F.Array k n → over g ≡ true → Contains (k ∷ []) h → over h ≡ true
   element-over g k h n e o at =
       let both = over-parts g o in
       let same : g ≡ Array k n = sym (roll-out-Ground g) ∙ ap roll-Ground e ∙ rolls-Array k n in
       let f = one-formed g k (ap written_types same ∙ written_types-Array k n ∙ ap (λ x. x ∷ written_types k) (sym same)) both.0 in
-      let w = element-whole g k n (expanded-level world.defs world.named g both.1 ∙ ap (level part world.defs world.named) e) both.1 in
+      let w = element-whole g k n (expanded-level world.profile world.defs world.named g both.1 ∙ ap (level part world.profile world.defs world.named) e) both.1 in
       subst (λ x. over x ≡ true) (Contains-one k h at) (over-from k f w)
 
   step-over : (g h : Ground) (x : Ground-F Ground) → out-Ground g ≡ x → over g ≡ true → Contains (parts_within world.named x ++ pointees_within world.refs x) h → over h ≡ true

@@ -9,7 +9,7 @@ use Rattle.tm_layout.specs.Known.{IsFactsOf}
 use Rattle.tm_layout.specs.Made.{AreRowsOf, EachIs, IsKnown, is_missing, row_at}
 
 -- no part of the type is past the greatest depth
-pub record IsWhole (tables : Tables) (g : Ground) : Type 0 where
+pub record IsWrittenOut (tables : Tables) (g : Ground) : Type 0 where
   pub whole : IsTrue (is_whole (expanded_in tables g))
 
 -- a table in which each row that is made is right, and those that it rests on are made too

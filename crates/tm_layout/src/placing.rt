@@ -14,7 +14,7 @@ use crate::enums::{fields_begin, tag_layout};
 use crate::facts::Facts;
 use crate::fields::{layout_in, place_at};
 use std::alloc::Global;
-use tm_base::{Def, Kind, List, Memory, Repr};
+use tm_base::{Def, Kind, List, Memory, Profile, Repr};
 
 /// Where some fields stand, one after another from a place on, each counted from `begin`.
 fn in_order(
@@ -55,35 +55,37 @@ fn at_front(alloc: Global, fields: &[Facts]) -> Result<List<u32>, Memory>
 /// Where the fields of a variant stand.
 fn variant_places(
     alloc: Global,
+    profile: Profile,
     kind: Kind,
     repr: Repr,
     begin: u32,
     fields: &[Facts],
 ) -> Result<List<u32>, Memory>
-    ensures { IfOk result (λ found. found ≡ map capped (variant_places_in kind repr begin (layouts_in fields.now))) }
+    ensures { IfOk result (λ found. found ≡ map capped (variant_places_in profile kind repr begin (layouts_in fields.now))) }
 {
     match kind {
         Kind::Struct if repr.transparent => at_front(alloc, fields),
         Kind::Struct => in_order(alloc, repr.packed, 0, 0, fields),
         Kind::Union => at_front(alloc, fields),
         Kind::Enum if repr.c => in_order(alloc, None, begin, 0, fields),
-        Kind::Enum => in_order(alloc, None, 0, tag_layout(repr.tag).size, fields),
+        Kind::Enum => in_order(alloc, None, 0, tag_layout(profile, repr.tag).size, fields),
     }
 }
 
 /// Where the fields of a definition stand, for each variant, of which a layout is known.
 fn all_places(
     alloc: Global,
+    profile: Profile,
     kind: Kind,
     repr: Repr,
     begin: u32,
     parts: &[List<Facts>],
 ) -> Result<List<List<u32>>, Memory>
-    ensures { IfOk result (λ found. found ≡ map (λ ls. map capped (variant_places_in kind repr begin ls)) (variant_layouts_in parts.now)) }
+    ensures { IfOk result (λ found. found ≡ map (λ ls. map capped (variant_places_in profile kind repr begin ls)) (variant_layouts_in parts.now)) }
 {
     let mut found = List::new(alloc);
     for fields in parts {
-        let places = variant_places(alloc, kind, repr, begin, fields.as_slice())?;
+        let places = variant_places(alloc, profile, kind, repr, begin, fields.as_slice())?;
         let Ok(()) = found.push(places) else {
             return Err(Memory);
         };
@@ -93,10 +95,15 @@ fn all_places(
 
 /// Where the fields of a named type that has a layout stand, for each variant, in bytes from the type's
 /// first. `Memory`: there wasn't enough memory.
-pub fn places(alloc: Global, def: &Def, parts: &[List<Facts>]) -> Result<List<List<u32>>, Memory>
-    requires { IsTrue (is_def_in_form def.now) }
-    ensures { IfOk result (λ found. (id : NamedId) (variants : Variants) → AreVariantsFor def.now.variants variants → AreVariantFacts variants parts.now → refusal_of (named id def.now.kind def.now.repr variants) ≡ None → found ≡ places_of (named id def.now.kind def.now.repr variants)) }
+pub fn places(
+    alloc: Global,
+    profile: Profile,
+    def: &Def,
+    parts: &[List<Facts>],
+) -> Result<List<List<u32>>, Memory>
+    requires { IsTrue (is_def_in_form profile def.now) }
+    ensures { IfOk result (λ found. (id : NamedId) (variants : Variants) → AreVariantsFor def.now.variants variants → AreVariantFacts variants parts.now → refusal_of (named profile id def.now.kind def.now.repr variants) ≡ None → found ≡ places_of (named profile id def.now.kind def.now.repr variants)) }
 {
-    let begin = fields_begin(def.kind, def.repr, parts);
-    all_places(alloc, def.kind, def.repr, begin, parts)
+    let begin = fields_begin(profile, def.kind, def.repr, parts);
+    all_places(alloc, profile, def.kind, def.repr, begin, parts)
 }

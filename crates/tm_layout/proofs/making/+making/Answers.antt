@@ -8,7 +8,7 @@ use Rattle.tm_base.specs.declared.ground.Wrapper.TheVariants as wrapper
 use Rattle.tm_base.specs.Parts.{some_part}
 use Rattle.tm_base.specs.Worlds.{tables_of}
 use Rattle.tm_layout.specs.Made.{EachIs, IsKnown}
-use Rattle.tm_layout.specs.Making.{AreKnown, IsGrown, IsWhole}
+use Rattle.tm_layout.specs.Making.{AreKnown, IsGrown, IsWrittenOut}
 use Rattle.tm_layout.proofs.MakingLemmas.{grown-more, known-from, known-grown, known-of-Array, known-of-Tuple, known-of-Wrap, nodes-Array, nodes-row, nodes-Tuple, nodes-Wrap, put-below, put-grown, put-known, row-in_form, row-whole, some-copied, whole-Array, whole-there, whole-Tuple, whole-Wrap}
 use Rattle.tm_layout.proofs.NodeLemmas.{all_nodes, nodes_at, nodes_in, row_nodes, row_nodes_at}
 use Rattle.tm_layout.proofs.FirstLemmas.{first-all, first-kept, first-more}
@@ -28,7 +28,7 @@ make_row-make_variants-requires t c =
     let at = sym c.in-Some.ensures.item in
     let nodes = nodes-row tables c.args.id c.in-Some.row.now c.requires.whole at (row-in_form c.args.world.now c.args.id.0 c.in-Some.row.now at) in
     let smaller : 3 + row_nodes tables c.as_slice.result.now < nodes_in tables (Named c.args.id) = rw (c.as_slice.ensures, nodes) (omega arith) in
-    let whole = subst (EachIs (EachIs (IsWhole tables))) (sym c.as_slice.ensures) (row-whole c.args.world.now c.args.id.0 c.in-Some.row.now at) in
+    let whole = subst (EachIs (EachIs (IsWrittenOut tables))) (sym c.as_slice.ensures) (row-whole c.args.world.now c.args.id.0 c.in-Some.row.now at) in
     search rules
 
 pub make_row-row_of-requires : goal.make_row-row_of-requires
@@ -167,7 +167,7 @@ pub make_variants-make_types-requires : goal.make_variants-make_types-requires
 make_variants-make_types-requires t c =
     let tables = tables_of c.args.world.now in
     let at = slice_get_read c.args.variants.now (length c.args.variants.now) c.loop-types.types-index c.types-item.result refl c.loop-types-test.true c.types-item.is in
-    let whole = subst (EachIs (IsWhole tables)) (sym c.as_slice.ensures) (c.requires.whole c.loop-types.types-index c.types-item.result at) in
+    let whole = subst (EachIs (IsWrittenOut tables)) (sym c.as_slice.ensures) (c.requires.whole c.loop-types.types-index c.types-item.result at) in
     let below = row_nodes_at tables c.args.variants.now c.loop-types.types-index c.types-item.result c.loop-types-test.true in
     let smaller : 2 + all_nodes tables c.as_slice.result.now < 3 + row_nodes tables c.args.variants.now = rw (c.as_slice.ensures, c.types-item.is) (omega arith) in
     let closed = c.loop-types.invariant.grown.closed in
