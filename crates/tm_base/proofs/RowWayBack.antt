@@ -83,6 +83,11 @@ pub there : Transmutes (CompatibleTo writables nothing 0) nothing (pointee_in wr
 unfolding CompatibleTo expanded_within out-Ground denote.Hole.Carrier.out
 there = ref_taken (CompatibleTo writables nothing 0) 0 1 inner-meets
 
+-- nor would the way back, were its references taken as on the way there;
+pub flipped : Transmutes (λ x t. CompatibleTo writables nothing 0 t x) nothing (pointee_in writables (writable 1)) (pointee_in writables (writable 0))
+unfolding CompatibleTo expanded_within out-Ground denote.Hole.Carrier.out
+flipped = ref_taken (λ x t. CompatibleTo writables nothing 0 t x) 1 0 inner-meets
+
 -- but the way back does.
 outlived_back : ¬ CompatibleTo writables nothing 0 1 0
 unfolding CompatibleTo
