@@ -2,8 +2,8 @@ ghost use Rattle.std.specs.Prelude.{◌≡◌, ◌==◌, ℕ, Bool};
 
 use crate::cell::RefId;
 
-/// A test of a source reference and a target reference: may a value of the one be taken as one of the
-/// other?
+/// A test of a source reference and a target reference: may a value of the one be taken as one of
+/// the other?
 pub trait RefTest {
     ghost test: { Self → ℕ → ℕ → Bool };
 
