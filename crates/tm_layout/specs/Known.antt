@@ -1,5 +1,5 @@
 -- What is known of a type, by what is known of its parts.
-use Rattle.std.specs.Prelude.{◌≡◌, ◌≤◌, ◌^◌, ⊤, Bool, None, List, [], ◌∷◌, length}
+use Rattle.std.specs.Prelude.{◌≡◌, ◌≤◌, ◌^◌, ⊤, None, List, [], ◌∷◌, length}
 use Rattle.tm_base.specs.declared.definition.Def.{Def}
 use Rattle.tm_base.specs.declared.definition.Variant.{Variant}
 use Rattle.tm_base.specs.declared.ground.NamedId.{NamedId}

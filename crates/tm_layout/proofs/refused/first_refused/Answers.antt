@@ -1,4 +1,4 @@
-use Rattle.std.proofs.Common.{sym, subst, All}
+use Rattle.std.proofs.Common.{sym, subst}
 use Rattle.tm_base.specs.Worlds.{IsTypeOver, tables_of}
 use Rattle.tm_layout.specs.Reached.{AreReached, types_at}
 use Rattle.tm_layout.proofs.LeastLemmas.{named-first, none-judged}
