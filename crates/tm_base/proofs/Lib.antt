@@ -13,6 +13,8 @@ pub mod JudgedLemmas
 pub mod RowCasts
 pub mod LayoutLemmas
 pub mod RowReferences
+pub mod RowWayBack
+pub mod RowProfiles
 pub mod RowCycles
 pub mod AssumeLemmas
 pub mod AnswerLemmas

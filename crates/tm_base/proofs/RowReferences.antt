@@ -55,14 +55,14 @@ taken_word : (A : ℕ → ℕ → Type 0) (r t : ℕ) → (x : ℕ) × A x t × 
 taken_word A r t (x, a, e) = subst (λ (y : ℕ). A y t) (sym (ap first_ref e)) a
 
 -- a reference whose words are taken may be taken itself
-taken_ref : (A : ℕ → ℕ → Type 0) (r t : ℕ) → Transmutes A nothing (reference r) (reference t) → A r t
+pub taken_ref : (A : ℕ → ℕ → Type 0) (r t : ℕ) → Transmutes A nothing (reference r) (reference t) → A r t
 unfolding Valid layout_of
 taken_ref A r t (inl none) = absurd (none (pointer_of 8 r) (r, refl, refl))
 taken_ref A r t (inr (inl (e, every))) = taken_word A r t (every (pointer_of 8 r) (r, refl, refl))
 taken_ref A r t (inr (inr (e, other))) = cc
 
 -- and the other way round
-ref_taken : (A : ℕ → ℕ → Type 0) (r t : ℕ) → A r t → Transmutes A nothing (reference r) (reference t)
+pub ref_taken : (A : ℕ → ℕ → Type 0) (r t : ℕ) → A r t → Transmutes A nothing (reference r) (reference t)
 unfolding Valid layout_of
 ref_taken A r t a = inr (inl (refl, λ w value. each w value)) where
   each : (w : Word) → (x : ℕ) × (x ≡ r) × (w ≡ pointer_of 8 x) → (x : ℕ) × A x t × (fit w 8 ≡ pointer_of 8 x)
@@ -121,7 +121,7 @@ nested_meets = record {
 }
 
 -- `outlives 'a: 'b`, where 'a is 1 and 'b is 2
-abbrev longer_first : List Bound
+abbrev pub longer_first : List Bound
 longer_first = record { longer = record { 0 = 1 }; shorter = record { 0 = 2 } } ∷ []
 
 pub outlives_forward : Outlives longer_first (record { 0 = 1 }) (record { 0 = 2 })

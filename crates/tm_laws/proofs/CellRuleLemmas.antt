@@ -16,12 +16,12 @@ use Rattle.tm_base.specs.Expanded.{Expanded}
 use Rattle.tm_base.specs.Layout.{size_of}
 use Rattle.tm_base.specs.Rules.{source, target, Taken, SomeByteGoesOn, IsOpen, IsCellRule, IsRuleOfNo}
 use Rattle.tm_base.specs.Worlds.{tables_of, IsTypeOver}
+use Rattle.tm_laws.specs.WordLaws.{IsClosed}
 use Rattle.tm_laws.proofs.CompatibleKnownLemmas.{Compatible-known, Compatible-rows}
 use Rattle.tm_laws.proofs.DecideLemmas.{Dec-lt}
 use Rattle.tm_laws.proofs.RefRuleLemmas.{fault_at, ref_rule}
 use Rattle.tm_laws.proofs.RefusalLemmas.{fit-length, refused-inside, refused-pointer-is-first, open-is-not-taken}
 use Rattle.tm_laws.proofs.RefusalRows.{pointer-known, open-known}
-use Rattle.tm_laws.proofs.RefusalSwaps.{IsClosed}
 use Rattle.tm_laws.proofs.RefusalWorlds.{leaves-known, compatible-of_sources, source-closed}
 use Rattle.tm_laws.proofs.ViableKnownLemmas.{some_byte-known, least_open}
 use Rattle.tm_laws.proofs.WholeTypes.{expanded_in-for}

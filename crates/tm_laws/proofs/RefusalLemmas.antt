@@ -17,11 +17,13 @@ use Rattle.tm_base.specs.Transmutes.{Same}
 use Rattle.tm_base.specs.Valid.{Valid}
 use Rattle.tm_base.specs.Viable.{HasWord, Viable, RefusesAt, StandsOpen}
 use Rattle.tm_base.proofs.ValidLemmas.{Valid-length}
+use Rattle.tm_laws.specs.WordLaws.{IsClosed, IsOfSources}
 use Rattle.tm_laws.proofs.RefusalMoves.{All-second, All-middle}
-use Rattle.tm_laws.proofs.RefusalSwaps.{IsClosed, IsOfSources, own-isn't-needed, swap, swapped}
+use Rattle.tm_laws.proofs.RefusalSwaps.{own-isn't-needed, swap, swapped}
 use Rattle.tm_laws.proofs.WholeLeaves.{Leaf, leaves}
 use Rattle.tm_laws.proofs.WholeTypes.{IsFor}
-use Rattle.tm_laws.proofs.WholeWords.{IsCellOf, IsHeldBy, pointers-related, StandsWhole, append-split, whole-references}
+use Rattle.tm_laws.proofs.WholeRuns.{StandsWhole, append-split, stands-whole}
+use Rattle.tm_laws.proofs.WholeWords.{IsCellOf, IsHeldBy, pointers-related}
 
 -- a fit has the length that it was asked to have
 pub fit-length : (w : Word) (m : ℕ) → length (fit w m) ≡ m
@@ -99,7 +101,7 @@ module _ (profile : Profile) (A : ℕ → ℕ → Type 0) (keep : Bool) (t : Exp
   goes_along : (r : RefId) (j : ℕ) (p others : Word) → p ≡ others ++ Ptr r j ∷ [] → suc j < pointer_size profile → Viable A keep t p → Viable A keep t (p ++ Ptr r (suc j) ∷ [])
   goes_along r j p others e below (rest, valid) =
       let shape : p ++ rest ≡ others ++ (Ptr r j ∷ rest) = ap (λ (u : Word). u ++ rest) e ∙ append_assoc others (Ptr r j ∷ []) rest in
-      let stands = whole-references profile (OrOwn A) keep t for_it (p ++ rest) valid others rest r j shape in
+      let stands = stands-whole profile (OrOwn A) keep t for_it (p ++ rest) valid others rest r j shape in
       let next = stands.goes_on below in
       let same : p ++ rest ≡ (p ++ Ptr r (suc j) ∷ []) ++ next.0 = ap (λ (u : Word). p ++ u) next.1 ∙ sym (append_assoc p (Ptr r (suc j) ∷ []) next.0) in
       (next.0, subst (Valid (OrOwn A) keep t) same valid)
@@ -126,7 +128,7 @@ module _ (profile : Profile) (A : ℕ → ℕ → Type 0) (keep : Bool) (t : Exp
         | inl s' ↦
             let shape : w ≡ p ++ (Ptr r k ∷ (s'.0 ++ drop n w)) =
             sym (take-append-drop n w) ∙ ap (λ (u : Word). u ++ drop n w) s'.1 ∙ append_assoc p (Ptr r k ∷ s'.0) (drop n w) in
-            first_byte w o r k (s'.0 ++ drop n w) refuses e (whole-references profile Same true s source_for w value p (s'.0 ++ drop n w) r k shape)
+            first_byte w o r k (s'.0 ++ drop n w) refuses e (stands-whole profile Same true s source_for w value p (s'.0 ++ drop n w) r k shape)
         | inr s' ↦
             let free : All IsFree filler = All-replicate IsFree (n - length w) Uninit tt in
             absurd (All-head IsFree (Ptr r k) q (All-second IsFree s'.0 (Ptr r k ∷ q) filler s'.2 free))

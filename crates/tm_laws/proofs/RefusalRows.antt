@@ -11,8 +11,8 @@ use Rattle.tm_base.specs.Cells.{Word, fit}
 use Rattle.tm_base.specs.Expanded.{Expanded}
 use Rattle.tm_base.specs.Transmutes.{IsSourceWord}
 use Rattle.tm_base.specs.Viable.{StandsOpen}
+use Rattle.tm_laws.specs.WordLaws.{IsOfSources}
 use Rattle.tm_laws.proofs.RefusalLemmas.{fit-all, open-is-leaf}
-use Rattle.tm_laws.proofs.RefusalSwaps.{IsOfSources}
 use Rattle.tm_laws.proofs.RefusalWorlds.{HasKnownLeaves, source-within}
 use Rattle.tm_laws.proofs.WholeLeaves.{Leaf, leaves}
 use Rattle.tm_laws.proofs.WordSearchLemmas.{IsWithin}

@@ -9,17 +9,8 @@ use Rattle.tm_base.specs.declared.cell.Cell.TheVariants.{Byte, Uninit, Ptr}
 use Rattle.tm_base.specs.Cells.{Word, IsFree, pointer_of, own, OrOwn}
 use Rattle.tm_base.specs.Expanded.{Expanded}
 use Rattle.tm_base.specs.Valid.{Valid}
+use Rattle.tm_laws.specs.WordLaws.{IsClosed, IsOfSources}
 use Rattle.tm_laws.proofs.RefusalMoves.{Valid-moved}
-
--- the cell is no byte of a reference that stands open
-abbrev pub IsClosed : Cell → Type 0
-IsClosed (Byte b) = Unit {0}
-IsClosed Uninit = Unit {0}
-IsClosed (Ptr r k) = r.0 < 2 ^ 32
-
--- a relation of references of a source
-abbrev pub IsOfSources : (ℕ → ℕ → Type 0) → Type 0
-IsOfSources A = (x t : ℕ) → A x t → x < 2 ^ 32
 
 -- where no reference stands open in a word, that some may isn't needed
 pub own-isn't-needed : (A : ℕ → ℕ → Type 0) (keep : Bool) (t : Expanded) (w : Word) → All IsClosed w → Valid (OrOwn A) keep t w → Valid A keep t w

@@ -21,9 +21,9 @@ use Rattle.tm_base.specs.Tables.{expanded_in, pointee_in}
 use Rattle.tm_base.specs.Transmutes.{Same, IsSourceWord}
 use Rattle.tm_base.specs.Worlds.{tables_of, IsTypeOver}
 use Rattle.tm_base.proofs.JudgedLemmas.{ChainIn-keeps}
+use Rattle.tm_laws.specs.WordLaws.{IsClosed, IsOfSources}
 use Rattle.tm_laws.proofs.CompatibleKnownLemmas.{Compatible-rows}
 use Rattle.tm_laws.proofs.RefusalFormed.{formed, PartsFormed, formed-level, IsFormed, row-formed, pointee-formed, over-formed, All-from_list_all}
-use Rattle.tm_laws.proofs.RefusalSwaps.{IsClosed, IsOfSources}
 use Rattle.tm_laws.proofs.WholeLeaves.{Leaf, leaves}
 use Rattle.tm_laws.proofs.WholeTypes.{HasParts, level-leaves}
 use Rattle.tm_laws.proofs.WholeWords.{IsCellOf, IsHeldBy, cell-weaker, pointers-related}
