@@ -23,18 +23,3 @@ impl RefTest for Equal {
         source.0 == target.0
     }
 }
-
-#[cfg(test)]
-mod tests {
-    use super::*;
-
-    fn asks<T: RefTest>(test: &T, source: u32, target: u32) -> bool {
-        test.holds(RefId(source), RefId(target))
-    }
-
-    #[test]
-    fn equal_ids_alone(rt: HostRuntime) {
-        assert!(rt; asks(&Equal, 7, 7));
-        assert!(rt; !asks(&Equal, 7, 8));
-    }
-}

@@ -360,28 +360,3 @@ fn write_row_of_ref(
     text.push_str(if row.mutable { " mut " } else { " " })?;
     write_type(alloc, world, left, &row.pointee, text)
 }
-
-#[cfg(test)]
-mod tests {
-    use super::*;
-    use crate::boxed::Boxed;
-    use crate::list::List;
-    use crate::world::tests::empty_world;
-
-    /// The text of `(Option<[u8; 4]>,)`.
-    fn sample(alloc: Global) -> Result<Text, Memory> {
-        let array = Ground::Array(Boxed::new(alloc, Ground::Prim(Primitive::U8))?, 4);
-        let option = Ground::Wrap(Wrapper::Option, Boxed::new(alloc, array)?);
-        let mut elements = List::new(alloc);
-        elements.add(option)?;
-        text_of(alloc, &empty_world(alloc), &Ground::Tuple(elements))
-    }
-
-    #[test]
-    fn one_element_has_a_comma(rt: HostRuntime) {
-        let Ok(text) = sample(rt.alloc()) else {
-            panic!(rt; "the text wants memory");
-        };
-        assert_eq!(rt; text.as_str(), "(Option<[u8; 4]>,)");
-    }
-}

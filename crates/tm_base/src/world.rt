@@ -55,28 +55,3 @@ pub struct World {
     pub ghost named_distinct: { AreDistinct named },
     pub ghost refs_distinct: { AreDistinct refs },
 }
-
-#[cfg(test)]
-pub(crate) mod tests {
-    use super::*;
-    use std::alloc::Global;
-
-    /// A world without types and questions.
-    pub(crate) fn empty_world(alloc: Global) -> World {
-        World {
-            profile: Profile::Le64,
-            defs: List::new(alloc),
-            regions: List::new(alloc),
-            bounds: List::new(alloc),
-            named: List::new(alloc),
-            refs: List::new(alloc),
-            questions: List::new(alloc),
-        }
-    }
-
-    #[test]
-    fn an_empty_world_is_one(rt: HostRuntime) {
-        let world = empty_world(rt.alloc());
-        assert_eq!(rt; world.questions.len(), 0);
-    }
-}
