@@ -23,7 +23,7 @@ use Rattle.tm_base.specs.Limits.{limit_number}
 use Rattle.tm_base.specs.Parts.{is_whole}
 use Rattle.tm_base.specs.Spelled.{ends, spelled}
 
--- the type and all types that are written in it: elements and arguments, those of these, and so on
+-- the type and all types that are written in it: elements, what wrappers hold, those of these, and so on
 unfoldable mutual
   pub written_types : Ground → List Ground
   written_types (Tuple' shape row) = Tuple' shape row ∷ row_types row

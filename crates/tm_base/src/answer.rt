@@ -65,7 +65,8 @@ pub enum Why {
     TooLarge,
 }
 
-/// What a source reference and a target reference are asked before their pointees' values, in order.
+/// What a source reference and a target reference are asked before their pointees' values, in
+/// order.
 #[derive(Clone, Copy, PartialEq, Eq, Debug)]
 pub enum LocalRule {
     /// A shared reference isn't taken as `&mut`.
@@ -80,32 +81,35 @@ pub enum LocalRule {
     Lifetime,
 }
 
-/// A source reference that a target reference doesn't take, and at which depth of pointees that shows.
+/// A source reference that a target reference doesn't take, and at which depth of pointees that
+/// shows.
 #[derive(Clone, Copy, PartialEq, Eq, Debug)]
 pub struct RefFault {
     /// The reference type of the source.
     pub source: RefId,
     /// The reference type of the target.
     pub target: RefId,
-    /// How many pointees down the fault lies: 0 where a rule on the two references themselves fails,
-    /// and at most 4096 as a world has at most 64 reference types.
+    /// How many pointees down the fault lies: 0 where a rule on the two references themselves
+    /// fails, and at most 4096 as a world has at most 64 reference types.
     pub depth: u32,
 }
 
 /// The answer to a question.
 #[derive(Debug, Drop)]
 pub enum Answer {
-    /// Each value of the source is one of the target; or validity is assumed and the source has none.
+    /// Each value of the source is one of the target; or validity is assumed and the source has
+    /// none.
     Yes,
-    /// Validity is assumed, and this source word, fitted to the target's size, is valid for the target.
+    /// Validity is assumed, and this source word, fitted to the target's size, is valid for the
+    /// target.
     YesBecause(Word),
     /// One of the first three rules holds.
     No(Rule),
-    /// The rule; the place, in bytes from 0, of the first cell that no word of the target goes on with;
-    /// the source word, with as many cells as the source has bytes; and for the six rules on references,
-    /// and for no other, which references they are.
+    /// The rule; the place, in bytes from 0, of the first cell that no word of the target goes on
+    /// with; the source word, with as many cells as the source has bytes; and for the six rules on
+    /// references, and for no other, which references they are.
     NoAt(Rule, u32, Word, Option<RefFault>),
-    /// The side, the cause, and the type at fault that this side reaches. It is the target only where
-    /// the source has no type at fault.
+    /// The side, the cause, and the type at fault that this side reaches. It is the target only
+    /// where the source has no type at fault.
     Refused(Side, Why, Ground),
 }

@@ -95,19 +95,3 @@ impl Assume {
             && (self.validity || !other.validity)
     }
 }
-
-#[cfg(test)]
-mod tests {
-    use super::*;
-
-    #[test]
-    fn joins_and_takes_away(rt: HostRuntime) {
-        let both = Assume::ALIGNMENT.and(Assume::VALIDITY);
-        assert!(rt; both.alignment && both.validity && !both.lifetimes && !both.safety);
-        assert_eq!(rt; both.but_not(Assume::VALIDITY), Assume::ALIGNMENT);
-        assert!(rt; both.has(Assume::VALIDITY) && both.has(Assume::NOTHING));
-        assert!(rt;
-            !Assume::VALIDITY.has(both) && !both.has(Assume::SAFETY.and(Assume::LIFETIMES))
-        );
-    }
-}

@@ -1,6 +1,7 @@
 use crate::list::List;
 
-/// The number of a reference type: in a world the place in its list `refs`. Cells may name any number.
+/// The number of a reference type: in a world the place in its list `refs`. Cells may name any
+/// number.
 #[derive(Clone, Copy, PartialEq, Eq, Debug)]
 pub struct RefId(
     /// Counted from 0; in a world below the length of `refs`.

@@ -57,8 +57,8 @@ pub struct Field {
 pub struct Variant {
     /// The name as written; empty for a struct or a union.
     pub name: Text,
-    /// The discriminant: within the tag's type, or within `i64` without one, and no other variant's of
-    /// the enum; 0 for a struct or a union.
+    /// The discriminant: within the tag's type, or within `i64` without one, and no other variant's
+    /// of the enum; 0 for a struct or a union.
     pub value: i128,
     /// The fields as written; all variants of a definition have at most 256 together.
     pub fields: List<Field>,
@@ -86,8 +86,8 @@ pub struct NamedRow {
     pub regions: List<RegionId>,
     /// The types for the definition's type parameters, in order.
     pub args: List<Ground>,
-    /// The types of the fields, with regions and arguments put in: one list for each variant, and in it
-    /// one type for each field.
+    /// The types of the fields, with regions and arguments put in: one list for each variant, and
+    /// in it one type for each field.
     pub types: List<List<Ground>>,
 }
 

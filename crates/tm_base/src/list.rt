@@ -45,7 +45,8 @@ impl<T> List<T> {
         }
     }
 
-    /// Adds the item at the end. Where memory is wanting, the item is dropped and the list is as it was.
+    /// Adds the item at the end. Where memory is wanting, the item is dropped and the list is as it
+    /// was.
     pub fn add(&mut self, item: T) -> Result<(), Memory>
     where
         T: Drop,

@@ -19,7 +19,7 @@ pub enum Tree {
     Alt(List<Tree>),
     /// As many words of the part, one behind the other, as the number says.
     Repeat(u32, Boxed<Tree>),
-    /// What only a holder of the type's private fields may make: the part's words where private types
-    /// are kept, else none.
+    /// What only a holder of the type's private fields may make: the part's words where private
+    /// types are kept, else none.
     Private(Boxed<Tree>),
 }

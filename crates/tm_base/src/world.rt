@@ -12,16 +12,16 @@ use crate::text::Text;
 /// All that the answers to some questions rest on, with the questions.
 ///
 /// A [`crate::DefId`] is a place in `defs`, a [`crate::RegionId`] one in `regions`, a
-/// [`crate::NamedId`] one in `named`, and a [`crate::RefId`] one in `refs`. What always holds of a world
-/// stands below its lists.
+/// [`crate::NamedId`] one in `named`, and a [`crate::RefId`] one in `refs`. What always holds of a
+/// world stands below its lists.
 #[derive(Debug, Drop)]
 pub struct World {
     /// The machine that sizes and bytes are asked for.
     pub profile: Profile,
     /// The definitions, in the file's order; at most 256.
     pub defs: List<Def>,
-    /// The regions' names with their quotes: `'static`, and then the declared lifetimes in the file's
-    /// order; at most 17.
+    /// The regions' names with their quotes: `'static`, and then the declared lifetimes in the
+    /// file's order; at most 17.
     pub regions: List<Text>,
     /// Which region outlives which, as the items `outlives` say, in the file's order.
     pub bounds: List<Bound>,
@@ -46,37 +46,12 @@ pub struct World {
     pub ghost values_distinct: { AreValuesDistinct defs },
     // Each named type is one of a definition that there is, with a type for each of its fields.
     pub ghost rows_in_form: { IsTrue (are_rows_in_form defs named) },
-    // In each type that is written as an argument, a field, a pointee and in a question, numbers name
-    // rows, a `NonZero` holds an integer and a tuple has an element. No type holds itself by value, none
-    // is deeper by value than the limit, and none comes back to itself through elements, arguments and
-    // pointees.
+    // In each type that is written as an argument, a field, a pointee and in a question, numbers
+    // name rows, a `NonZero` holds an integer and a tuple has an element. No type holds itself by
+    // value, none is deeper by value than the limit, and none comes back to itself through
+    // elements, arguments and pointees.
     pub ghost types_in_form: { IsTrue (are_types_in_form profile defs named refs questions) },
     // No named type and no reference type stands twice.
     pub ghost named_distinct: { AreDistinct named },
     pub ghost refs_distinct: { AreDistinct refs },
-}
-
-#[cfg(test)]
-pub(crate) mod tests {
-    use super::*;
-    use std::alloc::Global;
-
-    /// A world without types and questions.
-    pub(crate) fn empty_world(alloc: Global) -> World {
-        World {
-            profile: Profile::Le64,
-            defs: List::new(alloc),
-            regions: List::new(alloc),
-            bounds: List::new(alloc),
-            named: List::new(alloc),
-            refs: List::new(alloc),
-            questions: List::new(alloc),
-        }
-    }
-
-    #[test]
-    fn an_empty_world_is_one(rt: HostRuntime) {
-        let world = empty_world(rt.alloc());
-        assert_eq!(rt; world.questions.len(), 0);
-    }
 }

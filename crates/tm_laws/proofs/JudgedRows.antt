@@ -14,7 +14,7 @@ use Rattle.tm_base.specs.Weight.{weight_of}
 use Rattle.tm_base.specs.Whole.{written_types, is_type_over}
 use Rattle.tm_base.specs.Worlds.{IsTypeOver}
 use Rattle.tm_base.proofs.JudgedLemmas.{IsJudged-from, Contains-none}
-use Rattle.tm_base.proofs.RowTypes.{repr_c, padded}
+use Rattle.tm_base.proofs.rows.Types.{repr_c, padded}
 use Rattle.tm_laws.specs.PlacesApart.{HasFieldsApart}
 use Rattle.tm_laws.proofs.JudgedPlaces.{judged-places}
 use Rattle.tm_laws.proofs.ListedLemmas.{IsIn, IsIn-from_Contains}

@@ -5,7 +5,7 @@ use Rattle.tm_base.specs.Faults.{fault_of, is_nullable}
 use Rattle.tm_base.specs.Layout.{layout_of}
 use Rattle.tm_base.specs.Parts.{some_part}
 use Rattle.tm_base.specs.Weight.{weight_of}
-use Rattle.tm_base.proofs.RowTypes.{repr_transparent, u8, u16, struct, two, padded, c_enum, message}
+use Rattle.tm_base.proofs.rows.Types.{repr_transparent, u8, u16, struct, two, padded, c_enum, message}
 use Rattle.tm_laws.specs.PlacesApart.{EachPart, EachWithin, HasNoFault, HasFieldsApart, field_layout, tag_size}
 use Rattle.tm_laws.proofs.PlacesTypes.{places-stand_apart}
 

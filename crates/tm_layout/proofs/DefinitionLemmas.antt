@@ -1,5 +1,5 @@
 -- What is known of a definition's type, from what is known of its fields.
-use Rattle.std.proofs.Common.{◌≡◌, ℕ, ◌≤◌, ◌<◌, max, nat_le, nat_lt, ◌==◌, refl, ap, ◌∙◌, subst, Bool, true, false, ◌||◌, ◌&&◌, not, IsTrue, None, List, [], ◌∷◌, length, arith}
+use Rattle.std.proofs.Common.{◌≡◌, ℕ, ◌≤◌, ◌<◌, max, nat_le, nat_lt, ◌==◌, refl, ap, ◌∙◌, subst, Bool, true, false, ◌||◌, ◌&&◌, not, IsTrue, List, [], ◌∷◌, length, arith}
 use Rattle.std.proofs.lemmas.Bool.Decides.{nat_tests}
 use Rattle.std.specs.List.{list_all}
 use Rattle.std.specs.Option.{is_some, is_none}

@@ -1,5 +1,5 @@
 -- What a type over a world reaches is over the world too.
-use Rattle.std.proofs.Common.{◌≡◌, ℕ, zero, suc, refl, sym, ◌∙◌, ap, subst, ⊎_elim, Bool, true, false, ◌&&◌, ◌||◌, not, IsTrue, List, [], ◌∷◌, ◌++◌, map, length, Option, Some, None, slice_get, Contains, arith}
+use Rattle.std.proofs.Common.{◌≡◌, ℕ, zero, suc, refl, sym, ◌∙◌, ap, subst, ⊎_elim, Bool, true, false, ◌&&◌, ◌||◌, not, List, [], ◌∷◌, ◌++◌, map, length, Some, None, slice_get, Contains, arith}
 use Rattle.std.specs.List.{list_all, flat_map, range_with_len}
 use Rattle.std.proofs.lemmas.List.Elements.{Contains-append_cases}
 use Rattle.std.proofs.lemmas.List.Folds.{list_all-append, list_all-map}
@@ -105,13 +105,16 @@ module _ (world : World) where
   over-parts g h = both_pass (formed g) (is_whole (part g)) h
 
   passes-parts : (g : Ground) → passes g ≡ true → (head g ≡ true) × (is_whole (part g) ≡ true)
-  passes-parts g h = both_pass (head g) (is_whole (part g)) (both_pass (head g && is_whole (part g)) (ends (spelled world.refs g)) h).0
+  passes-parts g h = both_pass (head g) (is_whole (part g)) (both_pass (head g && is_whole (part g)) (ends (spelled world.named world.refs g)) h).0
 
   written-over : (g : Ground) → list_all passes (written_types g) ≡ true → over g ≡ true
   written-over g h =
       over-from g
       (list_all-weaker passes head (λ k p. (passes-parts k p).0) (written_types g) h)
       (passes-parts g (list_all-in passes (written_types g) g h (written-first g))).1
+
+  abbrev arguments : List Ground
+  arguments = flat_map (λ row. row.args) world.named
 
   abbrev fields : List Ground
   fields = flat_map (λ row. flat_map (λ types. types) row.types) world.named
@@ -125,21 +128,22 @@ module _ (world : World) where
   abbrev names : List Ground
   names = map (λ k. Named (record { 0 = k })) (range_with_len 0 (length world.named))
 
-  all_written : list_all passes (names ++ flat_map written_types (fields ++ pointees ++ asked)) ≡ true
+  all_written : list_all passes (names ++ flat_map written_types (arguments ++ fields ++ pointees ++ asked)) ≡ true
   unfolding are_types_in_form
   all_written = world.types_in_form
 
-  all_over : list_all over (fields ++ pointees ++ asked) ≡ true
+  all_over : list_all over (arguments ++ fields ++ pointees ++ asked) ≡ true
   all_over =
-      list_all-weaker (λ g. list_all passes (written_types g)) over written-over (fields ++ pointees ++ asked)
-      (sym (list_all-flat_map passes written_types (fields ++ pointees ++ asked))
+      list_all-weaker (λ g. list_all passes (written_types g)) over written-over (arguments ++ fields ++ pointees ++ asked)
+      (sym (list_all-flat_map passes written_types (arguments ++ fields ++ pointees ++ asked))
       ∙ (both_pass (list_all passes names) _ (sym (list_all-append passes names _) ∙ all_written)).1)
 
   rows_over : (list_all over fields ≡ true) × (list_all over pointees ≡ true)
   rows_over =
-      both_pass (list_all over fields) (list_all over pointees)
-      (sym (list_all-append over fields pointees)
-      ∙ (both_pass (list_all over (fields ++ pointees)) (list_all over asked) (sym (list_all-append over (fields ++ pointees) asked) ∙ all_over)).0)
+      let unasked = both_pass (list_all over (arguments ++ fields ++ pointees)) (list_all over asked) (sym (list_all-append over (arguments ++ fields ++ pointees) asked) ∙ all_over) in
+      let parts = both_pass (list_all over (arguments ++ fields)) (list_all over pointees) (sym (list_all-append over (arguments ++ fields) pointees) ∙ unasked.0) in
+      let held = both_pass (list_all over arguments) (list_all over fields) (sym (list_all-append over arguments fields) ∙ parts.0) in
+      (held.1, parts.1)
 
   -- the types of a named type's fields are over the world
   field-over : (k : ℕ) (h : Ground) → Contains (row_parts (slice_get world.named k)) h → over h ≡ true

@@ -1,4 +1,4 @@
--- A type has a cause for which it has no layout exactly where it is or holds by value a type at fault.
+-- A cause for which a type has no layout is known exactly where it is or holds by value a type that has a cause.
 use Rattle.std.proofs.Common.{◌≡◌, refl, sym, ap, ◌∙◌, false, ◌||◌, Option, Some, None}
 use Rattle.std.specs.Option.{is_some, option_or}
 use Rattle.tm_base.specs.declared.answer.Why.{Why}
@@ -25,9 +25,9 @@ pub none-second : (a b : Option Why) → or_else a b ≡ None → b ≡ None
 none-second None b e = e
 none-second (Some why) b e = cc
 
-none-second-of : (a : Option Why) → a ≡ or_else a None
-none-second-of None = refl
-none-second-of (Some why) = refl
+or_else-none : (a : Option Why) → a ≡ or_else a None
+or_else-none None = refl
+or_else-none (Some why) = refl
 
 -- where it's known for which cause the parts of a type have no layout
 refused-from : (t : Expanded) (below : Option Why) → refusal_of t ≡ or_else (fault_of t) below → is_some below ≡ some_part has_cause t → is_some (refusal_of t) ≡ has_no_layout t
@@ -38,16 +38,16 @@ mutual
   unfolding refusal_of some_part
 
   pub refused-exactly : (t : Expanded) → is_some (refusal_of t) ≡ has_no_layout t
-  refused-exactly too_deep = refused-from too_deep None (none-second-of (fault_of too_deep)) refl
-  refused-exactly (prim profile p) = refused-from (prim profile p) None (none-second-of (fault_of (prim profile p))) refl
-  refused-exactly never = refused-from never None (none-second-of (fault_of never)) refl
-  refused-exactly unit = refused-from unit None (none-second-of (fault_of unit)) refl
+  refused-exactly too_deep = refused-from too_deep None (or_else-none (fault_of too_deep)) refl
+  refused-exactly (prim profile p) = refused-from (prim profile p) None (or_else-none (fault_of (prim profile p))) refl
+  refused-exactly never = refused-from never None (or_else-none (fault_of never)) refl
+  refused-exactly unit = refused-from unit None (or_else-none (fault_of unit)) refl
   refused-exactly (tuple members) = refused-from (tuple members) (field_refusal members) refl (fields-refused members)
   refused-exactly (array t n) = refused-from (array t n) (refusal_of t) refl (refused-exactly t)
-  refused-exactly (nonzero profile p) = refused-from (nonzero profile p) None (none-second-of (fault_of (nonzero profile p))) refl
-  refused-exactly phantom = refused-from phantom None (none-second-of (fault_of phantom)) refl
+  refused-exactly (nonzero profile p) = refused-from (nonzero profile p) None (or_else-none (fault_of (nonzero profile p))) refl
+  refused-exactly phantom = refused-from phantom None (or_else-none (fault_of phantom)) refl
   refused-exactly (wrap w t) = refused-from (wrap w t) (refusal_of t) refl (refused-exactly t)
-  refused-exactly (ref profile r) = refused-from (ref profile r) None (none-second-of (fault_of (ref profile r))) refl
+  refused-exactly (ref profile r) = refused-from (ref profile r) None (or_else-none (fault_of (ref profile r))) refl
   refused-exactly (named profile id kind repr variants) =
       refused-from (named profile id kind repr variants) (variant_refusal variants) refl (variants-refused variants)
 

@@ -3,6 +3,7 @@ use Rattle.std.specs.Prelude.{◌≡◌, ℕ, Bool, true, false, Option, None, S
 use Rattle.tm_base.specs.declared.answer.Why.{Why}
 use Rattle.tm_base.specs.declared.ground.Ground.{Ground, Named}
 use Rattle.tm_base.specs.declared.ground.NamedId.{NamedId}
+use Rattle.tm_base.specs.declared.profile.Profile.{Profile}
 use Rattle.tm_base.specs.Expanded.{Expanded, too_deep, named}
 use Rattle.tm_base.specs.Faults.{has_no_layout}
 use Rattle.tm_base.specs.Layout.{align_of, size_of}
@@ -53,6 +54,11 @@ lacks_row rows _ = false
 -- the type is whole, and the row of each named type that it is or holds by value is made
 pub record IsKnown (tables : Tables) (rows : List (Option RowFacts)) (g : Ground) : Type 0 where
   pub none_lacks : some_within (lacks_row rows) (expanded_in tables g) ≡ false
+
+-- what holds of a known type, over each world of the profile for which the rows are right
+abbrev pub OfKnown : Profile → List (Option RowFacts) → Ground → (Expanded → Type 0) → Type 0
+OfKnown profile rows g Fact =
+    (tables : Tables) → profile ≡ tables.profile → AreRowsOf tables rows → IsKnown tables rows g → Fact (expanded_in tables g)
 
 -- a fact of each item
 abbrev pub EachIs : {X : Type 0} → (X → Type 0) → List X → Type 0

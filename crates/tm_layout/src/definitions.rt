@@ -1,10 +1,8 @@
 ghost use Rattle.std.specs.Prelude.{◌≡◌, IsTrue};
-ghost use Rattle.tm_base.specs.Expanded.{Variants, named};
 ghost use Rattle.tm_base.specs.Layout.{named_layout};
 ghost use Rattle.tm_base.specs.Whole.{is_def_in_form};
-ghost use Rattle.tm_base.specs.declared.ground.NamedId.{NamedId};
 ghost use Rattle.tm_layout.specs.Defined.{nullable_in};
-ghost use Rattle.tm_layout.specs.Known.{AreVariantFacts, AreVariantsFor, IsFactsOf};
+ghost use Rattle.tm_layout.specs.Known.{IsFactsOf, OfDefined};
 ghost use Rattle.tm_layout.specs.Reckoned.{IsCapped, variant_layouts_in};
 
 use crate::enums::enum_layout;
@@ -43,7 +41,7 @@ fn is_nullable(kind: Kind, repr: Repr, field: bool) -> bool
 /// What is known of a named type, by its definition and what is known of the fields of each variant.
 pub fn defined(profile: Profile, def: &Def, parts: &[List<Facts>]) -> Facts
     requires { IsTrue (is_def_in_form profile def.now) }
-    ensures { (id : NamedId) (variants : Variants) → AreVariantsFor def.now.variants variants → AreVariantFacts variants parts.now → IsFactsOf (named profile id def.now.kind def.now.repr variants) result }
+    ensures { OfDefined profile def.now parts.now (λ t. IsFactsOf t result) }
 {
     let fields = together(parts);
     let layout = layout(profile, def.kind, def.repr, parts);

@@ -1,14 +1,11 @@
 //! The row of a named type, from the rows of the named types that it holds by value.
-ghost use Rattle.std.specs.Prelude.{◌≡◌, IfOk, IsTrue, Some, slice_get};
-ghost use Rattle.tm_base.specs.declared.ground.Ground.{Named};
-ghost use Rattle.tm_base.specs.declared.ground.NamedId.{NamedId};
-ghost use Rattle.tm_base.specs.Expanded.{Variants, named};
-ghost use Rattle.tm_base.specs.Tables.{Tables, expanded_in};
+ghost use Rattle.std.specs.Prelude.{◌≡◌, IfOk, IsTrue, slice_get};
+ghost use Rattle.tm_base.specs.Tables.{Tables};
 ghost use Rattle.tm_base.specs.Whole.{is_def_in_form, is_row_of};
 ghost use Rattle.tm_base.specs.Worlds.{tables_of};
-ghost use Rattle.tm_layout.specs.Known.{AreVariantFacts, AreVariantsFor};
+ghost use Rattle.tm_layout.specs.Known.{OfDefined};
 ghost use Rattle.tm_layout.specs.Made.{AreRowsOf, EachIs, IsKnown, IsRowOf};
-ghost use Rattle.tm_layout.specs.Making.{AreFactsFor, AreKnown, EachMatches, IsWrittenOut};
+ghost use Rattle.tm_layout.specs.Making.{AreFactsFor, AreKnown, EachMatches, OfRow};
 
 use crate::facts::{Facts, defined, places};
 use crate::row::RowFacts;
@@ -27,9 +24,7 @@ fn facts_of_fields(
 {
     let mut facts = List::new(alloc);
     for g in types {
-        let Ok(()) = facts.push(facts_of(profile, rows, g)) else {
-            return Err(Memory);
-        };
+        facts.add(facts_of(profile, rows, g))?;
     }
     Ok(facts)
 }
@@ -46,9 +41,7 @@ fn facts_of_variants(
     let mut facts = List::new(alloc);
     for types in variants {
         let fields = facts_of_fields(alloc, profile, rows, types.as_slice())?;
-        let Ok(()) = facts.push(fields) else {
-            return Err(Memory);
-        };
+        facts.add(fields)?;
     }
     Ok(facts)
 }
@@ -61,7 +54,7 @@ fn row_of_def(
     parts: &[List<Facts>],
 ) -> Result<RowFacts, Memory>
     requires { IsTrue (is_def_in_form profile def.now) }
-    ensures { IfOk result (λ row. (id : NamedId) (variants : Variants) → AreVariantsFor def.now.variants variants → AreVariantFacts variants parts.now → IsRowOf (named profile id def.now.kind def.now.repr variants) row) }
+    ensures { IfOk result (λ row. OfDefined profile def.now parts.now (λ t. IsRowOf t row)) }
 {
     let places = places(alloc, profile, def, parts)?;
     let facts = defined(profile, def, parts);
@@ -75,8 +68,10 @@ pub fn row_of(
     rows: &[Option<RowFacts>],
     row: &NamedRow,
 ) -> Result<RowFacts, Memory>
-    requires { IsTrue (is_row_of (slice_get world.now.defs row.now.def.0) row.now) }
-    ensures { IfOk result (λ made. (id : NamedId) → slice_get world.now.named id.0 ≡ Some row.now → IsWrittenOut (tables_of world.now) (Named id) → AreRowsOf (tables_of world.now) rows.now → AreKnown (tables_of world.now) rows.now row.now.types → IsRowOf (expanded_in (tables_of world.now) (Named id)) made) }
+    requires in_form { IsTrue (is_row_of (slice_get world.now.defs row.now.def.0) row.now) }
+    requires rows_are { AreRowsOf (tables_of world.now) rows.now }
+    requires known { AreKnown (tables_of world.now) rows.now row.now.types }
+    ensures { IfOk result (λ made. OfRow (tables_of world.now) row.now (λ t. IsRowOf t made)) }
 {
     let parts = facts_of_variants(alloc, world.profile, rows, row.types.as_slice())?;
     match world.defs.get(row.def.0 as usize) {

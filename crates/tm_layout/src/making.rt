@@ -25,9 +25,7 @@ fn no_rows(alloc: Global, count: usize) -> Result<Vec<Option<RowFacts>>, Memory>
 {
     let mut rows = Vec::new(alloc);
     for _ in 0..count {
-        let Ok(()) = rows.push(None) else {
-            return Err(Memory);
-        };
+        rows.push(None)?;
     }
     Ok(rows)
 }

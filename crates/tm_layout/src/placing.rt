@@ -1,11 +1,9 @@
 ghost use Rattle.std.specs.Prelude.{◌≡◌, ◌+◌, IfOk, IsTrue, None, map};
-ghost use Rattle.tm_base.specs.Expanded.{Variants, named};
 ghost use Rattle.tm_base.specs.Layout.{places};
 ghost use Rattle.tm_base.specs.Places.{at_front, places_of};
 ghost use Rattle.tm_base.specs.Whole.{is_def_in_form};
-ghost use Rattle.tm_base.specs.declared.ground.NamedId.{NamedId};
 ghost use Rattle.tm_layout.specs.Capped.{capped};
-ghost use Rattle.tm_layout.specs.Known.{AreVariantFacts, AreVariantsFor};
+ghost use Rattle.tm_layout.specs.Known.{OfDefined};
 ghost use Rattle.tm_layout.specs.Placed.{variant_places_in};
 ghost use Rattle.tm_layout.specs.Reckoned.{layouts_in, variant_layouts_in};
 ghost use Rattle.tm_layout.specs.Refusals.{refusal_of};
@@ -31,9 +29,7 @@ fn in_order(
     for field in fields {
         let layout = layout_in(field);
         let place = place_at(packed, end, layout);
-        let Ok(()) = found.push(begin.saturating_add(place)) else {
-            return Err(Memory);
-        };
+        found.add(begin.saturating_add(place))?;
         end = place.saturating_add(layout.size);
     }
     Ok(found)
@@ -45,9 +41,7 @@ fn at_front(alloc: Global, fields: &[Facts]) -> Result<List<u32>, Memory>
 {
     let mut found = List::new(alloc);
     for _ in fields {
-        let Ok(()) = found.push(0) else {
-            return Err(Memory);
-        };
+        found.add(0)?;
     }
     Ok(found)
 }
@@ -86,9 +80,7 @@ fn all_places(
     let mut found = List::new(alloc);
     for fields in parts {
         let places = variant_places(alloc, profile, kind, repr, begin, fields.as_slice())?;
-        let Ok(()) = found.push(places) else {
-            return Err(Memory);
-        };
+        found.add(places)?;
     }
     Ok(found)
 }
@@ -102,7 +94,7 @@ pub fn places(
     parts: &[List<Facts>],
 ) -> Result<List<List<u32>>, Memory>
     requires { IsTrue (is_def_in_form profile def.now) }
-    ensures { IfOk result (λ found. (id : NamedId) (variants : Variants) → AreVariantsFor def.now.variants variants → AreVariantFacts variants parts.now → refusal_of (named profile id def.now.kind def.now.repr variants) ≡ None → found ≡ places_of (named profile id def.now.kind def.now.repr variants)) }
+    ensures { IfOk result (λ found. OfDefined profile def.now parts.now (λ t. refusal_of t ≡ None → found ≡ places_of t)) }
 {
     let begin = fields_begin(profile, def.kind, def.repr, parts);
     all_places(alloc, profile, def.kind, def.repr, begin, parts)

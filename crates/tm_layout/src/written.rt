@@ -4,7 +4,7 @@ ghost use Rattle.tm_base.specs.declared.ground.Ground.{Named};
 ghost use Rattle.tm_base.specs.Expanded.{elements, tuple};
 ghost use Rattle.tm_base.specs.Tables.{Tables, expanded_in};
 ghost use Rattle.tm_layout.specs.Known.{IsFactsOf};
-ghost use Rattle.tm_layout.specs.Made.{AreRowsOf, EachIs, IsKnown};
+ghost use Rattle.tm_layout.specs.Made.{AreRowsOf, EachIs, IsKnown, OfKnown};
 
 use crate::facts::{Facts, array, empty, nonzero, primitive, reference, tuple, wrapped};
 use crate::row::{RowFacts, row_at};
@@ -23,7 +23,7 @@ fn facts_of_named(rows: &[Option<RowFacts>], id: NamedId) -> Facts
 /// The facts of a type, where each named type that it holds by value has its row.
 #[cycle(written)]
 pub fn facts_of(profile: Profile, rows: &[Option<RowFacts>], g: &Ground) -> Facts
-    ensures { (tables : Tables) → profile ≡ tables.profile → AreRowsOf tables rows.now → IsKnown tables rows.now g.now → IsFactsOf (expanded_in tables g.now) result }
+    ensures { OfKnown profile rows.now g.now (λ t. IsFactsOf t result) }
 {
     match g {
         Ground::Prim(p) => primitive(profile, *p),

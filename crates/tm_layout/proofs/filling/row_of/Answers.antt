@@ -21,9 +21,9 @@ returns c =
     let def = c.in-Some.def.now in
     let row = c.args.row.now in
     let part = expanded_in tables in
-    let types : has_its_types def.variants row.types ≡ true = ap (λ found. is_row_of found row) c.in-Some.ensures.item ∙ c.requires in
-    IfOk-weaker c.row_of_def.result _ _ (λ made is_row id at whole are known.
-    let facts = c.in_ok-parts.ensures tables refl are (subst (AreKnown tables c.args.rows.now) (sym c.as_slice.ensures) known) in
+    let types : has_its_types def.variants row.types ≡ true = ap (λ found. is_row_of found row) c.in-Some.ensures.item ∙ c.requires.in_form in
+    IfOk-weaker c.row_of_def.result _ _ (λ made is_row id at whole.
+    let facts = c.in_ok-parts.ensures tables refl c.requires.rows_are (subst (AreKnown tables c.args.rows.now) (sym c.as_slice.ensures) c.requires.known) in
     let facts_of_types = subst (λ types. EachMatches (AreFactsFor tables) types c.in_ok-parts.parts) c.as_slice.ensures facts in
     let variants = variants-facts tables def.variants row.types c.in_ok-parts.parts types facts_of_types in
     let made_of = is_row id (variants_of part def.variants row.types) (variants-for tables def.variants row.types types) (subst (AreVariantFacts (variants_of part def.variants row.types)) (sym c.as_slice-in-Some.ensures) variants) in

@@ -32,7 +32,11 @@ make_row-make_variants-requires t c =
     search rules
 
 pub make_row-row_of-requires : goal.make_row-row_of-requires
-make_row-row_of-requires t c = row-in_form c.args.world.now c.args.id.0 c.in-Some.row.now (sym c.in-Some.ensures.item)
+make_row-row_of-requires t c = record {
+  in_form = row-in_form c.args.world.now c.args.id.0 c.in-Some.row.now (sym c.in-Some.ensures.item);
+  rows_are = c.in_ok-make_variants.ensures.grown.closed.right;
+  known = subst (AreKnown (tables_of c.args.world.now) c.make_variants.new.rows) c.as_slice.ensures c.in_ok-make_variants.ensures.known;
+}
 
 pub make_row-returns-clause-grown : goal.make_row-returns-clause-grown
 make_row-returns-clause-grown t c =
@@ -43,7 +47,7 @@ make_row-returns-clause-grown t c =
     let at = sym c.in-Some.ensures.item in
     let below : c.args.id.0 < length rows = put-below tables rows c.args.id row first.closed at in
     let known = subst (AreKnown tables rows) c.as_slice.ensures c.in_ok-make_variants.ensures.known in
-    let right = c.in_ok-made.ensures c.args.id at c.requires.whole first.closed.right known in
+    let right = c.in_ok-made.ensures c.args.id at c.requires.whole in
     subst (IsGrown tables c.args.rows.now) (sym c.put.ensures)
     (grown-more tables c.args.rows.now rows _ first (put-grown tables rows c.args.id row c.in_ok-made.made below first.closed c.requires.whole at (row-in_form c.args.world.now c.args.id.0 row at) known right))
 
@@ -56,7 +60,7 @@ make_row-returns-clause-known t c =
     let at = sym c.in-Some.ensures.item in
     let below : c.args.id.0 < length rows = put-below tables rows c.args.id row first.closed at in
     let known = subst (AreKnown tables rows) c.as_slice.ensures c.in_ok-make_variants.ensures.known in
-    let right = c.in_ok-made.ensures c.args.id at c.requires.whole first.closed.right known in
+    let right = c.in_ok-made.ensures c.args.id at c.requires.whole in
     subst (λ rows. IsKnown tables rows (Named c.args.id)) (sym c.put.ensures)
     (put-known tables rows c.args.id row c.in_ok-made.made below first.closed c.requires.whole at (row-in_form c.args.world.now c.args.id.0 row at) known right)
 

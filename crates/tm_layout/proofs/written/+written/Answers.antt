@@ -39,7 +39,9 @@ facts_of-returns-in-Array t c = λ tables same are known.
     (c.array.ensures (expanded_in tables c.get.result.now) (c.facts_of.ensures tables same are (known-Array tables c.args.rows.now c.args.g.now c.get.result.now c.in-Array.length known out)))
 
 pub facts_of-returns-in-Named : goal.facts_of-returns-in-Named
-facts_of-returns-in-Named t c = λ tables same are known. c.facts_of_named.ensures tables are (subst (IsKnown tables c.args.rows.now) c.in-Named.is known)
+facts_of-returns-in-Named t c = λ tables same are known.
+    subst (λ g. IsFactsOf (expanded_in tables g) c.facts_of_named.result) (sym c.in-Named.is)
+    (c.facts_of_named.ensures tables are (subst (IsKnown tables c.args.rows.now) c.in-Named.is known))
 
 pub facts_of-returns-in-NonZero : goal.facts_of-returns-in-NonZero
 facts_of-returns-in-NonZero t c = λ tables same are known.

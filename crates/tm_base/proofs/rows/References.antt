@@ -21,8 +21,8 @@ use Rattle.tm_base.specs.Valid.{Valid}
 use Rattle.tm_base.specs.ValidTest.{first_ref}
 use Rattle.tm_base.specs.Weight.{weight_of}
 use Rattle.tm_base.proofs.JudgedLemmas.{IsJudged-from, Contains-none, Contains-one}
-use Rattle.tm_base.proofs.RowCasts.{nothing, zero_byte, two_byte, two_is_no_bool}
-use Rattle.tm_base.proofs.RowTypes.{u8, the_bool, reference}
+use Rattle.tm_base.proofs.rows.Casts.{nothing, zero_byte, two_byte, two_is_no_bool}
+use Rattle.tm_base.proofs.rows.Types.{u8, the_bool, reference}
 
 abbrev pub the_region : RegionId
 the_region = record { 0 = 1 }

@@ -11,7 +11,7 @@ use Rattle.tm_base.specs.declared.ground.Wrapper.TheVariants.{Option as option}
 use Rattle.tm_base.specs.Spelled.{spell, spelled_within}
 use Rattle.tm_base.specs.Tables.{Tables}
 use Rattle.tm_base.specs.Texts.{text_of, spelled_text}
-use Rattle.tm_base.proofs.RowTypes.{repr_c}
+use Rattle.tm_base.proofs.rows.Types.{repr_c}
 
 -- The named type 0 is `P<'a, 'static>`, 1 is `P<u8>`, 2 is `P<'a, P<u8>, &'a mut P<'a, 'static>>`; the
 -- reference 0 is `&'a mut P<'a, 'static>`.

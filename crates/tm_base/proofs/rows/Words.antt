@@ -9,7 +9,7 @@ use Rattle.tm_base.specs.Expanded.{prim, never, unit, array, nonzero, wrap, no_f
 use Rattle.tm_base.specs.Layout.{layout_of}
 use Rattle.tm_base.specs.Orders.{list_less}
 use Rattle.tm_base.specs.ValidTest.{valid_test}
-use Rattle.tm_base.proofs.RowTypes.{repr_c, the_bool, the_char, u8, u16, bytes, reference, option, struct, enum, two, padded, closed, only_value, either_bit, c_enum, packed_pair, message, port, is_source_word, fits}
+use Rattle.tm_base.proofs.rows.Types.{repr_c, the_bool, the_char, u8, u16, bytes, reference, option, struct, enum, two, padded, closed, only_value, either_bit, c_enum, packed_pair, message, port, is_source_word, fits}
 
 -- Padding is uninitialised or not, and not taken as 00.
 padded-word : is_source_word padded (Byte 0 ∷ Uninit ∷ Byte 0 ∷ Byte 0 ∷ []) ≡ true

@@ -17,8 +17,8 @@ use Rattle.tm_base.specs.Tables.{Tables, expanded_in, pointee_in}
 use Rattle.tm_base.specs.Transmutes.{Transmutes}
 use Rattle.tm_base.specs.Weight.{weight_of}
 use Rattle.tm_base.proofs.JudgedLemmas.{IsJudged-from, Contains-none, Contains-one}
-use Rattle.tm_base.proofs.RowCasts.{nothing}
-use Rattle.tm_base.proofs.RowReferences.{ref_to, longer_first, outlives_forward, outlives_reversed, taken_ref, ref_taken}
+use Rattle.tm_base.proofs.rows.Casts.{nothing}
+use Rattle.tm_base.proofs.rows.References.{ref_to, longer_first, outlives_forward, outlives_reversed, taken_ref, ref_taken}
 
 abbrev longer : RegionId
 longer = record { 0 = 1 }

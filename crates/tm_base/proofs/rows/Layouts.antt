@@ -3,7 +3,7 @@ use Rattle.std.proofs.Common.{◌≡◌, refl, true, None, Some, [], ◌∷◌, 
 use Rattle.tm_base.specs.Expanded.{array, no_fields, no_variants, variant}
 use Rattle.tm_base.specs.Layout.{size_of, align_of, layout_of}
 use Rattle.tm_base.specs.Places.{place_of, places_of}
-use Rattle.tm_base.proofs.RowTypes.{repr_c, repr_u8, repr_align, u8, u16, u32, bytes, reference, option, struct, union, enum, one, two, padded, only_value, either_bit, c_enum, packed_pair, with_reference, header, message, port}
+use Rattle.tm_base.proofs.rows.Types.{repr_c, repr_u8, repr_align, u8, u16, u32, bytes, reference, option, struct, union, enum, one, two, padded, only_value, either_bit, c_enum, packed_pair, with_reference, header, message, port}
 
 padded-size : size_of padded ≡ 4
 unfolding layout_of

@@ -19,9 +19,9 @@ use Rattle.tm_base.specs.Transmutes.{Transmutes, Same}
 use Rattle.tm_base.specs.Valid.{Valid}
 use Rattle.tm_base.specs.Weight.{weight_of}
 use Rattle.tm_base.proofs.JudgedLemmas.{IsJudged-from, Contains-none, Contains-one, fit-same}
-use Rattle.tm_base.proofs.RowCasts.{nothing}
-use Rattle.tm_base.proofs.RowReferences.{byte_to_bool, the_region, ref_to, shared}
-use Rattle.tm_base.proofs.RowTypes.{repr_c, u8, the_bool, reference, struct, two}
+use Rattle.tm_base.proofs.rows.Casts.{nothing}
+use Rattle.tm_base.proofs.rows.References.{byte_to_bool, the_region, ref_to, shared}
+use Rattle.tm_base.proofs.rows.Types.{repr_c, u8, the_bool, reference, struct, two}
 
 -- 0 is &mut bool, and 1 is &mut u8
 abbrev written_through : Tables

@@ -7,7 +7,7 @@ use Rattle.tm_base.specs.Faults.{fault_of, has_cause, is_nullable}
 use Rattle.tm_base.specs.Layout.{layout_of}
 use Rattle.tm_base.specs.Parts.{some_part, has_interior, some_within, has_alternatives}
 use Rattle.tm_base.specs.Weight.{weight_of}
-use Rattle.tm_base.proofs.RowTypes.{repr_none, repr_c, repr_packed, repr_align, repr_transparent, the_bool, u8, u32, bytes, reference, option, struct, union, enum, one, two, only_value, c_enum, past_i32, header, message, port}
+use Rattle.tm_base.proofs.rows.Types.{repr_none, repr_c, repr_packed, repr_align, repr_transparent, the_bool, u8, u32, bytes, reference, option, struct, union, enum, one, two, only_value, c_enum, past_i32, header, message, port}
 
 -- `Option` is listed where its argument has no word of bytes 00
 option_of_bool : fault_of (option the_bool) ≡ Some OptionNotListed

@@ -24,9 +24,9 @@ use Rattle.tm_base.specs.Valid.{Valid, PrimValid}
 use Rattle.tm_base.specs.Viable.{Viable}
 use Rattle.tm_base.specs.Weight.{weight_of}
 use Rattle.tm_base.proofs.JudgedLemmas.{IsJudged-from, Contains-none}
-use Rattle.tm_base.proofs.RowCasts.{nothing, two_byte, zero_byte}
-use Rattle.tm_base.proofs.RowReferences.{byte_to_bool}
-use Rattle.tm_base.proofs.RowTypes.{u8, the_bool}
+use Rattle.tm_base.proofs.rows.Casts.{nothing, two_byte, zero_byte}
+use Rattle.tm_base.proofs.rows.References.{byte_to_bool}
+use Rattle.tm_base.proofs.rows.Types.{u8, the_bool}
 
 abbrev no_tables : Tables
 no_tables = record { profile = Le64; defs = []; regions = []; bounds = []; named = []; refs = [] }

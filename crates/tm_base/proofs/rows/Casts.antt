@@ -12,7 +12,7 @@ use Rattle.tm_base.specs.Orders.{list_less}
 use Rattle.tm_base.specs.Transmutes.{Transmutes, Fits, IsSourceWord, holds}
 use Rattle.tm_base.specs.Valid.{Valid, PrimValid}
 use Rattle.tm_base.specs.ValidTest.{valid_test}
-use Rattle.tm_base.proofs.RowTypes.{the_bool, u8, closed, either_bit}
+use Rattle.tm_base.proofs.rows.Types.{the_bool, u8, closed, either_bit}
 use Rattle.tm_base.proofs.ValidTestLemmas.{valid_test-exact}
 
 abbrev pub nothing : Assume

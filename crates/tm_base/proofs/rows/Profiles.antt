@@ -12,7 +12,7 @@ use Rattle.tm_base.specs.Layout.{layout_of}
 use Rattle.tm_base.specs.Orders.{list_less}
 use Rattle.tm_base.specs.Profiles.{number_of}
 use Rattle.tm_base.specs.ValidTest.{valid_test}
-use Rattle.tm_base.proofs.RowTypes.{the_id, is_source_word}
+use Rattle.tm_base.proofs.rows.Types.{the_id, is_source_word}
 
 -- ---- byte order: 00 00 00 41 is the number of `A` with the highest byte first, and no `char` with the lowest
 
