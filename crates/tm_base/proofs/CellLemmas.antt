@@ -1,5 +1,5 @@
 -- How many cells a reference has, and when a target reference may hold itself.
-use Rattle.std.proofs.Common.{◌≡◌, ℕ, ◌+◌, ◌^◌, length, Bool, true, false, ◌||◌, ◌==◌, IsTrue, ◌↔◌, ◌⊎◌, inl, inr, ⊎_elim, refl}
+use Rattle.std.proofs.Common.{◌≡◌, ℕ, length, Bool, ◌==◌, ◌↔◌}
 use Rattle.std.proofs.lemmas.Bool.Decides.{Decides-or, Decides-eqb}
 use Rattle.std.proofs.lemmas.List.FromFn.{length-map-range_with_len}
 use Rattle.tm_base.specs.declared.cell.Cell.TheVariants.{Ptr}

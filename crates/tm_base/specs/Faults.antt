@@ -7,7 +7,7 @@ use Rattle.tm_base.specs.declared.answer.Why.TheVariants.{NoRepr, Tuple, OptionN
 use Rattle.tm_base.specs.declared.definition.Kind.{Kind}
 use Rattle.tm_base.specs.declared.definition.Kind.TheVariants.{Struct, Union, Enum}
 use Rattle.tm_base.specs.declared.definition.Repr.{Repr}
-use Rattle.tm_base.specs.Expanded.{Expanded, Fields, Variants, tuple, array, nonzero, wrap, ref, named, no_fields, field, no_variants, variant}
+use Rattle.tm_base.specs.Expanded.{Expanded, Fields, Variants, tuple, nonzero, wrap, ref, named, no_fields, field, no_variants, variant}
 use Rattle.tm_base.specs.Integers.{fits_signed}
 use Rattle.tm_base.specs.Layout.{Layout, is_trivial, only, variant_layouts}
 use Rattle.tm_base.specs.Parts.{some_part, some_within, is_option}

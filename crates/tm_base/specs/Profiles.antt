@@ -1,7 +1,7 @@
 -- What differs between the targets that are answered for: how many bytes `usize` and references have, and
 -- which byte of a number comes first. The Rust Reference, "Type layout", leaves both to the target; which
 -- targets there are is this project's.
-use Rattle.std.specs.Prelude.{ℕ, List, reverse}
+use Rattle.std.specs.Prelude.{ℕ, reverse}
 use Rattle.tm_base.specs.declared.profile.Profile.{Profile}
 use Rattle.tm_base.specs.declared.profile.Profile.TheVariants.{Le64, Be64, Le32}
 use Rattle.tm_base.specs.Cells.{Word, little_endian}

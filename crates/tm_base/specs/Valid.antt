@@ -1,10 +1,9 @@
 -- Which words are values of a type. The Rust Reference, "Behavior considered undefined", "Invalid
 -- values", and the pages of std on `bool`, `char`, `NonZero`, `MaybeUninit`, `Option` ("Representation")
 -- and the other wrappers. What unions, padding, private fields and references take is this project's.
-use Rattle.std.specs.Prelude.{◌≡◌, ℕ, ◌+◌, ◌-◌, ◌^◌, ◌<◌, ◌≤◌, ◌⊎◌, Bool, true, ◌&&◌, ◌||◌, IsTrue, if◌then◌else◌, ℤ, pos, negsuc, Option, None, [], ◌++◌, length, replicate, All}
+use Rattle.std.specs.Prelude.{◌≡◌, ℕ, ◌+◌, ◌-◌, ◌^◌, ◌<◌, ◌≤◌, ◌⊎◌, Bool, true, ◌&&◌, ◌||◌, IsTrue, ℤ, pos, negsuc, Option, None, [], ◌++◌, length, replicate, All}
 use Rattle.tm_base.specs.declared.cell.Cell.TheVariants.{Byte}
 use Rattle.tm_base.specs.declared.definition.Kind.TheVariants.{Struct, Union, Enum}
-use Rattle.tm_base.specs.declared.definition.Repr.{Repr}
 use Rattle.tm_base.specs.declared.ground.Primitive.{Primitive}
 use Rattle.tm_base.specs.declared.ground.Primitive.TheVariants.{Bool as bool', Char}
 use Rattle.tm_base.specs.declared.ground.Wrapper.{Wrapper}
