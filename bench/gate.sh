@@ -7,7 +7,8 @@
 set -u
 top=$(cd "$(dirname "${BASH_SOURCE[0]}")/.." && pwd)
 work=$(mktemp -d)
-trap 'kill "${gate:-}" 2>/dev/null; rm -rf "$work"' EXIT
+gate=
+trap '[ -z "$gate" ] || kill "$gate"; rm -rf "$work"' EXIT
 ticks=$(getconf CLK_TCK)
 
 # Of each prover, by its number and the time it began: its processor time in ticks, and its crate and kind.
