@@ -1,14 +1,4 @@
 pub mod SetLemmas
-pub mod ShapeLemmas
 pub mod AmongLemmas
-pub mod GrowLemmas
-pub mod LooseLemmas
-pub mod MakeLemmas
-pub mod CellLemmas
-pub mod CaseLemmas
-pub mod JoinedLemmas
 pub mod StepLemmas
-pub mod AutomatonLemmas
-pub mod WholeLemmas
-pub mod BuiltLemmas
 pub mod NextLemmas
