@@ -1,4 +1,10 @@
 pub mod SetLemmas
+pub mod ShapeLemmas
 pub mod AmongLemmas
+pub mod LooseLemmas
+pub mod JoinedLemmas
 pub mod StepLemmas
+pub mod AutomatonLemmas
+pub mod WholeLemmas
 pub mod NextLemmas
+pub mod GrowLemmas

@@ -47,7 +47,7 @@ unfoldable mutual
   extent_of (Ref t) = Long
   extent_of (Seq' shape row) = row_in_turn row
   extent_of (Alt' shape row) = row_one_of row
-  extent_of (Repeat' n shape row) = if n == 0 then Empty else row_in_turn row
+  extent_of (Repeat' n shape row) = row_times n row
   extent_of (Private' shape row) = Dead
 
   pub row_in_turn : {m : _} → Row_of-Tree m → Extent
@@ -57,6 +57,10 @@ unfoldable mutual
   pub row_one_of : {m : _} → Row_of-Tree m → Extent
   row_one_of end_of-Tree = Dead
   row_one_of (more_of-Tree t ts) = either_extent (extent_of t) (row_one_of ts)
+
+  pub row_times : {m : _} → ℕ → Row_of-Tree m → Extent
+  row_times n end_of-Tree = Dead
+  row_times n (more_of-Tree t ts) = if n == 0 then Empty else extent_of t
 
 -- of trees in turn, and of one of some
 abbrev pub in_turn : List Tree → Extent
