@@ -8,7 +8,7 @@ use Rattle.tm_auto.specs.declared.edge.Edge.{Edge}
 use Rattle.tm_auto.specs.declared.edge.Label.{Label}
 use Rattle.tm_auto.specs.Builds.{Words, edges_by, Opens, IsSound, Grows}
 use Rattle.tm_auto.specs.Labels.{Takes}
-use Rattle.tm_auto.specs.Paths.{Among, here, Leads, Spells}
+use Rattle.tm_auto.specs.Paths.{Among, here, there, Leads, Spells}
 use Rattle.tm_auto.proofs.AmongLemmas.{among_left, among_right, among_either, among_edges, edges_among, none_among}
 
 -- the edges are kept
@@ -31,7 +31,7 @@ abbrev pub CellWords : Label → Words
 CellWords label A w = (c : Cell) × Takes (holds A) label c × (w ≡ c ∷ [])
 
 pub only_way : (way y : Way) → Among way (y ∷ []) → way ≡ y
-only_way way way here = refl
+only_way way y here = refl
 only_way way y (there h) = absurd (none_among h)
 
 module _ (A : ℕ → ℕ → Type 0) where
@@ -71,7 +71,7 @@ module _ (A : ℕ → ℕ → Type 0) where
   }
 
   -- a word of P or one of Q, in front of the same state
-  pub grows_either : {p : ℕ} (P Q : Word → Type 0) (es fs gs : List Edge) (n m : ℕ) (firsts seconds : List Way) (target : ℕ) → IsSound p es n → IsSound p fs m → target < n
+  pub grows_either : {i j : ℕ} (P Q : Word → Type 0) (es fs gs : List Edge) (n m : ℕ) (firsts seconds : List Way) (target : ℕ) → IsSound i es n → IsSound j fs m → target < n
       → ((way : Way) → Among way firsts → way.to < m) → Kept es fs → New n es fs → Kept fs gs → New m fs gs
       → Grows A P es fs firsts target → Grows A Q fs gs seconds target → Grows A (λ w. P w ⊎ Q w) es gs (firsts ++ seconds) target
   grows_either P Q es fs gs n m firsts seconds target sound sound2 below below2 kept new kept2 new2 p q = record {

@@ -8,3 +8,5 @@ pub mod AutomatonLemmas
 pub mod WholeLemmas
 pub mod NextLemmas
 pub mod GrowLemmas
+pub mod MakeLemmas
+pub mod ExtentLemmas

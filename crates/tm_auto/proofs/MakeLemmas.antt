@@ -1,0 +1,289 @@
+-- What is built, case by case.
+use Rattle.std.proofs.Common.{◌≡◌, ◌≢◌, ℕ, zero, suc, ◌+◌, ◌<◌, ◌≤◌, ◌⊎◌, inl, inr, Bool, List, [], ◌∷◌, ◌++◌, length, take, drop, refl, sym, ap, ◌∙◌, subst, arith, ◌↔◌, append_assoc, append-nil, length-append}
+use Rattle.std.proofs.Math.Seq.{take-append_seam, drop-append_seam}
+use Rattle.std.proofs.lemmas.Bool.{cases_lt}
+use Rattle.tm_base.specs.Cells.{Word}
+use Rattle.tm_base.specs.Transmutes.{holds}
+use Rattle.tm_auto.specs.declared.build.Building.{Building}
+use Rattle.tm_auto.specs.declared.build.Way.{Way}
+use Rattle.tm_auto.specs.declared.edge.Edge.{Edge}
+use Rattle.tm_auto.specs.declared.edge.Label.{Label}
+use Rattle.tm_auto.specs.declared.edge.Label.TheVariants.{Bytes, Free, Leaf}
+use Rattle.tm_auto.specs.Builds.{Words, edges_by, IsLedTo, IsForward, IsSound, IsReady, IsWay, MakesBy, IsPlacedBy, IsAdded, IsSealed}
+use Rattle.tm_auto.specs.Labels.{CanTake, Begins, Joins}
+use Rattle.tm_auto.specs.Paths.{Among, here}
+use Rattle.tm_auto.proofs.AmongLemmas.{among_left, among_right, among_either, none_among, among_edges, edges_among, ordered-append, ordered-edges_by, length-edges_by}
+use Rattle.tm_auto.proofs.GrowLemmas.{Kept, New, Both, Either, CellWords, only_way, leads_more, leads_less, grows_way, grows_before, grows_either, grows_same, sealed_new, sealed_forth, sealed_back}
+
+pub begins_joins : (label l : Label) → Begins l → Joins label l
+begins_joins label (Bytes low high) h = tt
+begins_joins label Free h = tt
+begins_joins label (Leaf t zero) h = tt
+begins_joins label (Leaf t (suc k)) h = absurd h
+
+some_way : (ways : List Way) → ways ≢ [] → (way : Way) × Among way ways
+some_way [] h = absurd (h refl)
+some_way (way ∷ ways) h = (way, here)
+
+pub length_some : (ways : List Way) → ways ≢ [] → 0 < length ways
+length_some [] h = absurd (h refl)
+length_some (way ∷ ways) h = omega arith
+
+-- the same lists, numbers and places
+pub record IsSame (b c : Building) : Type 0 where
+  pub pointer : c.pointer ≡ b.pointer
+  pub states : c.states ≡ b.states
+  pub edges : c.edges.items ≡ b.edges.items
+  pub head : c.head.items ≡ b.head.items
+
+module _ {q : Label → Type 0} {line : Type 0} {room : ℕ} {P : Words} {target : ℕ} {b c : Building} where
+  pub kept : MakesBy q line room P target b c → Kept b.edges.items c.edges.items
+  kept h e a = subst (λ (xs : List Edge). Among e xs) (sym h.longer) (among_left h.more a)
+
+  pub new : MakesBy q line room P target b c → New b.states b.edges.items c.edges.items
+  new h e a l = elim (among_either b.edges.items h.more (subst (λ (xs : List Edge). Among e xs) h.longer a)) [ inl d ↦ d | inr d ↦ (let k = h.fresh e d in absurd (omega arith)) ]
+
+  -- said of other words that are the same
+  pub makes_as : {line2 : Type 0} {room2 : ℕ} {Q : Words} → room ≤ room2 → (line2 → line) → ((A : ℕ → ℕ → Bool) (u : Word) → P A u ↔ Q A u) → MakesBy q line room P target b c → MakesBy q line2 room2 Q target b c
+  makes_as le f same h = record {
+    pointer = h.pointer;
+    later = h.later;
+    few = let x = h.few in omega arith;
+    more = h.more;
+    longer = h.longer;
+    fresh = h.fresh;
+    ways = h.ways;
+    head = h.head;
+    some = h.some;
+    linear = let x = h.linear in omega arith;
+    sound = h.sound;
+    each = h.each;
+    into = h.into;
+    covers = h.covers;
+    forward = λ l. h.forward (f l);
+    grows = λ A. grows_same (holds A) (P A) _ b.edges.items c.edges.items h.ways target (λ u. (same A u).0) (λ u. (same A u).1) (h.grows A);
+  }
+
+  -- the target is still ready to be built in front of
+  pub ready_still : MakesBy q line room P target b c → IsReady b target → IsReady c target
+  ready_still h r = record {
+    pointer = rw h.pointer r.pointer;
+    sound = h.sound;
+    below = let x = r.below in let y = h.later in omega arith;
+    plain = λ e a f. r.plain e (new h e a (let x = r.below in omega arith)) f;
+  }
+
+-- ---- sealing
+
+-- nothing was put: words go on at the target
+pub placed_none : (q : Label → Type 0) (line : Type 0) (room : ℕ) (P : Words) (target : ℕ) (b c : Building) (state : ℕ) → ((A : ℕ → ℕ → Bool) (w : Word) → P A w ↔ (w ≡ [])) → IsSame b c → state ≡ target → IsSound b.pointer b.edges.items b.states → target < b.states
+    → ((e : Edge) → Among e b.edges.items → e.from ≡ target → q e.label) → IsPlacedBy q line room P target b c state
+placed_none q line room P target b c state none same at sound below opens = record {
+  pointer = same.pointer;
+  later = let x = same.states in omega arith;
+  few = let x = same.states in omega arith;
+  more = [];
+  longer = same.edges ∙ sym (append-nil b.edges.items);
+  fresh = λ e a. absurd (none_among a);
+  head = same.head;
+  linear = omega arith;
+  sound = rw (same.pointer, same.edges, same.states) sound;
+  below = let x = same.states in omega arith;
+  opens = λ e a f. opens e (subst (λ (xs : List Edge). Among e xs) same.edges a) (f ∙ at);
+  into = λ s lo hi. let x = same.states in absurd (omega arith);
+  covers = inl (sym at);
+  forward = λ l f. rw same.edges f;
+  forth = λ A w r. ([], w, refl, (none A []).1 refl, rw (same.edges, at) at r);
+  back = λ A u v h r. let e = (none A u).0 h in rw (same.edges, at, e) r;
+}
+
+-- the newest state has these ways
+sealed_sound : (p : ℕ) (q : Label → Type 0) (c : Building) (ways : List Way) → IsSound c.pointer c.edges.items c.states → ways ≢ [] → ((way : Way) → Among way ways → IsWay q c way) → IsSound c.pointer (c.edges.items ++ edges_by c.states ways) (c.states + 1)
+sealed_sound p q c ways sound some each = record {
+  some = omega arith;
+  from = λ e a. elim (among_either es news a) [ inl b ↦ (let h = sound.from e b in omega arith) | inr b ↦ (let h = (among_edges n ways e b).1 in omega arith) ];
+  down = λ e a. elim (among_either es news a) [ inl b ↦ sound.down e b | inr b ↦ (let (m, f) = among_edges n ways e b in let x = (each _ m).below in omega arith) ];
+  ordered = ordered-append es news n sound.ordered (λ e a. let h = sound.from e a in omega arith) (ordered-edges_by n ways) (λ f a. let h = (among_edges n ways f a).1 in omega arith);
+  left = λ s pos hi. elim (cases_lt s n) [
+    | inl lt ↦ (let (e, a, f) = sound.left s pos lt in (e, among_left news a, f))
+    | inr ge ↦ (let (way, m) = some_way ways some in let w : n ≡ s = omega arith in (record { from = n; to = way.to; label = way.label }, among_right es (edges_among n way ways m), w))
+  ];
+  takes = λ e a. elim (among_either es news a) [ inl b ↦ sound.takes e b | inr b ↦ (each _ (among_edges n ways e b).0).takes ];
+  joins = λ e f a b w. elim (among_either es news b) [
+    | inl fb ↦ elim (among_either es news a) [
+      | inl eb ↦ sound.joins e f eb fb w
+      | inr eb ↦ (each _ (among_edges n ways e eb).0).joins f fb w
+    ]
+    | inr fb ↦ (
+        let g = (among_edges n ways f fb).1 in
+        elim (among_either es news a) [
+          | inl eb ↦ (let x = sound.down e eb in let y = sound.from e eb in absurd (omega arith))
+          | inr eb ↦ (let x = (each _ (among_edges n ways e eb).0).below in absurd (omega arith))
+        ])
+  ];
+}
+  where
+    n : ℕ
+    n = c.states
+
+    es : List Edge
+    es = c.edges.items
+
+    news : List Edge
+    news = edges_by n ways
+
+sealed_forward : (q : Label → Type 0) (c : Building) (ways : List Way) → IsSound c.pointer c.edges.items c.states → length ways ≤ 1 → IsForward c.edges.items → IsForward (c.edges.items ++ edges_by c.states ways)
+sealed_forward q c ways sound one f d e a b w = elim (among_either c.edges.items (edges_by c.states ways) a) [
+  | inl da ↦ elim (among_either c.edges.items (edges_by c.states ways) b) [
+    | inl eb ↦ f d e da eb w
+    | inr eb ↦ (let x = sound.from d da in let y = (among_edges c.states ways e eb).1 in absurd (omega arith))
+  ]
+  | inr da ↦ elim (among_either c.edges.items (edges_by c.states ways) b) [
+    | inl eb ↦ (let x = sound.from e eb in let y = (among_edges c.states ways d da).1 in absurd (omega arith))
+    | inr eb ↦ ap (λ (y : Way). y.to) (same ways one _ _ (among_edges c.states ways d da).0 (among_edges c.states ways e eb).0)
+  ]
+]
+  where
+    same : (ways : List Way) → length ways ≤ 1 → (x y : Way) → Among x ways → Among y ways → x ≡ y
+    same [] l x y a b = absurd (none_among a)
+    same (w ∷ []) l x y a b = only_way x w a ∙ sym (only_way y w b)
+    same (w ∷ v ∷ ws) l x y a b = absurd (omega arith)
+
+pub placed_some : {q : Label → Type 0} {line : Type 0} {room : ℕ} {P : Words} {target : ℕ} {b c : Building} (next : ℕ) (d : Building) (state : ℕ) → MakesBy q line room P target b c → IsSealed (length b.head.items) next c d state → IsPlacedBy q line room P target b d state
+placed_some {q = q} {target = target} {b = b} {c = c} next d state h sealed =
+    let size : length c.head.items ≡ length b.head.items + length ways = ap length h.head ∙ length-append b.head.items ways in
+    let pos = length_some ways h.some in
+    let (ed0, sd, ss) = sealed.put (omega arith) in
+    let behind : drop (length b.head.items) c.head.items ≡ ways = ap (drop (length b.head.items)) h.head ∙ drop-append_seam b.head.items ways in
+    let ed : d.edges.items ≡ c.edges.items ++ news = ed0 ∙ ap (λ (z : List Way). c.edges.items ++ edges_by c.states z) behind in
+    let front : d.head.items ≡ b.head.items = sealed.head ∙ ap (take (length b.head.items)) h.head ∙ take-append_seam b.head.items ways in
+    let keep : Kept c.edges.items d.edges.items = (λ e a. subst (λ (xs : List Edge). Among e xs) (sym ed) (among_left news a)) in
+    let by_way : (way : Way) → Among way ways → (e : Edge) × Among e d.edges.items × (e.to ≡ way.to) = (λ way a. (record { from = c.states; to = way.to; label = way.label }, subst (λ (xs : List Edge). Among (record { from = c.states; to = way.to; label = way.label }) xs) (sym ed) (among_right c.edges.items (edges_among c.states way ways a)), refl)) in
+    let led : (s : ℕ) → IsLedTo ways c.edges.items s → (e : Edge) × Among e d.edges.items × (e.to ≡ s) = (λ s l. elim l [ inl (way, a, t) ↦ (let (e, m, f) = by_way way a in (e, m, f ∙ t)) | inr (e, a, t) ↦ (e, keep e a, t) ]) in
+    let made = sealed_sound 0 q c ways h.sound h.some h.each in
+    record {
+      pointer = sealed.pointer ∙ h.pointer;
+      later = let x = h.later in omega arith;
+      few = let x = h.few in omega arith;
+      more = h.more ++ news;
+      longer = ed ∙ ap (λ (z : List Edge). z ++ news) h.longer ∙ append_assoc b.edges.items h.more news;
+      fresh = λ e a. elim (among_either h.more news a) [ inl m ↦ h.fresh e m | inr m ↦ (let x = (among_edges c.states ways e m).1 in let y = h.later in omega arith) ];
+      head = front;
+      linear = let x = h.linear in let y = length-append h.more news in let z = length-edges_by c.states ways in omega arith;
+      sound = rw (sealed.pointer, ed, sd) made;
+      below = omega arith;
+      opens = λ e a f. elim (among_either c.edges.items news (subst (λ (xs : List Edge). Among e xs) ed a)) [
+        | inl m ↦ (let x = h.sound.from e m in absurd (omega arith))
+        | inr m ↦ (h.each _ (among_edges c.states ways e m).0).opens
+      ];
+      into = λ s lo hi. elim (cases_lt s c.states) [ inl lt ↦ inr (led s (h.into s lo lt)) | inr ge ↦ inl (omega arith) ];
+      covers = inr (led target h.covers);
+      forward = λ l f. let (f2, one) = h.forward l f in rw ed (sealed_forward q c ways h.sound one f2);
+      forth = λ A w r. (h.grows A).forth w (sealed_forth (holds A) c.edges.items c.states ways h.sound (λ way a. (h.each way a).below) w (rw (ed, ss) at r));
+      back = λ A u v p r. rw (ed, ss) (sealed_back (holds A) c.edges.items c.states ways (u ++ v) ((h.grows A).back u v p r));
+    }
+  where
+    ways : List Way
+    ways = h.ways
+
+    news : List Edge
+    news = edges_by c.states ways
+
+-- ---- one way
+
+pub makes_way : (q r : Label → Type 0) (label : Label) (target : ℕ) (b c : Building) → CanTake b.pointer label → r label → ((l : Label) → q l → Joins label l) → IsSound b.pointer b.edges.items b.states → target < b.states
+    → ((e : Edge) → Among e b.edges.items → e.from ≡ target → q e.label) → IsAdded label target b c → MakesBy r (Unit {0}) 1 (CellWords label) target b c
+makes_way q r label target b c can mine follow sound below opens added = record {
+  pointer = added.pointer;
+  later = let x = added.states in omega arith;
+  few = let x = added.states in omega arith;
+  more = [];
+  longer = added.edges ∙ sym (append-nil b.edges.items);
+  fresh = λ e a. absurd (none_among a);
+  ways = way ∷ [];
+  head = added.head;
+  some = λ e. cc;
+  linear = omega arith;
+  sound = rw (added.pointer, added.edges, added.states) sound;
+  each = λ y a. let e = only_way y way a in rw e (record {
+    below = let x = added.states in omega arith;
+    takes = rw added.pointer can;
+    opens = mine;
+    joins = λ f m w. follow f.label (opens f (subst (λ (xs : List Edge). Among f xs) added.edges m) (sym w));
+  });
+  into = λ s lo hi. let x = added.states in absurd (omega arith);
+  covers = inl (way, here, refl);
+  forward = λ l f. (rw added.edges f, omega arith);
+  grows = λ A. rw added.edges (grows_way (holds A) b.edges.items label target);
+}
+  where
+    way : Way
+    way = record { label = label; to = target }
+
+-- ---- one after another
+
+pub makes_before : {q r : Label → Type 0} {line1 line2 : Type 0} {room1 room2 : ℕ} {P Q : Words} {target state : ℕ} {b d e : Building} → IsPlacedBy q line2 room2 Q target b d state → MakesBy r line1 room1 P state d e → MakesBy r (line1 × line2) (room1 + room2) (Both P Q) target b e
+makes_before {P = P} {Q = Q} {target = target} {state = state} {b = b} {d = d} {e = e} h p = record {
+  pointer = p.pointer ∙ h.pointer;
+  later = let x = h.later in let y = p.later in omega arith;
+  few = let x = h.few in let y = p.few in omega arith;
+  more = h.more ++ p.more;
+  longer = p.longer ∙ ap (λ z. z ++ p.more) h.longer ∙ append_assoc b.edges.items h.more p.more;
+  fresh = λ f a. elim (among_either h.more p.more a) [ inl m ↦ h.fresh f m | inr m ↦ (let x = p.fresh f m in let y = h.later in omega arith) ];
+  ways = p.ways;
+  head = p.head ∙ ap (λ (z : List Way). z ++ p.ways) h.head;
+  some = p.some;
+  linear = let x = h.linear in let y = p.linear in let z = length-append h.more p.more in omega arith;
+  sound = p.sound;
+  each = p.each;
+  into = λ s lo hi. elim (cases_lt s d.states) [
+    | inl lt ↦ elim (h.into s lo lt) [ inl w ↦ subst (λ (z : ℕ). IsLedTo p.ways e.edges.items z) (sym w) p.covers | inr m ↦ onward s m ]
+    | inr ge ↦ p.into s ge hi
+  ];
+  covers = elim h.covers [ inl w ↦ subst (λ (z : ℕ). IsLedTo p.ways e.edges.items z) (sym w) p.covers | inr m ↦ onward target m ];
+  forward = λ (l1, l2) f. p.forward l1 (h.forward l2 f);
+  grows = λ A. grows_before (holds A) (P A) (Q A) b.edges.items d.edges.items e.edges.items p.ways target state (h.forth A) (h.back A) (p.grows A);
+}
+  where
+    onward : (s : ℕ) → (f : Edge) × Among f d.edges.items × (f.to ≡ s) → IsLedTo p.ways e.edges.items s
+    onward s (f, a, w) = inr (f, kept p f a, w)
+
+-- ---- one or the other
+
+pub makes_either : {line1 line2 : Type 0} {room1 room2 : ℕ} {P Q : Words} {target : ℕ} {b c d : Building} → IsReady b target → MakesBy Begins line1 room1 P target b c → MakesBy Begins line2 room2 Q target c d → MakesBy Begins ⊥ (room1 + room2) (Either P Q) target b d
+makes_either {P = P} {Q = Q} {target = target} {b = b} {c = c} {d = d} ready p q = record {
+  pointer = q.pointer ∙ p.pointer;
+  later = let x = p.later in let y = q.later in omega arith;
+  few = let x = p.few in let y = q.few in omega arith;
+  more = p.more ++ q.more;
+  longer = q.longer ∙ ap (λ z. z ++ q.more) p.longer ∙ append_assoc b.edges.items p.more q.more;
+  fresh = λ e a. elim (among_either p.more q.more a) [ inl m ↦ p.fresh e m | inr m ↦ (let x = q.fresh e m in let y = p.later in omega arith) ];
+  ways = p.ways ++ q.ways;
+  head = q.head ∙ ap (λ z. z ++ q.ways) p.head ∙ append_assoc b.head.items p.ways q.ways;
+  some = λ e. let x = length_some p.ways p.some in let y = ap length e in let z = length-append p.ways q.ways in omega arith;
+  linear = let x = p.linear in let y = q.linear in let z = length-append p.more q.more in let w = length-append p.ways q.ways in omega arith;
+  sound = q.sound;
+  each = λ way a. elim (among_either p.ways q.ways a) [
+    | inl m ↦ (
+        let x = p.each way m in
+        record {
+          below = let y = x.below in let z = q.later in omega arith;
+          takes = rw q.pointer x.takes;
+          opens = x.opens;
+          joins = λ e f w. x.joins e (new q e f (let y = x.below in omega arith)) w;
+        })
+    | inr m ↦ q.each way m
+  ];
+  into = λ s lo hi. elim (cases_lt s c.states) [ inl lt ↦ left s (p.into s lo lt) | inr ge ↦ right s (q.into s ge hi) ];
+  covers = left target p.covers;
+  forward = λ l f. absurd l;
+  grows = λ A. grows_either (holds A) (P A) (Q A) b.edges.items c.edges.items d.edges.items b.states c.states p.ways q.ways target ready.sound p.sound ready.below (λ way a. (p.each way a).below) (kept p) (new p) (kept q) (new q) (p.grows A) (q.grows A);
+}
+  where
+    left : (s : ℕ) → IsLedTo p.ways c.edges.items s → IsLedTo (p.ways ++ q.ways) d.edges.items s
+    left s (inl (way, a, w)) = inl (way, among_left q.ways a, w)
+    left s (inr (e, a, w)) = inr (e, kept q e a, w)
+
+    right : (s : ℕ) → IsLedTo q.ways d.edges.items s → IsLedTo (p.ways ++ q.ways) d.edges.items s
+    right s (inl (way, a, w)) = inl (way, among_right p.ways a, w)
+    right s (inr h) = inr h
