@@ -37,7 +37,7 @@ either_is Dead Long P Q p (c, w, h) = (c, w, inr h)
 either_is Empty f P Q p q = λ A. inl (p A)
 either_is Long f P Q (c, w, h) q = (c, w, inl h)
 
-some_times : (P : Word → Type 0) (w : Word) → P w → (n : ℕ) → (v : Word) × Times n P v
+pub some_times : (P : Word → Type 0) (w : Word) → P w → (n : ℕ) → (v : Word) × Times n P v
 some_times P w h zero = ([], refl)
 some_times P w h (suc n) = let (v, k) = some_times P w h n in (w ++ v, (w, v, refl, h, k))
 

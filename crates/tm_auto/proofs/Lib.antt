@@ -10,3 +10,6 @@ pub mod NextLemmas
 pub mod GrowLemmas
 pub mod MakeLemmas
 pub mod ExtentLemmas
+pub mod CaseLemmas
+pub mod TimesLemmas
+pub mod MemberLemmas

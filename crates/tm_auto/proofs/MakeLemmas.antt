@@ -9,7 +9,7 @@ use Rattle.tm_auto.specs.declared.build.Way.{Way}
 use Rattle.tm_auto.specs.declared.edge.Edge.{Edge}
 use Rattle.tm_auto.specs.declared.edge.Label.{Label}
 use Rattle.tm_auto.specs.declared.edge.Label.TheVariants.{Bytes, Free, Leaf}
-use Rattle.tm_auto.specs.Builds.{Words, edges_by, IsLedTo, IsForward, IsSound, IsReady, IsWay, MakesBy, IsPlacedBy, IsAdded, IsSealed}
+use Rattle.tm_auto.specs.Builds.{Words, edges_by, IsLedTo, IsForward, IsSound, IsReady, IsWay, Grows, MakesBy, IsPlacedBy, IsAdded, IsSealed}
 use Rattle.tm_auto.specs.Labels.{CanTake, Begins, Joins}
 use Rattle.tm_auto.specs.Paths.{Among, here}
 use Rattle.tm_auto.proofs.AmongLemmas.{among_left, among_right, among_either, none_among, among_edges, edges_among, ordered-append, ordered-edges_by, length-edges_by}
@@ -72,6 +72,27 @@ module _ {q : Label → Type 0} {line : Type 0} {room : ℕ} {P : Words} {target
     below = let x = r.below in let y = h.later in omega arith;
     plain = λ e a f. r.plain e (new h e a (let x = r.below in omega arith)) f;
   }
+
+-- what is built from the same
+pub makes_from : {q : Label → Type 0} {line : Type 0} {room : ℕ} {P : Words} {target : ℕ} {a b c : Building} → IsSame a b → MakesBy q line room P target b c → MakesBy q line room P target a c
+makes_from {P = P} {target = target} {c = c} same h = record {
+  pointer = h.pointer ∙ same.pointer;
+  later = let x = h.later in let y = same.states in omega arith;
+  few = let x = h.few in let y = same.states in omega arith;
+  more = h.more;
+  longer = h.longer ∙ ap (λ (z : List Edge). z ++ h.more) same.edges;
+  fresh = λ e m. let x = h.fresh e m in let y = same.states in omega arith;
+  ways = h.ways;
+  head = h.head ∙ ap (λ (z : List Way). z ++ h.ways) same.head;
+  some = h.some;
+  linear = h.linear;
+  sound = h.sound;
+  each = h.each;
+  into = λ s lo hi. h.into s (let y = same.states in omega arith) hi;
+  covers = h.covers;
+  forward = λ l f. h.forward l (rw same.edges f);
+  grows = λ A. subst (λ (z : List Edge). Grows (holds A) (P A) z c.edges.items h.ways target) same.edges (h.grows A);
+}
 
 -- ---- sealing
 

@@ -87,10 +87,11 @@ impl Building {
         let mark = self.head.len();
         let mut next = target;
         for at in (0..trees.len()).rev() {
-            match Extent::of(&trees[at]) {
+            let tree = &trees[at];
+            match Extent::of(tree) {
                 Extent::Long => {
                     next = self.seal(mark, next)?;
-                    self.grow(&trees[at], next)?;
+                    self.grow(tree, next)?;
                 }
                 Extent::Empty => {}
                 Extent::Dead => {}

@@ -1,5 +1,3 @@
-use Rattle.tm_auto.proofs.MakeLemmas.{makes_either}
-use Rattle.tm_auto.proofs.ExtentLemmas.{even_part}
 use Rattle.tm_auto.proofs.AutomatonLemmas.{layered, reads}
 use Rattle.tm_auto.proofs.auto.Auto.law.Goals as goal
 

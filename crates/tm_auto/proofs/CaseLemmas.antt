@@ -1,0 +1,214 @@
+-- What is built along a list of trees, turn by turn, and for a reference.
+use Rattle.std.proofs.Common.{◌≡◌, ◌≢◌, ℕ, zero, suc, ◌+◌, ◌-◌, ◌*◌, ◌^◌, ◌<◌, ◌≤◌, ◌⊎◌, inl, inr, Bool, List, [], ◌∷◌, ◌++◌, length, take, drop, get_or, refl, sym, ap, ◌∙◌, subst, arith, ◌↔◌, drop-cons, add-one, append-nil, length-append, ⊎_elim}
+use Rattle.std.proofs.Math.Seq.{take-suc}
+use Rattle.std.proofs.lemmas.List.{take_all}
+use Rattle.tm_base.specs.declared.cell.Cell.TheVariants.{Ptr}
+use Rattle.tm_base.specs.declared.cell.RefId.{RefId}
+use Rattle.tm_base.specs.declared.tree.Tree.{Tree, Ref, Seq, Alt, Repeat}
+use Rattle.tm_base.specs.Cells.{Word, Times}
+use Rattle.tm_base.specs.Shapes.{leaves_of, all_leaves, HasNoPrivate, NonePrivate, HasNoAlternatives, NoneAlternative}
+use Rattle.tm_base.specs.Transmutes.{holds}
+use Rattle.tm_auto.specs.declared.build.Building.{Building}
+use Rattle.tm_auto.specs.declared.build.Way.{Way}
+use Rattle.tm_auto.specs.declared.edge.Edge.{Edge}
+use Rattle.tm_auto.specs.declared.edge.Label.{Label}
+use Rattle.tm_auto.specs.declared.edge.Label.TheVariants.{Leaf}
+use Rattle.tm_auto.specs.declared.extent.Extent.TheVariants.{Dead, Empty, Long}
+use Rattle.tm_auto.specs.Builds.{Words, MayFollow, IsSound, IsReady, IsGrowable, CanGrow, MakesBy, MakesTree, IsPlacedBy, IsAdded, IsSealed, AreEven, any}
+use Rattle.tm_auto.specs.Labels.{CanTake, Begins, Joins}
+use Rattle.tm_auto.specs.Loose.{LooseBytes, LooseWord, LooseInTurn, LooseOneOf}
+use Rattle.tm_auto.specs.Paths.{Among}
+use Rattle.tm_auto.specs.Shapes.{extent_of, in_turn, one_of}
+use Rattle.tm_auto.proofs.ExtentLemmas.{IsExtent, extent_is, turn_is, one_is, empty_alone, live_at, even_at, even_member, no_empty, even_part}
+use Rattle.tm_auto.proofs.GrowLemmas.{Both, CellWords}
+use Rattle.tm_auto.proofs.LooseLemmas.{LooseWord-Seq, LooseWord-Alt, LooseWord-Repeat, LooseWord-Ref, LooseOneOf-more}
+use Rattle.tm_auto.proofs.MakeLemmas.{IsSame, begins_joins, makes_as, makes_way, makes_before, makes_either, placed_none, placed_some, ready_still}
+use Rattle.tm_auto.proofs.ShapeLemmas.{extent_of-Seq, extent_of-Alt, extent_of-turns}
+use Rattle.tm_base.proofs.ShapeLemmas.{leaves_of-Seq, leaves_of-Alt, leaves_of-Repeat, HasNoAlternatives-Seq, HasNoAlternatives-Alt, HasNoAlternatives-Repeat, HasNoPrivate-Seq, HasNoPrivate-Alt, HasNoPrivate-Repeat}
+
+-- What stands in front of the target: nothing yet, or words of P.
+abbrev pub Front : (Label → Type 0) → Type 0 → ℕ → Words → ℕ → Building → Building → ℕ → Type 0
+Front q line room P target b c next = ((next ≡ target) × IsSame b c × ((A : ℕ → ℕ → Bool) (w : Word) → P A w ↔ (w ≡ []))) ⊎ MakesBy q line room P target b c
+
+module _ {q : Label → Type 0} {line : Type 0} {room : ℕ} {P : Words} {target : ℕ} {b c : Building} {next : ℕ} where
+  pub front_mark : (mark : ℕ) → mark ≡ length b.head.items → Front q line room P target b c next → mark ≤ length c.head.items
+  front_mark mark e (inl (at, same, none)) = let x = ap length same.head in omega arith
+  front_mark mark e (inr h) = let x = ap length h.head in let y = length-append b.head.items h.ways in omega arith
+
+  pub front_room : (all : ℕ) → room < all → b.states + all ≤ 2 ^ 31 → Front q line room P target b c next → c.states + 1 ≤ 2 ^ 31
+  front_room all l r (inl (at, same, none)) = let x = same.states in omega arith
+  front_room all l r (inr h) = let x = h.few in omega arith
+
+  -- once it is sealed
+  pub front_placed : (mark : ℕ) (d : Building) (state : ℕ) → mark ≡ length b.head.items → IsReady b target → ((e : Edge) → Among e b.edges.items → e.from ≡ target → q e.label) → Front q line room P target b c next → IsSealed mark next c d state → IsPlacedBy q line room P target b d state
+  front_placed mark d state em ready opens (inl (at, same, none)) sealed =
+      let size : length c.head.items ≡ mark = ap length same.head ∙ sym em in
+      let (ee, es, en) = sealed.none size in
+      let head : d.head.items ≡ b.head.items = sealed.head ∙ ap (take mark) same.head ∙ take_all mark b.head.items (omega arith) in
+      let same2 : IsSame b d = record { pointer = sealed.pointer ∙ same.pointer; states = es ∙ same.states; edges = ee ∙ same.edges; head = head } in
+      placed_none q line room P target b d state none same2 (en ∙ at) ready.sound ready.below opens
+  front_placed mark d state em ready opens (inr h) sealed = placed_some next d state h (subst (λ (z : ℕ). IsSealed z next c d state) em sealed)
+
+-- a state may be built in front of
+pub placed_ready : {line : Type 0} {room : ℕ} {P : Words} {target : ℕ} {b d : Building} {state : ℕ} → IsReady b target → IsPlacedBy Begins line room P target b d state → IsReady d state
+placed_ready r h = record { pointer = rw h.pointer r.pointer; sound = h.sound; below = h.below; plain = h.opens }
+
+-- ---- references
+
+-- so many bytes of a reference from a place on
+abbrev pub RefFront : RefId → ℕ → ℕ → Building → Building → ℕ → Type 0
+RefFront t place target b c next = Front (MayFollow t place) (Unit {0}) (b.pointer - place) (λ A. LooseBytes (holds A) t.0 place (b.pointer - place)) target b c next
+
+pub ref_none : (t : RefId) (target : ℕ) (b c : Building) → IsSame b c → RefFront t b.pointer target b c target
+ref_none t target b c same = let none : b.pointer - b.pointer ≡ 0 = omega arith in inl (refl, same, λ A w. rw none (λ h. h, λ h. h))
+
+pub ref_turn : (t : RefId) (place target : ℕ) (b c d e : Building) (mark next state : ℕ) → 0 < place → place ≤ b.pointer → t.0 < 2 ^ 32 → mark ≡ length b.head.items → IsReady b target → RefFront t place target b c next → IsSealed mark next c d state → IsAdded (Leaf t (place - 1)) state d e → RefFront t (place - 1) target b e state
+ref_turn t zero target b c d e mark next state pos le id em ready h sealed added = absurd (omega arith)
+ref_turn t (suc k) target b c d e mark next state pos le id em ready h sealed added =
+    let last : suc k - 1 ≡ k = omega arith in
+    let size : suc (b.pointer - suc k) ≡ b.pointer - k = omega arith in
+    let j : ℕ = b.pointer - suc k in
+    let placed = front_placed mark d state em ready (λ f a w. begins_joins (Leaf t k) f.label (ready.plain f a w)) h sealed in
+    let point = placed.pointer in
+    let can : CanTake d.pointer (Leaf t k) = (id, omega arith) in
+    let way = makes_way (MayFollow t (suc k)) (MayFollow t k) (Leaf t k) state d e can (mine k) (λ l x. x) placed.sound placed.below placed.opens (subst (λ (z : ℕ). IsAdded (Leaf t z) state d e) last added) in
+    let made : MakesBy (MayFollow t k) (Unit {0}) (suc (b.pointer - suc k)) (λ A. LooseBytes (holds A) t.0 k (suc (b.pointer - suc k))) target b e = makes_as (omega arith) (λ l. (tt, tt)) (same (b.pointer - suc k)) (makes_before placed way) in
+    let made2 : MakesBy (MayFollow t k) (Unit {0}) (b.pointer - k) (λ A. LooseBytes (holds A) t.0 k (b.pointer - k)) target b e = subst (λ (z : ℕ). MakesBy (MayFollow t k) (Unit {0}) z (λ A. LooseBytes (holds A) t.0 k z) target b e) size made in
+    rw last (inr made2)
+  where
+    mine : (k : ℕ) → MayFollow t k (Leaf t k)
+    mine zero = tt
+    mine (suc i) = refl
+
+    same : (j : ℕ) (A : ℕ → ℕ → Bool) (w : Word) → Both (CellWords (Leaf t k)) (λ A. LooseBytes (holds A) t.0 (suc k) j) A w ↔ LooseBytes (holds A) t.0 k (suc j) w
+    same j A w = (
+      λ (u, v, e, (c, (x, a, ec), eu), more). (x, v, a, e ∙ ap (λ z. z ++ v) (eu ∙ ap (λ z. z ∷ []) ec), more),
+      λ (x, v, a, e, more). (Ptr (record { 0 = x }) k ∷ [], v, e, (Ptr (record { 0 = x }) k, (x, a, refl), refl), more),
+    )
+
+pub ref_done : (t : RefId) (target : ℕ) (b c : Building) (next : ℕ) → IsReady b target → leaves_of b.pointer (Ref t) ≡ b.pointer → RefFront t 0 target b c next → MakesTree (Ref t) target b c
+ref_done t target b c next ready leaves h =
+    let all : b.pointer - 0 ≡ b.pointer = omega arith in
+    elim (subst (λ (z : ℕ). Front (MayFollow t 0) (Unit {0}) z (λ A. LooseBytes (holds A) t.0 0 z) target b c next) all h) [
+      | inl (at, same, none) ↦ absurd (some b.pointer ready.pointer.0 none)
+      | inr made ↦ makes_as (omega arith) (λ l. tt) (λ A w. let (x, y) = LooseWord-Ref b.pointer (holds A) t w in (y, x)) made
+    ]
+  where
+    some : (n : ℕ) → 0 < n → ((A : ℕ → ℕ → Bool) (w : Word) → LooseBytes (holds A) t.0 0 n w ↔ (w ≡ [])) → ⊥
+    some zero pos none = omega arith
+    some (suc n) pos none = let (x, v, a, e, more) = (none any []).1 refl in cc
+
+-- ---- along a list of trees
+
+pub public_at : (ts : List Tree) (i : ℕ) (d : Tree) → NonePrivate ts → i < length ts → HasNoPrivate (get_or ts i d)
+public_at [] i d h l = absurd (omega arith)
+public_at (t ∷ ts) zero d h l = h.0
+public_at (t ∷ ts) (suc i) d h l = public_at ts i d h.1 (omega arith)
+
+pub all_leaves-drop : (p : ℕ) (ts : List Tree) (i : ℕ) → all_leaves p (drop i ts) ≤ all_leaves p ts
+all_leaves-drop p [] zero = omega arith
+all_leaves-drop p [] (suc i) = omega arith
+all_leaves-drop p (t ∷ ts) zero = omega arith
+all_leaves-drop p (t ∷ ts) (suc i) = let h = all_leaves-drop p ts i in omega arith
+
+pub all_leaves-take : (p : ℕ) (ts : List Tree) (i : ℕ) → all_leaves p (take i ts) ≤ all_leaves p ts
+all_leaves-take p [] zero = omega arith
+all_leaves-take p [] (suc i) = omega arith
+all_leaves-take p (t ∷ ts) zero = omega arith
+all_leaves-take p (t ∷ ts) (suc i) = let h = all_leaves-take p ts i in omega arith
+
+pub all_leaves-more : (p : ℕ) (ts : List Tree) (t : Tree) → all_leaves p (ts ++ t ∷ []) ≡ all_leaves p ts + leaves_of p t
+all_leaves-more p [] t = omega arith
+all_leaves-more p (s ∷ ts) t = let e = all_leaves-more p ts t in omega arith
+
+drop_one : (ts : List Tree) (at : ℕ) (t : Tree) → 0 < at → at ≤ length ts → t ≡ get_or ts (at - 1) t → drop (at - 1) ts ≡ t ∷ drop at ts
+drop_one ts at t pos l e =
+    let next : suc (at - 1) ≡ at = omega arith in
+    drop-cons ts (at - 1) t (omega arith) ∙ ap (λ (z : Tree). z ∷ drop (suc (at - 1)) ts) (sym e) ∙ ap (λ (k : ℕ). t ∷ drop k ts) next
+
+-- what a call of the builder tells, of trees with references of the size that they had before
+pub said_before : (p : ℕ) (t : Tree) (target : ℕ) (d e : Building) → d.pointer ≡ p → MakesTree t target d e → MakesBy Begins (HasNoAlternatives t) (leaves_of p t) (λ A. LooseWord p (holds A) t) target d e
+said_before p t target d e same h = subst (λ (z : ℕ). MakesBy Begins (HasNoAlternatives t) (leaves_of z t) (λ A. LooseWord z (holds A) t) target d e) same h
+
+-- ---- one after another
+
+-- the last trees stand
+abbrev pub TurnFront : List Tree → ℕ → Building → Building → ℕ → Type 0
+TurnFront ts target b c next = Front Begins (NoneAlternative ts) (all_leaves b.pointer ts) (λ A. LooseInTurn b.pointer (holds A) ts) target b c next
+
+pub turn_none : (ts : List Tree) (target : ℕ) (b c : Building) → ts ≡ [] → IsSame b c → TurnFront ts target b c target
+turn_none ts target b c e same = rw e (inl (refl, same, λ A w. (λ h. h, λ h. h)))
+
+-- what is asked of trees that may be grown one after another
+pub record AreGrowable (p : ℕ) (ts : List Tree) : Type 0 where
+  pub public : NonePrivate ts
+  pub long : in_turn ts ≡ Long
+  pub even : AreEven (LooseInTurn p (holds any) ts)
+
+pub turn_growable : (p : ℕ) (ts : List Tree) → IsGrowable p (Seq ts) → AreGrowable p ts
+turn_growable p ts g = record {
+  public = (HasNoPrivate-Seq ts).0 g.public;
+  long = sym (extent_of-Seq ts) ∙ g.long;
+  even = let (n, even) = g.even in (n, λ w h. even w ((LooseWord-Seq p (holds any) ts w).1 h));
+}
+
+live : (ts : List Tree) → in_turn ts ≡ Long → in_turn ts ≢ Dead
+live ts e q = let z : Long ≡ Dead = sym e ∙ q in cc
+
+module _ (ts : List Tree) (at : ℕ) (t : Tree) (target : ℕ) (b : Building) (pos : 0 < at) (within : at ≤ length ts) (et : t ≡ get_or ts (at - 1) t) (can : CanGrow (Seq ts) target b) where
+  grow : AreGrowable b.pointer ts
+  grow = turn_growable b.pointer ts can.growable
+
+  leaves_left : all_leaves b.pointer (drop at ts) + leaves_of b.pointer t ≤ leaves_of b.pointer (Seq ts)
+  leaves_left = let x = all_leaves-drop b.pointer ts (at - 1) in let y = ap (all_leaves b.pointer) (drop_one ts at t pos within et) in let z = leaves_of-Seq b.pointer ts in omega arith
+
+  even_here : AreEven (LooseWord b.pointer (holds any) t)
+  even_here = subst (λ (z : Tree). AreEven (LooseWord b.pointer (holds any) z)) (sym et) (even_at b.pointer can.ready.pointer.0 ts (at - 1) t (live ts grow.long) grow.even (omega arith))
+
+  pub turn_room : (c : Building) (next : ℕ) → 0 < leaves_of b.pointer t → TurnFront (drop at ts) target b c next → c.states + 1 ≤ 2 ^ 31
+  turn_room c next some h = let x = leaves_left in front_room (leaves_of b.pointer (Seq ts)) (omega arith) can.room h
+
+  pub turn_can : (d : Building) (state : ℕ) → extent_of t ≡ Long → IsPlacedBy Begins (NoneAlternative (drop at ts)) (all_leaves b.pointer (drop at ts)) (λ A. LooseInTurn b.pointer (holds A) (drop at ts)) target b d state → CanGrow t state d
+  turn_can d state long h =
+      let x = leaves_left in
+      let few = h.few in
+      let room : d.states + leaves_of b.pointer t ≤ 2 ^ 31 = (let y = can.room in omega arith) in
+      record {
+        growable = rw h.pointer (record { public = rw et (public_at ts (at - 1) t grow.public (omega arith)); long = long; even = even_here });
+        ready = placed_ready can.ready h;
+        room = rw h.pointer room;
+      }
+
+  pub turn_long : (d e : Building) (state : ℕ) → IsPlacedBy Begins (NoneAlternative (drop at ts)) (all_leaves b.pointer (drop at ts)) (λ A. LooseInTurn b.pointer (holds A) (drop at ts)) target b d state → MakesTree t state d e → TurnFront (drop (at - 1) ts) target b e state
+  turn_long d e state placed h =
+      let made : MakesBy Begins (NoneAlternative (t ∷ drop at ts)) (all_leaves b.pointer (t ∷ drop at ts)) (λ A. LooseInTurn b.pointer (holds A) (t ∷ drop at ts)) target b e = makes_before placed (said_before b.pointer t state d e placed.pointer h) in
+      subst (λ (z : List Tree). TurnFront z target b e state) (sym (drop_one ts at t pos within et)) (inr made)
+
+  pub turn_empty : (c : Building) (next : ℕ) → extent_of t ≡ Empty → TurnFront (drop at ts) target b c next → TurnFront (drop (at - 1) ts) target b c next
+  turn_empty c next empty h = subst (λ (z : List Tree). TurnFront z target b c next) (sym (drop_one ts at t pos within et)) (elim h [
+    | inl (st, same, none) ↦ inl (st, same, λ A w. (λ k. (none A w).0 ((words A w).1 k), λ k. (words A w).0 ((none A w).1 k)))
+    | inr made ↦ inr (makes_as {line2 = NoneAlternative (t ∷ drop at ts)} {room2 = all_leaves b.pointer (t ∷ drop at ts)} {Q = λ A. LooseInTurn b.pointer (holds A) (t ∷ drop at ts)} (omega arith) (λ l. l.1) words made)
+  ])
+    where
+      none_here : IsExtent Empty (λ A. LooseWord b.pointer (holds A) t)
+      none_here = subst (λ z. IsExtent z (λ A. LooseWord b.pointer (holds A) t)) empty (extent_is b.pointer can.ready.pointer.0 t)
+
+      words : (A : ℕ → ℕ → Bool) (w : Word) → LooseInTurn b.pointer (holds A) (drop at ts) w ↔ LooseInTurn b.pointer (holds A) (t ∷ drop at ts) w
+      words A w = (
+        λ k. ([], w, refl, none_here A, k),
+        λ (u, v, e, a, k). (
+            let eu = empty_alone b.pointer can.ready.pointer.0 t empty even_here A u a in
+            let ew : w ≡ v = e ∙ ap (λ (z : Word). z ++ v) eu in
+            subst (λ (z : Word). LooseInTurn b.pointer (holds A) (drop at ts) z) (sym ew) k),
+      )
+
+  pub turn_dead : extent_of t ≡ Dead → ⊥
+  turn_dead dead = live_at b.pointer can.ready.pointer.0 ts (at - 1) t (live ts grow.long) (omega arith) (ap extent_of (sym et) ∙ dead)
+
+pub turn_done : (ts : List Tree) (target : ℕ) (b c : Building) (next : ℕ) → CanGrow (Seq ts) target b → TurnFront ts target b c next → MakesTree (Seq ts) target b c
+turn_done ts target b c next can (inl (at, same, none)) =
+    let g = turn_growable b.pointer ts can.growable in
+    let (d, w, h) = subst (λ z. IsExtent z (λ A. LooseInTurn b.pointer (holds A) ts)) g.long (turn_is b.pointer can.ready.pointer.0 ts) in
+    let e : d ∷ w ≡ [] = (none any (d ∷ w)).0 h in
+    cc
+turn_done ts target b c next can (inr made) = let e = leaves_of-Seq b.pointer ts in makes_as (omega arith) (HasNoAlternatives-Seq ts).0 (λ A w. let (x, y) = LooseWord-Seq b.pointer (holds A) ts w in (y, x)) made
