@@ -1,30 +1,32 @@
 -- What is built along a list of trees, turn by turn, and for a reference.
-use Rattle.std.proofs.Common.{◌≡◌, ◌≢◌, ℕ, zero, suc, ◌+◌, ◌-◌, ◌*◌, ◌^◌, ◌<◌, ◌≤◌, ◌⊎◌, inl, inr, Bool, List, [], ◌∷◌, ◌++◌, length, take, drop, get_or, refl, sym, ap, ◌∙◌, subst, arith, ◌↔◌, drop-cons, add-one, append-nil, length-append, ⊎_elim}
+use Rattle.std.proofs.Common.{◌≡◌, ◌≢◌, ℕ, zero, suc, ◌+◌, ◌-◌, ◌*◌, ◌^◌, ◌<◌, ◌≤◌, ◌⊎◌, inl, inr, Bool, List, [], ◌∷◌, ◌++◌, length, take, drop, get_or, refl, sym, ap, ◌∙◌, subst, arith, ◌↔◌, drop-cons, add-one, append-nil, length-append, Result, Ok, Err, OnOk}
 use Rattle.std.proofs.Math.Seq.{take-suc}
+use Rattle.std.proofs.lemmas.Bool.{cases_lt}
 use Rattle.std.proofs.lemmas.List.{take_all}
-use Rattle.tm_base.specs.declared.cell.Cell.TheVariants.{Ptr}
+use Rattle.tm_base.specs.declared.cell.Cell.TheVariants.{Byte, Ptr}
 use Rattle.tm_base.specs.declared.cell.RefId.{RefId}
-use Rattle.tm_base.specs.declared.tree.Tree.{Tree, Ref, Seq, Alt, Repeat}
-use Rattle.tm_base.specs.Cells.{Word, Times}
+use Rattle.tm_base.specs.declared.tree.Tree.{Tree, Range, Pad, Ref, Seq}
+use Rattle.tm_base.specs.declared.memory.Memory.{Memory}
+use Rattle.tm_base.specs.Cells.{Word}
 use Rattle.tm_base.specs.Shapes.{leaves_of, all_leaves, HasNoPrivate, NonePrivate, HasNoAlternatives, NoneAlternative}
 use Rattle.tm_base.specs.Transmutes.{holds}
 use Rattle.tm_auto.specs.declared.build.Building.{Building}
 use Rattle.tm_auto.specs.declared.build.Way.{Way}
 use Rattle.tm_auto.specs.declared.edge.Edge.{Edge}
 use Rattle.tm_auto.specs.declared.edge.Label.{Label}
-use Rattle.tm_auto.specs.declared.edge.Label.TheVariants.{Leaf}
+use Rattle.tm_auto.specs.declared.edge.Label.TheVariants.{Bytes, Free, Leaf}
 use Rattle.tm_auto.specs.declared.extent.Extent.TheVariants.{Dead, Empty, Long}
 use Rattle.tm_auto.specs.Builds.{Words, MayFollow, IsSound, IsReady, IsGrowable, CanGrow, MakesBy, MakesTree, IsPlacedBy, IsAdded, IsSealed, AreEven, any}
 use Rattle.tm_auto.specs.Labels.{CanTake, Begins, Joins}
 use Rattle.tm_auto.specs.Loose.{LooseBytes, LooseWord, LooseInTurn, LooseOneOf}
 use Rattle.tm_auto.specs.Paths.{Among}
 use Rattle.tm_auto.specs.Shapes.{extent_of, in_turn, one_of}
-use Rattle.tm_auto.proofs.ExtentLemmas.{IsExtent, extent_is, turn_is, one_is, empty_alone, live_at, even_at, even_member, no_empty, even_part}
+use Rattle.tm_auto.proofs.ExtentLemmas.{IsExtent, extent_is, turn_is, empty_alone, live_at, even_at}
 use Rattle.tm_auto.proofs.GrowLemmas.{Both, CellWords}
-use Rattle.tm_auto.proofs.LooseLemmas.{LooseWord-Seq, LooseWord-Alt, LooseWord-Repeat, LooseWord-Ref, LooseOneOf-more}
+use Rattle.tm_auto.proofs.LooseLemmas.{LooseWord-Seq, LooseWord-Ref, LooseWord-Range, LooseWord-Pad}
 use Rattle.tm_auto.proofs.MakeLemmas.{IsSame, begins_joins, makes_as, makes_way, makes_before, makes_either, placed_none, placed_some, ready_still}
-use Rattle.tm_auto.proofs.ShapeLemmas.{extent_of-Seq, extent_of-Alt, extent_of-turns}
-use Rattle.tm_base.proofs.ShapeLemmas.{leaves_of-Seq, leaves_of-Alt, leaves_of-Repeat, HasNoAlternatives-Seq, HasNoAlternatives-Alt, HasNoAlternatives-Repeat, HasNoPrivate-Seq, HasNoPrivate-Alt, HasNoPrivate-Repeat}
+use Rattle.tm_auto.proofs.ShapeLemmas.{extent_of-Seq, extent_of-no_range}
+use Rattle.tm_base.proofs.ShapeLemmas.{leaves_of-Seq, HasNoAlternatives-Seq, HasNoPrivate-Seq}
 
 -- What stands in front of the target: nothing yet, or words of P.
 abbrev pub Front : (Label → Type 0) → Type 0 → ℕ → Words → ℕ → Building → Building → ℕ → Type 0
@@ -35,9 +37,9 @@ module _ {q : Label → Type 0} {line : Type 0} {room : ℕ} {P : Words} {target
   front_mark mark e (inl (at, same, none)) = let x = ap length same.head in omega arith
   front_mark mark e (inr h) = let x = ap length h.head in let y = length-append b.head.items h.ways in omega arith
 
-  pub front_room : (all : ℕ) → room < all → b.states + all ≤ 2 ^ 31 → Front q line room P target b c next → c.states + 1 ≤ 2 ^ 31
-  front_room all l r (inl (at, same, none)) = let x = same.states in omega arith
-  front_room all l r (inr h) = let x = h.few in omega arith
+  pub front_room : (mark all : ℕ) → mark ≡ length b.head.items → room ≤ all → b.states + all ≤ 2 ^ 31 → Front q line room P target b c next → mark < length c.head.items → c.states + 1 ≤ 2 ^ 31
+  front_room mark all e l r (inl (at, same, none)) more = let x = ap length same.head in absurd (omega arith)
+  front_room mark all e l r (inr h) more = let x = h.few in omega arith
 
   -- once it is sealed
   pub front_placed : (mark : ℕ) (d : Building) (state : ℕ) → mark ≡ length b.head.items → IsReady b target → ((e : Edge) → Among e b.edges.items → e.from ≡ target → q e.label) → Front q line room P target b c next → IsSealed mark next c d state → IsPlacedBy q line room P target b d state
@@ -52,6 +54,32 @@ module _ {q : Label → Type 0} {line : Type 0} {room : ℕ} {P : Words} {target
 -- a state may be built in front of
 pub placed_ready : {line : Type 0} {room : ℕ} {P : Words} {target : ℕ} {b d : Building} {state : ℕ} → IsReady b target → IsPlacedBy Begins line room P target b d state → IsReady d state
 placed_ready r h = record { pointer = rw h.pointer r.pointer; sound = h.sound; below = h.below; plain = h.opens }
+
+-- ---- one cell
+
+pub onto : {X : Type 0} (r : Result X Memory) (P Q : Type 0) → (P → Q) → OnOk r P → OnOk r Q
+onto (Ok x) P Q f h = f h
+onto (Err e) P Q f h = tt
+
+range_long : (low high : ℕ) → extent_of (Range low high) ≡ Long → low ≤ high
+range_long low high e = elim (cases_lt high low) [
+  | inl l ↦ (let q : Dead ≡ Long = sym (extent_of-no_range low high l) ∙ e in cc)
+  | inr l ↦ l
+]
+
+pub range_made : (low high target : ℕ) (b c : Building) → high < 256 → CanGrow (Range low high) target b → IsAdded (Bytes low high) target b c → MakesTree (Range low high) target b c
+unfolding leaves_of
+range_made low high target b c byte can added =
+    let le = range_long low high can.growable.long in
+    makes_as (omega arith) (λ l. tt) (λ A w. (
+      λ (x, (y, lo, hi, e), ew). (LooseWord-Range b.pointer (holds A) low high w).1 (y, lo, hi, ew ∙ ap (λ z. z ∷ []) e),
+      λ h. let (y, lo, hi, ew) = (LooseWord-Range b.pointer (holds A) low high w).0 h in (Byte y, (y, lo, hi, refl), ew),
+    )) (makes_way Begins Begins (Bytes low high) target b c (le, byte) tt (begins_joins (Bytes low high)) can.ready.sound can.ready.below can.ready.plain added)
+
+pub pad_made : (target : ℕ) (b c : Building) → CanGrow Pad target b → IsAdded Free target b c → MakesTree Pad target b c
+unfolding leaves_of
+pad_made target b c can added =
+    makes_as (omega arith) (λ l. tt) (λ A w. let (x, y) = LooseWord-Pad b.pointer (holds A) w in (y, x)) (makes_way Begins Begins Free target b c tt tt (begins_joins Free) can.ready.sound can.ready.below can.ready.plain added)
 
 -- ---- references
 
@@ -165,8 +193,11 @@ module _ (ts : List Tree) (at : ℕ) (t : Tree) (target : ℕ) (b : Building) (p
   even_here : AreEven (LooseWord b.pointer (holds any) t)
   even_here = subst (λ (z : Tree). AreEven (LooseWord b.pointer (holds any) z)) (sym et) (even_at b.pointer can.ready.pointer.0 ts (at - 1) t (live ts grow.long) grow.even (omega arith))
 
-  pub turn_room : (c : Building) (next : ℕ) → 0 < leaves_of b.pointer t → TurnFront (drop at ts) target b c next → c.states + 1 ≤ 2 ^ 31
-  turn_room c next some h = let x = leaves_left in front_room (leaves_of b.pointer (Seq ts)) (omega arith) can.room h
+  pub turn_room : (mark : ℕ) (c : Building) (next : ℕ) → mark ≡ length b.head.items → TurnFront (drop at ts) target b c next → mark < length c.head.items → c.states + 1 ≤ 2 ^ 31
+  turn_room mark c next em h = let x = leaves_left in front_room {room = all_leaves b.pointer (drop at ts)} mark (leaves_of b.pointer (Seq ts)) em (omega arith) can.room h
+
+  pub turn_placed : (mark : ℕ) (c d : Building) (next state : ℕ) → mark ≡ length b.head.items → TurnFront (drop at ts) target b c next → IsSealed mark next c d state → IsPlacedBy Begins (NoneAlternative (drop at ts)) (all_leaves b.pointer (drop at ts)) (λ A. LooseInTurn b.pointer (holds A) (drop at ts)) target b d state
+  turn_placed mark c d next state em h sealed = front_placed mark d state em can.ready can.ready.plain h sealed
 
   pub turn_can : (d : Building) (state : ℕ) → extent_of t ≡ Long → IsPlacedBy Begins (NoneAlternative (drop at ts)) (all_leaves b.pointer (drop at ts)) (λ A. LooseInTurn b.pointer (holds A) (drop at ts)) target b d state → CanGrow t state d
   turn_can d state long h =

@@ -13,3 +13,5 @@ pub mod ExtentLemmas
 pub mod CaseLemmas
 pub mod TimesLemmas
 pub mod MemberLemmas
+pub mod EvenLemmas
+pub mod BuiltLemmas

@@ -2,7 +2,7 @@
 use Rattle.std.proofs.Common.{◌≡◌, ◌≢◌, ℕ, zero, suc, ◌+◌, ◌<◌, ◌≤◌, true, false, nat_le, List, [], ◌∷◌, length, drop, get_or, refl, sym, ap, ◌∙◌, arith, cond, add-one, drop-cons, eq-eqb}
 use Rattle.std.proofs.lemmas.Bool.{ne_eqb}
 use Rattle.std.specs.Prelude.{◌==◌}
-use Rattle.tm_base.specs.declared.tree.Tree.{Tree, Row_of-Tree, end_of-Tree, more_of-Tree, items-the_row-Tree, items_hidden-the_row-Tree-0, Range, Seq, Alt, Repeat}
+use Rattle.tm_base.specs.declared.tree.Tree.{Tree, Row_of-Tree, end_of-Tree, more_of-Tree, items-the_row-Tree, items_hidden-the_row-Tree-0, Never, Range, Seq, Alt, Repeat, Private}
 use Rattle.tm_base.specs.declared.tree.Tree.TheBlock.{hidden-the_row-Tree-0, shape-the_row-Tree-1, hidden-the_row-Tree-1}
 use Rattle.tm_auto.specs.declared.extent.Extent.{Extent}
 use Rattle.tm_auto.specs.declared.extent.Extent.TheVariants.{Dead, Empty, Long}
@@ -113,3 +113,16 @@ extent_of-no_turn n t e = extent_of-Repeat n t ∙ (rw (eq-eqb n 0 e) refl)
 
 pub extent_of-turns : (n : ℕ) (t : Tree) → n ≢ 0 → extent_of (Repeat n t) ≡ extent_of t
 extent_of-turns n t e = extent_of-Repeat n t ∙ (rw (ne_eqb n 0 e) refl)
+
+pub extent_of-Never : extent_of Never ≡ Dead
+unfolding extent_of
+extent_of-Never = refl
+
+pub extent_of-Private : (t : Tree) → extent_of (Private t) ≡ Dead
+unfolding extent_of
+extent_of-Private t = refl
+
+pub nodes_at : (ts : List Tree) (i : ℕ) (d : Tree) → i < length ts → nodes_of (get_or ts i d) ≤ all_nodes ts
+nodes_at [] i d l = absurd (omega arith)
+nodes_at (t ∷ ts) zero d l = omega arith
+nodes_at (t ∷ ts) (suc i) d l = let h = nodes_at ts i d (omega arith) in omega arith

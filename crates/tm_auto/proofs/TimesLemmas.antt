@@ -1,5 +1,5 @@
 -- What is built for a tree that is repeated, turn by turn.
-use Rattle.std.proofs.Common.{◌≡◌, ◌≢◌, ℕ, zero, suc, ◌+◌, ◌*◌, ◌^◌, ◌<◌, ◌≤◌, ◌⊎◌, inl, inr, Bool, [], ◌∷◌, refl, sym, ap, ◌∙◌, subst, arith, ◌↔◌, absurd}
+use Rattle.std.proofs.Common.{◌≡◌, ◌≢◌, ℕ, zero, suc, ◌+◌, ◌*◌, ◌^◌, ◌<◌, ◌≤◌, ◌⊎◌, inl, inr, Bool, [], ◌∷◌, refl, sym, ap, ◌∙◌, subst, arith, ◌↔◌, length}
 use Rattle.tm_base.specs.declared.tree.Tree.{Tree, Repeat}
 use Rattle.tm_base.specs.Cells.{Word, Times}
 use Rattle.tm_base.specs.Shapes.{leaves_of, HasNoAlternatives}
@@ -7,11 +7,11 @@ use Rattle.tm_base.specs.Transmutes.{holds}
 use Rattle.tm_auto.specs.declared.build.Building.{Building}
 use Rattle.tm_auto.specs.declared.extent.Extent.{Extent}
 use Rattle.tm_auto.specs.declared.extent.Extent.TheVariants.{Dead, Empty, Long}
-use Rattle.tm_auto.specs.Builds.{IsGrowable, CanGrow, MakesBy, MakesTree, IsPlacedBy, any}
+use Rattle.tm_auto.specs.Builds.{IsGrowable, CanGrow, MakesBy, MakesTree, IsPlacedBy, IsSealed, any}
 use Rattle.tm_auto.specs.Labels.{Begins}
 use Rattle.tm_auto.specs.Loose.{LooseWord}
 use Rattle.tm_auto.specs.Shapes.{extent_of}
-use Rattle.tm_auto.proofs.CaseLemmas.{Front, front_room, placed_ready, said_before}
+use Rattle.tm_auto.proofs.CaseLemmas.{Front, front_room, front_placed, placed_ready, said_before}
 use Rattle.tm_auto.proofs.ExtentLemmas.{IsExtent, extent_is, even_part, some_times}
 use Rattle.tm_auto.proofs.LooseLemmas.{LooseWord-Repeat}
 use Rattle.tm_auto.proofs.MakeLemmas.{IsSame, makes_as, makes_before}
@@ -55,8 +55,11 @@ module _ (count : ℕ) (t : Tree) (target : ℕ) (b : Building) (can : CanGrow (
       let all = leaves_of-Repeat b.pointer count t in
       omega arith
 
-  pub times_room : (k : ℕ) (c : Building) (next : ℕ) → k < count → 0 < leaves_of b.pointer t → TimesFront k t target b c next → c.states + 1 ≤ 2 ^ 31
-  times_room k c next lt some h = let x = leaves_left k lt in front_room (leaves_of b.pointer (Repeat count t)) (omega arith) can.room h
+  pub times_room : (k mark : ℕ) (c : Building) (next : ℕ) → k < count → mark ≡ length b.head.items → TimesFront k t target b c next → mark < length c.head.items → c.states + 1 ≤ 2 ^ 31
+  times_room k mark c next lt em h = let x = leaves_left k lt in front_room {room = k * leaves_of b.pointer t} mark (leaves_of b.pointer (Repeat count t)) em (omega arith) can.room h
+
+  pub times_placed : (k mark : ℕ) (c d : Building) (next state : ℕ) → mark ≡ length b.head.items → TimesFront k t target b c next → IsSealed mark next c d state → IsPlacedBy Begins (HasNoAlternatives t) (k * leaves_of b.pointer t) (λ A. Times k (LooseWord b.pointer (holds A) t)) target b d state
+  times_placed k mark c d next state em h sealed = front_placed mark d state em can.ready can.ready.plain h sealed
 
   pub times_can : (k : ℕ) (d : Building) (state : ℕ) → k < count → IsPlacedBy Begins (HasNoAlternatives t) (k * leaves_of b.pointer t) (λ A. Times k (LooseWord b.pointer (holds A) t)) target b d state → CanGrow t state d
   times_can k d state lt h =

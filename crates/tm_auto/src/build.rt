@@ -1,6 +1,6 @@
 //! The builder. It goes from the end of the words to their beginning: in front of a state, the target,
 //! it puts the words of a tree.
-ghost use Rattle.std.specs.Prelude.{◌≡◌, ◌+◌, ◌^◌, ◌≤◌, ◌++◌, [], IfOk, IfNone, IfSome, OnOk, length};
+ghost use Rattle.std.specs.Prelude.{◌≡◌, ◌+◌, ◌^◌, ◌<◌, ◌≤◌, ◌++◌, [], IfOk, IfNone, IfSome, OnOk, length};
 ghost use Rattle.tm_base.specs.declared.tree.Tree.{Ref, Seq, Alt, Repeat};
 ghost use Rattle.tm_auto.specs.Builds.{edges_by, CanBegin, CanGrow, MakesTree, IsPlacedTree, HasNoLoose, IsAdded, IsSealed};
 
@@ -149,7 +149,7 @@ impl Building {
     // at `next`.
     fn seal(&mut self, mark: usize, next: u32) -> Result<u32, Memory>
         requires mark { mark ≤ length self.old.head.items }
-        requires room { self.old.states + 1 ≤ 2 ^ 31 }
+        requires room { mark < length self.old.head.items → self.old.states + 1 ≤ 2 ^ 31 }
         ensures { IfOk result (λ state. IsSealed mark next self.old self.new state) }
     {
         if mark == self.head.len() {

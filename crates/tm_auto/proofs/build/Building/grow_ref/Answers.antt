@@ -1,4 +1,4 @@
-use Rattle.std.proofs.Common.{◌≡◌, ◌<◌, ◌^◌, arith, rules, length, refl, subst, ℕ}
+use Rattle.std.proofs.Common.{◌≡◌, ◌<◌, ◌^◌, ◌-◌, arith, rules, length, refl, subst, ℕ}
 use Rattle.tm_base.specs.declared.tree.Tree.{Ref}
 use Rattle.tm_base.specs.Shapes.{leaves_of}
 use Rattle.tm_auto.proofs.CaseLemmas.{RefFront, ref_none, ref_turn, ref_done, front_mark, front_room}
@@ -12,7 +12,9 @@ seal-requires-clause-mark c = let mark : c.len-mark.result ≡ length c.args.sel
 
 pub seal-requires-clause-room : goal.seal-requires-clause-room
 unfolding leaves_of
-seal-requires-clause-room c = let a = c.loop-place-test.true in let b = c.loop-place.auto.place in front_room c.args.self.now.pointer (omega arith) c.requires.room c.loop-place.invariant
+seal-requires-clause-room c =
+    let mark : c.len-mark.result ≡ length c.args.self.now.head.items = search rules in
+    front_room {room = c.args.self.now.pointer - c.loop-place.place} c.len-mark.result c.args.self.now.pointer mark (omega arith) c.requires.room c.loop-place.invariant
 
 pub loop-place-preserved : goal.loop-place-preserved
 loop-place-preserved c =
