@@ -1,5 +1,5 @@
 -- What the builder made is an automaton of the tree.
-use Rattle.std.proofs.Common.{◌≡◌, ◌≢◌, ℕ, zero, suc, ◌+◌, ◌^◌, ◌<◌, ◌≤◌, inl, inr, ◌↔◌, Bool, true, List, [], ◌∷◌, ◌++◌, length, refl, sym, ap, ◌∙◌, subst, arith, append-nil}
+use Rattle.std.proofs.Common.{◌≡◌, ◌≢◌, ℕ, zero, suc, ◌+◌, ◌^◌, ◌<◌, ◌≤◌, ◌⊎◌, inl, inr, ◌↔◌, Bool, true, List, [], ◌∷◌, ◌++◌, length, refl, sym, ap, ◌∙◌, subst, arith, append-nil}
 use Rattle.std.proofs.lemmas.Bool.{cases_lt}
 use Rattle.tm_base.specs.declared.tree.Tree.{Tree}
 use Rattle.tm_base.specs.Cells.{Word}
@@ -17,6 +17,7 @@ use Rattle.tm_auto.specs.Loose.{LooseWord}
 use Rattle.tm_auto.specs.Paths.{here, Leads, Reaches, Among, IsPath}
 use Rattle.tm_auto.specs.Shapes.{extent_of}
 use Rattle.tm_auto.proofs.AmongLemmas.{none_among, only}
+use Rattle.tm_auto.proofs.EvenLemmas.{sized_even}
 use Rattle.tm_auto.proofs.ExtentLemmas.{IsExtent, extent_is, empty_alone}
 use Rattle.tm_auto.proofs.JoinedLemmas.{words_are}
 use Rattle.tm_auto.proofs.MakeLemmas.{placed_none, placed_some}
@@ -142,7 +143,7 @@ built_some t size b c state can sized h = record {
     words A keep w = (
       λ x. (
           let (j, loose) = (words_are b.pointer (holds A) keep can.pointer.0 t can.public w).0 x in
-          let r = h.back A w [] loose (rw can.edges refl) in
+          let r = h.back A w [] loose refl in
           record { joined = j; reaches = record { state = state; among = here; spells = subst (λ (z : Word). Leads (holds A) c.edges.items z state 0) (append-nil w) r } }),
       λ word. (
           let r = word.reaches in
@@ -150,3 +151,22 @@ built_some t size b c state can sized h = record {
           let q : w ≡ u = e ∙ ap (λ z. u ++ z) (end_only (holds A) v 0 (rw can.edges at k)) ∙ append-nil u in
           (words_are b.pointer (holds A) keep can.pointer.0 t can.public w).1 (word.joined, subst (λ (z : Word). LooseWord b.pointer (holds A) t z) (sym q) x)),
     )
+
+-- ---- what is asked of the call
+
+pub begin : (t : Tree) (b : Building) (size pointer : ℕ) → (pointer ≡ 4) ⊎ (pointer ≡ 8) → HasNoPrivate t → leaves_of pointer t < 2 ^ 31 → HasSize pointer size t → b.edges.items ≡ [] → b.states ≡ 1 → b.head.items ≡ [] → b.pointer ≡ pointer → CanBegin t b
+begin t b size pointer which public leaves sized ee es eh ep = record {
+  pointer = elim which [ inl q ↦ (omega arith, omega arith) | inr q ↦ (omega arith, omega arith) ];
+  edges = ee;
+  states = es;
+  head = eh;
+  public = public;
+  even = rw ep (sized_even pointer size t sized);
+  room = rw ep leaves;
+}
+
+pub of_none : (t : Tree) (b : Building) (size pointer : ℕ) (edges : List Edge) (starts : List ℕ) → CanBegin t b → b.pointer ≡ pointer → HasNoLoose b.pointer t → edges ≡ [] → starts ≡ [] → IsAutomatonOf t (record { states = 0; edges = edges; starts = starts; size = size; pointer = pointer })
+of_none t b size pointer edges starts can ep none ee es = rw (ee, es, ← ep) (built_none t size b.pointer can.pointer.0 can.public none)
+
+pub of_some : (t : Tree) (b c : Building) (size pointer state : ℕ) (starts : List ℕ) → CanBegin t b → b.pointer ≡ pointer → HasSize pointer size t → IsPlacedTree t 0 b c state → starts ≡ state ∷ [] → IsAutomatonOf t (record { states = c.states; edges = c.edges.items; starts = starts; size = size; pointer = pointer })
+of_some t b c size pointer state starts can ep sized h es = rw (es, ← ep) (built_some t size b c state can (rw (← ep) at sized) h)
