@@ -10,14 +10,16 @@ use Rattle.tm_base.specs.Transmutes.{holds}
 use Rattle.tm_auto.specs.declared.edge.Edge.{Edge}
 use Rattle.tm_auto.specs.declared.edge.Label.{Label}
 use Rattle.tm_auto.specs.declared.edge.Label.TheVariants.{Bytes, Free, Leaf}
-use Rattle.tm_auto.specs.Automata.{Automaton, AutoWord, IsViable, IsInLayer, IsAutomaton, LiesOnWord, IsLayered, ReadsWords, reached, equal}
+use Rattle.tm_auto.specs.declared.edge.Symbol.{Symbol}
+use Rattle.tm_auto.specs.Automata.{Automaton, AutoWord, IsViable, IsInLayer, IsAutomaton, LiesOnWord, IsLayered, ReadsWords, IsStep, BeginsReference, IsOfReferences, reached, equal}
 use Rattle.tm_auto.specs.Joined.{Follows, JoinedAfter, IsJoined, IsNotOwn, HasNoOwn, IsWhole}
 use Rattle.tm_auto.specs.Labels.{Takes, CanTake, Begins, Joins}
 use Rattle.tm_auto.specs.Paths.{Among, Leads, IsPath}
+use Rattle.tm_auto.specs.Sets.{next, reached_from, symbol_of}
 use Rattle.tm_auto.proofs.AmongLemmas.{some_among, none_among}
-use Rattle.tm_auto.proofs.SetLemmas.{same_at}
+use Rattle.tm_auto.proofs.SetLemmas.{same_at, rises_same, increasing_rises}
 use Rattle.tm_auto.proofs.JoinedLemmas.{joined_left}
-use Rattle.tm_auto.proofs.StepLemmas.{reached_to, to_reached}
+use Rattle.tm_auto.proofs.StepLemmas.{id_at, place_at, next_to, to_next, next-IsStrictlyIncreasing, reached_to, to_reached}
 
 abbrev last_of : Cell → Word → Cell
 last_of p [] = p
@@ -79,9 +81,9 @@ own_test : (A : ℕ → ℕ → Bool) (x t : ℕ) → OrOwn (holds A) x t → ho
 own_test A x t (inl a) = or_left (A x t) (x == own t) a
 own_test A x t (inr e) = or_right (A x t) (x == own t) (eq-eqb x (own t) e)
 
-whole_at : (w v : Word) (r : RefId) (k : ℕ) → IsWhole ((w ++ Ptr r k ∷ []) ++ v) → suc k < 8 → (u : Word) × (v ≡ Ptr r (suc k) ∷ u)
-whole_at [] v r k h l = h.0 l
-whole_at (c ∷ w) v r k h l = whole_at w v r k h.1 l
+whole_at : (p : ℕ) (w v : Word) (r : RefId) (k : ℕ) → IsWhole p ((w ++ Ptr r k ∷ []) ++ v) → suc k < p → (u : Word) × (v ≡ Ptr r (suc k) ∷ u)
+whole_at p [] v r k h l = h.0 l
+whole_at p (c ∷ w) v r k h l = whole_at p w v r k h.1 l
 
 last_id : (w : Word) (r : RefId) (k : ℕ) → HasNoOwn (w ++ Ptr r k ∷ []) → r.0 < 2 ^ 32
 last_id [] r k n = n.0
@@ -90,6 +92,25 @@ last_id (c ∷ w) r k n = last_id w r k n.1
 no_own_more : (w : Word) (r : RefId) (k : ℕ) → HasNoOwn w → r.0 < 2 ^ 32 → HasNoOwn (w ++ Ptr r k ∷ [])
 no_own_more [] r k n l = (l, tt)
 no_own_more (c ∷ w) r k n l = (n.0, no_own_more w r k n.1 l)
+
+-- the first byte of a target reference that holds itself
+abbrev own_byte : RefId → Cell
+own_byte t = Ptr (record { 0 = own t.0 }) 0
+
+-- it is taken as that reference alone
+own_label : (A : ℕ → ℕ → Bool) (p : ℕ) → IsOfReferences A → (t : RefId) (l : Label) → CanTake p l → Takes (OrOwn (holds A)) l (own_byte t) → l ≡ Leaf t 0
+own_label A p refs t (Bytes low high) can (x, lo, hi, e) = cc
+own_label A p refs t Free can k = absurd k
+own_label A p refs t (Leaf u k) can (x, inl a, e) =
+    let l = refs x u.0 can.0 a in
+    let q : own t.0 ≡ x = ap id_at e in
+    absurd (omega arith)
+own_label A p refs t (Leaf u k) can (x, inr o, e) =
+    let q : own t.0 ≡ x = ap id_at e in
+    let z : 0 ≡ k = ap place_at e in
+    let same : u.0 ≡ t.0 = omega arith in
+    let whole : u ≡ t = ap (λ (n : ℕ). record { 0 = n }) same in
+    rw (whole, ← z) refl
 
 module _ (auto : Automaton) (h : IsAutomaton auto) where
   path_below : (k s t : ℕ) → s < auto.states → IsPath auto.edges k s t → t < auto.states
@@ -114,13 +135,13 @@ module _ (auto : Automaton) (h : IsAutomaton auto) where
 
   module _ (B : ℕ → ℕ → Type 0) (full : (t : ℕ) → (x : ℕ) × B x t) where
     -- some cell passes the second label after the first took one
-    follow : (l m : Label) (c : Cell) → Joins l m → CanTake m → Takes B l c → (d : Cell) × Takes B m d × Follows c d
+    follow : (l m : Label) (c : Cell) → Joins l m → CanTake auto.pointer m → Takes B l c → (d : Cell) × Takes B m d × Follows c d
     follow l (Bytes low high) c j s k = (Byte low, (low, omega arith, s.0, refl), tt)
     follow l Free c j s k = (Uninit, tt, tt)
     follow l (Leaf t zero) c j s k = let (x, a) = full t.0 in (Ptr (record { 0 = x }) 0, (x, a, refl), tt)
     follow l (Leaf t (suc i)) c j s k = let (x, a, e) = subst (λ (z : Label). Takes B z c) j k in (Ptr (record { 0 = x }) (suc i), (x, a, refl), e)
 
-    first : (m : Label) → Begins m → CanTake m → (d : Cell) × Takes B m d × Follows Uninit d
+    first : (m : Label) → Begins m → CanTake auto.pointer m → (d : Cell) × Takes B m d × Follows Uninit d
     first (Bytes low high) j s = (Byte low, (low, omega arith, s.0, refl), tt)
     first Free j s = (Uninit, tt, tt)
     first (Leaf t zero) j s = let (x, a) = full t.0 in (Ptr (record { 0 = x }) 0, (x, a, refl), tt)
@@ -250,6 +271,26 @@ module _ (auto : Automaton) (h : IsAutomaton auto) where
         none_among (subst (λ (z : List ℕ). Among s z) q m)),
   )
 
+  -- where a target reference may begin
+  opens_list : (A : ℕ → ℕ → Bool) (w : Word) (t : RefId) → IsOfReferences A → IsJoined w → HasNoOwn w → BeginsReference auto (reached A auto w) t ↔ IsViable (holds A) auto (w ++ Ptr (record { 0 = own t.0 }) 0 ∷ [])
+  opens_list A w t refs j n = (
+    λ (e, em, ef, el).
+        let (a, am, l) = reached_to A auto.edges auto.starts w e.from ef in
+        let wide = leads_wider (holds A) (OrOwn (holds A)) (λ x t p. inl p) auto.edges w a e.from l in
+        let takes : Takes (OrOwn (holds A)) e.label (own_byte t) = subst (λ (z : Label). Takes (OrOwn (holds A)) z (own_byte t)) (sym el) (own t.0, inr refl, refl) in
+        let more : Leads (OrOwn (holds A)) auto.edges (w ++ own_byte t ∷ []) a e.to = leads_on (OrOwn (holds A)) auto.edges w (own_byte t ∷ []) a e.from e.to wide (e, em, refl, takes, refl) in
+        let joined : IsJoined (w ++ own_byte t ∷ []) = joined_on Uninit w (own_byte t ∷ []) j (tt, tt) in
+        let full : (t : ℕ) → (x : ℕ) × OrOwn (holds A) x t = λ t. (own t, inr refl) in
+        let (v, k, jv) = goes_on (OrOwn (holds A)) full (w ++ own_byte t ∷ []) a e.to am joined more in
+        (v, word_of (OrOwn (holds A)) full (w ++ own_byte t ∷ []) v a e.to am more k jv),
+    λ (v, word).
+        let r = word.reaches in
+        let (s2, l, k) = leads_parts (OrOwn (holds A)) auto.edges (w ++ own_byte t ∷ []) v r.state 0 r.spells in
+        let (s, l1, (e, em, ef, et, eq)) = leads_parts (OrOwn (holds A)) auto.edges w (own_byte t ∷ []) r.state s2 l in
+        let m = to_reached A auto.edges auto.starts w r.state s r.among (no_own A w r.state s n l1) in
+        (e, em, subst (λ (z : ℕ). Among z (reached A auto w)) (sym ef) m, own_label A auto.pointer refs t e.label (h.takes e em) et),
+  )
+
   -- ---- under the test of equal references
 
   chained : (w : Word) (p : Cell) (a s : ℕ) → ((f : Edge) (d : Cell) → Among f auto.edges → f.from ≡ a → Takes (holds equal) f.label d → Follows p d) → Leads (holds equal) auto.edges w a s → JoinedAfter p w
@@ -282,7 +323,7 @@ module _ (auto : Automaton) (h : IsAutomaton auto) where
 
   -- ---- references stay whole
 
-  next_byte : (A : ℕ → ℕ → Bool) (w : Word) (r : RefId) (k : ℕ) → suc k < 8 → IsJoined (w ++ Ptr r k ∷ []) → HasNoOwn (w ++ Ptr r k ∷ []) → reached A auto (w ++ Ptr r k ∷ []) ≢ [] → reached A auto ((w ++ Ptr r k ∷ []) ++ Ptr r (suc k) ∷ []) ≢ []
+  next_byte : (A : ℕ → ℕ → Bool) (w : Word) (r : RefId) (k : ℕ) → suc k < auto.pointer → IsJoined (w ++ Ptr r k ∷ []) → HasNoOwn (w ++ Ptr r k ∷ []) → reached A auto (w ++ Ptr r k ∷ []) ≢ [] → reached A auto ((w ++ Ptr r k ∷ []) ++ Ptr r (suc k) ∷ []) ≢ []
   next_byte A w r k lt j n ne =
       let base = w ++ Ptr r k ∷ [] in
       let (v, word) = (viable_list A base j n).0 ne in
@@ -291,13 +332,25 @@ module _ (auto : Automaton) (h : IsAutomaton auto) where
         joined = word.joined;
         reaches = record { state = x.state; among = x.among; spells = leads_wider (OrOwn (holds A)) (holds (or_own A)) (own_test A) auto.edges (base ++ v) x.state 0 x.spells };
       } in
-      let (u, e) = whole_at w v r k (h.whole (or_own A) (base ++ v) wide) lt in
+      let (u, e) = whole_at auto.pointer w v r k (h.whole (or_own A) (base ++ v) wide) lt in
       let same : base ++ v ≡ (base ++ Ptr r (suc k) ∷ []) ++ u = ap (λ (z : Word). base ++ z) e ∙ sym (append_assoc base (Ptr r (suc k) ∷ []) u) in
       let word2 : AutoWord (OrOwn (holds A)) auto ((base ++ Ptr r (suc k) ∷ []) ++ u) = subst (λ (z : Word). AutoWord (OrOwn (holds A)) auto z) same word in
       (viable_list A (base ++ Ptr r (suc k) ∷ []) (joined_left Uninit (base ++ Ptr r (suc k) ∷ []) u word2.joined) (no_own_more base r (suc k) n (last_id w r k n))).1 (u, word2)
 
+  next_is : (A : ℕ → ℕ → Bool) (from : List ℕ) (x : Symbol) (set : List ℕ) → IsStep A auto from x set → set ≡ next A auto.edges from x
+  next_is A from x set s = rises_same set (next A auto.edges from x) (increasing_rises set s.rising) (increasing_rises _ (next-IsStrictlyIncreasing A auto.edges from x))
+      (λ t a. let (e, ea, ef, ep, eq) = (s.states t).0 a in subst (λ (z : ℕ). Among z (next A auto.edges from x)) eq (to_next A auto.edges from x e ea ef ep))
+      (λ t a. (s.states t).1 (next_to A auto.edges from x t a))
+
+  reached_more : (A : ℕ → ℕ → Bool) (states : List ℕ) (w : Word) (c : Cell) → reached_from A auto.edges states (w ++ c ∷ []) ≡ next A auto.edges (reached_from A auto.edges states w) (symbol_of c)
+  reached_more A states [] c = refl
+  reached_more A states (d ∷ w) c = reached_more A (next A auto.edges states (symbol_of d)) w c
+
   pub reads : ReadsWords auto
   reads = record {
+    begins = λ A. refl;
+    steps = λ A w c set s. next_is A (reached A auto w) (symbol_of c) set s ∙ sym (reached_more A auto.starts w c);
+    opens = opens_list;
     states = λ A w s. (λ m. reached_to A auto.edges auto.starts w s m, λ (a, am, l). to_reached A auto.edges auto.starts w a s am l);
     layer = λ A w s m. let (a, am, l) = reached_to A auto.edges auto.starts w s m in record { start = a; among = am; path = path_of (holds A) w a s l };
     viable = viable_list;

@@ -1,45 +1,78 @@
 -- What the builder made is an automaton of the tree.
-use Rattle.std.proofs.Common.{◌≡◌, ◌≢◌, ℕ, zero, suc, inl, inr, ◌↔◌, Bool, true, false, List, [], ◌∷◌, ◌++◌, length, refl, sym, ap, ◌∙◌, subst, arith, append-nil}
-use Rattle.std.specs.Prelude.{◌==◌}
-use Rattle.std.specs.List.Sorted.{IsStrictlyIncreasing}
+use Rattle.std.proofs.Common.{◌≡◌, ◌≢◌, ℕ, zero, suc, ◌+◌, ◌^◌, ◌<◌, ◌≤◌, ◌⊎◌, inl, inr, ◌↔◌, Bool, true, List, [], ◌∷◌, ◌++◌, length, refl, sym, ap, ◌∙◌, subst, arith, append-nil}
 use Rattle.std.proofs.lemmas.Bool.{cases_lt}
 use Rattle.tm_base.specs.declared.tree.Tree.{Tree}
 use Rattle.tm_base.specs.Cells.{Word}
-use Rattle.tm_base.specs.Shapes.{HasNoPrivate, HasNoAlternatives, HasSize}
+use Rattle.tm_base.specs.Shapes.{leaves_of, HasNoPrivate, HasNoAlternatives, HasSize}
 use Rattle.tm_base.specs.Transmutes.{holds}
 use Rattle.tm_base.specs.Trees.{TreeWord}
+use Rattle.tm_auto.specs.declared.build.Building.{Building}
 use Rattle.tm_auto.specs.declared.edge.Edge.{Edge}
+use Rattle.tm_auto.specs.declared.extent.Extent.{Extent}
+use Rattle.tm_auto.specs.declared.extent.Extent.TheVariants.{Dead, Empty, Long}
 use Rattle.tm_auto.specs.Automata.{Automaton, AutoWord, HasOneStateALayer, IsAutomaton}
-use Rattle.tm_auto.specs.Builds.{IsForward, IsReady}
+use Rattle.tm_auto.specs.Builds.{IsForward, IsSound, IsReady, CanBegin, CanGrow, MakesTree, IsPlacedTree, IsSealed, HasNoLoose, any}
+use Rattle.tm_auto.specs.Labels.{Begins}
 use Rattle.tm_auto.specs.Loose.{LooseWord}
-use Rattle.tm_auto.specs.Paths.{here, Leads, Reaches, IsPath}
-use Rattle.tm_auto.proofs.AmongLemmas.{some_among, none_among, only}
-use Rattle.tm_auto.proofs.CaseLemmas.{MakesTree}
+use Rattle.tm_auto.specs.Paths.{here, Leads, Reaches, Among, IsPath}
+use Rattle.tm_auto.specs.Shapes.{extent_of}
+use Rattle.tm_auto.proofs.AmongLemmas.{none_among, only}
+use Rattle.tm_auto.proofs.EvenLemmas.{sized_even}
+use Rattle.tm_auto.proofs.ExtentLemmas.{IsExtent, extent_is, empty_alone}
 use Rattle.tm_auto.proofs.JoinedLemmas.{words_are}
-use Rattle.tm_auto.proofs.SetLemmas.{rises_increasing, same_at}
+use Rattle.tm_auto.proofs.MakeLemmas.{placed_none, placed_some}
+use Rattle.tm_auto.proofs.SetLemmas.{rises_increasing}
 use Rattle.tm_auto.proofs.WholeLemmas.{tree_whole}
 
 -- an automaton whose words are the tree's
 pub record IsAutomatonOf (t : Tree) (auto : Automaton) : Type 0 where
   pub automaton : IsAutomaton auto
-  pub words : (A : ℕ → ℕ → Bool) (keep : Bool) (w : Word) → TreeWord (holds A) keep t w ↔ AutoWord (holds A) auto w
+  pub words : (A : ℕ → ℕ → Bool) (keep : Bool) (w : Word) → TreeWord auto.pointer (holds A) keep t w ↔ AutoWord (holds A) auto w
   pub single : HasNoAlternatives t → HasOneStateALayer auto
+  pub linear : length auto.edges ≤ leaves_of auto.pointer t
 
--- before anything is put there is the end alone
-pub ready_at_end : (targets : List ℕ) (es : List Edge) → targets ≡ 0 ∷ [] → es ≡ [] → IsReady es 1 targets
-ready_at_end targets es et ee = rw (et, ee) (record {
-  sound = record {
-    some = omega arith;
-    from = λ e a. absurd (none_among a);
-    down = λ e a. absurd (none_among a);
-    ordered = tt;
-    left = λ s lo hi. absurd (omega arith);
-    takes = λ e a. absurd (none_among a);
-    joins = λ e f a b q. absurd (none_among a);
-  };
-  below = λ s a. let e = only s 0 a in omega arith;
-  plain = λ e a s. absurd (none_among a);
-})
+-- ---- the whole tree
+
+module _ (t : Tree) (b : Building) (can : CanBegin t b) where
+  no_edge : (e : Edge) → Among e b.edges.items → ⊥
+  no_edge e a = none_among (subst (λ (xs : List Edge). Among e xs) can.edges a)
+
+  -- there is the end alone
+  ready : IsReady b 0
+  ready = record {
+    pointer = can.pointer;
+    sound = record {
+      some = let x = can.states in omega arith;
+      from = λ e a. absurd (no_edge e a);
+      down = λ e a. absurd (no_edge e a);
+      ordered = rw can.edges tt;
+      left = λ s lo hi. let x = can.states in absurd (omega arith);
+      takes = λ e a. absurd (no_edge e a);
+      joins = λ e f a c q. absurd (no_edge e a);
+    };
+    below = let x = can.states in omega arith;
+    plain = λ e a s. absurd (no_edge e a);
+  }
+
+  pub begin_can : extent_of t ≡ Long → CanGrow t 0 b
+  begin_can long = record { growable = record { public = can.public; long = long; even = can.even }; ready = ready; room = let x = can.states in let y = can.room in omega arith }
+
+  pub begin_room : (c : Building) → MakesTree t 0 b c → c.states + 1 ≤ 2 ^ 31
+  begin_room c h = let x = h.few in let y = can.states in let z = can.room in omega arith
+
+  pub begin_long : (c d : Building) (state : ℕ) → MakesTree t 0 b c → IsSealed 0 0 c d state → IsPlacedTree t 0 b d state
+  begin_long c d state h sealed = let none : 0 ≡ length b.head.items = sym (ap length can.head) in placed_some 0 d state h (subst (λ (z : ℕ). IsSealed z 0 c d state) none sealed)
+
+  pub begin_empty : extent_of t ≡ Empty → IsPlacedTree t 0 b b 0
+  begin_empty e = placed_none Begins (HasNoAlternatives t) (leaves_of b.pointer t) (λ A. LooseWord b.pointer (holds A) t) 0 b b 0 (λ A w. (empty_alone b.pointer can.pointer.0 t e can.even A w, λ q. rw q (none A))) (record { pointer = refl; states = refl; edges = refl; head = refl }) refl ready.sound ready.below ready.plain
+    where
+      none : IsExtent Empty (λ A. LooseWord b.pointer (holds A) t)
+      none = subst (λ (z : Extent). IsExtent z (λ A. LooseWord b.pointer (holds A) t)) e (extent_is b.pointer can.pointer.0 t)
+
+  pub begin_dead : extent_of t ≡ Dead → HasNoLoose b.pointer t
+  begin_dead e = subst (λ (z : Extent). IsExtent z (λ A. LooseWord b.pointer (holds A) t)) e (extent_is b.pointer can.pointer.0 t)
+
+-- ---- the automaton
 
 end_only : (A : ℕ → ℕ → Type 0) (v : Word) (s : ℕ) → Leads A [] v s 0 → v ≡ []
 end_only A [] s h = refl
@@ -52,8 +85,8 @@ forward_path es f (suc k) a s t (d, da, df, p) (e, ea, ef, q) =
     forward_path es f k e.to s t (subst (λ (z : ℕ). IsPath es k z s) same p) q
 
 -- where no word begins
-none : (t : Tree) (size : ℕ) (fs : List Edge) (m : ℕ) → HasNoPrivate t → MakesTree t [] fs 1 m (0 ∷ []) [] → IsAutomatonOf t (record { states = 0; edges = []; starts = []; size = size })
-none t size fs m g h = record {
+pub built_none : (t : Tree) (size pointer : ℕ) → 0 < pointer → HasNoPrivate t → HasNoLoose pointer t → IsAutomatonOf t (record { states = 0; edges = []; starts = []; size = size; pointer = pointer })
+built_none t size pointer some g none = record {
   automaton = record {
     down = λ e a. absurd (none_among a);
     ordered = tt;
@@ -63,64 +96,77 @@ none t size fs m g h = record {
     joins = λ e f a b q. absurd (none_among a);
     begins = λ e a s. absurd (none_among a);
     rising = rises_increasing [] tt;
+    one = λ s u a b. absurd (none_among a);
     below = λ s a. absurd (none_among a);
     sized = λ A w word. absurd (none_among word.reaches.among);
     whole = λ A w word. absurd (none_among word.reaches.among);
   };
   words = λ A keep w. (
-    λ x. (
-        let (j, loose) = (words_are (holds A) keep t g w).0 x in
-        let r = (h.grows A).back w [] loose (record { state = 0; among = here; spells = refl }) in
-        absurd (none_among r.among)),
+    λ x. absurd (none A w ((words_are pointer (holds A) keep some t g w).0 x).1),
     λ word. absurd (none_among word.reaches.among),
   );
   single = λ l k s t2 p q. absurd (none_among p.among);
+  linear = omega arith;
 }
 
-pub built_none : (t : Tree) (size : ℕ) (es fs edges : List Edge) (m : ℕ) (targets starts : List ℕ) → es ≡ [] → targets ≡ 0 ∷ [] → edges ≡ [] → starts ≡ [] → HasNoPrivate t → MakesTree t es fs 1 m targets starts → IsAutomatonOf t (record { states = 0; edges = edges; starts = starts; size = size })
-built_none t size es fs edges m targets starts ee et en es2 g h = rw (en, es2) (none t size fs m g (rw (ee, et, es2) at h))
-
-some : (t : Tree) (size : ℕ) (fs : List Edge) (m : ℕ) (starts : List ℕ) → HasNoPrivate t → HasSize size t → starts ≢ [] → IsStrictlyIncreasing starts → MakesTree t [] fs 1 m (0 ∷ []) starts → IsAutomatonOf t (record { states = m; edges = fs; starts = starts; size = size })
-some t size fs m starts g sized ne rising h = record {
+pub built_some : (t : Tree) (size : ℕ) (b c : Building) (state : ℕ) → CanBegin t b → HasSize b.pointer size t → IsPlacedTree t 0 b c state → IsAutomatonOf t (record { states = c.states; edges = c.edges.items; starts = state ∷ []; size = size; pointer = b.pointer })
+built_some t size b c state can sized h = record {
   automaton = record {
     down = λ e a. (h.sound.down e a, h.sound.from e a);
     ordered = h.sound.ordered;
     left = h.sound.left;
     entered = λ s l. elim (cases_lt 0 s) [
-      | inl pos ↦ h.into s (omega arith) l
-      | inr z ↦ (let (a, am) = some_among starts ne in let e : s ≡ 0 = omega arith in h.covers a am s (rw e here))
+      | inl pos ↦ elim (h.into s (let x = can.states in omega arith) l) [ inl q ↦ inl (start s q) | inr e ↦ inr e ]
+      | inr z ↦ (let e : 0 ≡ s = omega arith in elim h.covers [ inl q ↦ inl (start s (sym e ∙ q)) | inr (f, a, w) ↦ inr (f, a, w ∙ e) ])
     ];
-    takes = h.sound.takes;
+    takes = rw h.pointer at h.sound.takes;
     joins = h.sound.joins;
-    begins = h.opens;
-    rising = rising;
-    below = h.below;
+    begins = λ e a s. h.opens e a (only e.from state s);
+    rising = rises_increasing (state ∷ []) tt;
+    one = λ s u a d. only s state a ∙ sym (only u state d);
+    below = λ s a. let e = only s state a in let x = h.below in omega arith;
     sized = λ A w word. sized A w ((words A true w).1 word);
-    whole = λ A w word. tree_whole (holds A) true t w ((words A true w).1 word);
+    whole = λ A w word. tree_whole b.pointer (holds A) true t w ((words A true w).1 word);
   };
   words = words;
   single = λ l k s u p q.
-      let (f, o) = h.forward l (λ d e a b w. absurd (none_among a)) (λ a b x y. only a 0 x ∙ sym (only b 0 y)) in
-      forward_path fs f k q.start s u (subst (λ (z : ℕ). IsPath fs k z s) (o p.start q.start p.among q.among) p.path) q.path;
+      let f = h.forward l (λ d e a x w. absurd (none_among (subst (λ (xs : List Edge). Among d xs) can.edges a))) in
+      let one : p.start ≡ q.start = only p.start state p.among ∙ sym (only q.start state q.among) in
+      forward_path c.edges.items f k q.start s u (subst (λ (z : ℕ). IsPath c.edges.items k z s) one p.path) q.path;
+  linear = let x = h.linear in let y = ap length (h.longer ∙ ap (λ (z : List Edge). z ++ h.more) can.edges) in omega arith;
 }
   where
-    words : (A : ℕ → ℕ → Bool) (keep : Bool) (w : Word) → TreeWord (holds A) keep t w ↔ AutoWord (holds A) (record { states = m; edges = fs; starts = starts; size = size }) w
+    start : (s : ℕ) → s ≡ state → Among s (state ∷ [])
+    start s q = rw q here
+
+    words : (A : ℕ → ℕ → Bool) (keep : Bool) (w : Word) → TreeWord b.pointer (holds A) keep t w ↔ AutoWord (holds A) (record { states = c.states; edges = c.edges.items; starts = state ∷ []; size = size; pointer = b.pointer }) w
     words A keep w = (
       λ x. (
-          let (j, loose) = (words_are (holds A) keep t g w).0 x in
-          record { joined = j; reaches = subst (λ (z : Word). Reaches (holds A) fs starts z) (append-nil w) ((h.grows A).back w [] loose (record { state = 0; among = here; spells = refl })) }),
+          let (j, loose) = (words_are b.pointer (holds A) keep can.pointer.0 t can.public w).0 x in
+          let r = h.back A w [] loose refl in
+          record { joined = j; reaches = record { state = state; among = here; spells = subst (λ (z : Word). Leads (holds A) c.edges.items z state 0) (append-nil w) r } }),
       λ word. (
-          let (u, v, e, x, r) = (h.grows A).forth w word.reaches in
-          let q : w ≡ u = e ∙ ap (λ z. u ++ z) (end_only (holds A) v r.state r.spells) ∙ append-nil u in
-          (words_are (holds A) keep t g w).1 (word.joined, subst (λ (z : Word). LooseWord (holds A) t z) (sym q) x)),
+          let r = word.reaches in
+          let (u, v, e, x, k) = h.forth A w (subst (λ (z : ℕ). Leads (holds A) c.edges.items w z 0) (only r.state state r.among) r.spells) in
+          let q : w ≡ u = e ∙ ap (λ z. u ++ z) (end_only (holds A) v 0 (rw can.edges at k)) ∙ append-nil u in
+          (words_are b.pointer (holds A) keep can.pointer.0 t can.public w).1 (word.joined, subst (λ (z : Word). LooseWord b.pointer (holds A) t z) (sym q) x)),
     )
 
-pub built_some : (t : Tree) (size : ℕ) (es fs : List Edge) (m : ℕ) (targets starts : List ℕ) → es ≡ [] → targets ≡ 0 ∷ [] → starts ≢ [] → IsStrictlyIncreasing starts → HasNoPrivate t → HasSize size t → MakesTree t es fs 1 m targets starts → IsAutomatonOf t (record { states = m; edges = fs; starts = starts; size = size })
-built_some t size es fs m targets starts ee et ne rising g sized h = some t size fs m starts g sized ne rising (rw (ee, et) at h)
+-- ---- what is asked of the call
 
-pub no_states : (xs : List ℕ) (b : Bool) → b ≡ (length xs == 0) → b ≡ true → xs ≡ []
-no_states [] b e f = refl
-no_states (x ∷ xs) b e f = let z = same_at (length (x ∷ xs)) 0 (sym e ∙ f) in absurd (omega arith)
+pub begin : (t : Tree) (b : Building) (size pointer : ℕ) → (pointer ≡ 4) ⊎ (pointer ≡ 8) → HasNoPrivate t → leaves_of pointer t < 2 ^ 31 → HasSize pointer size t → b.edges.items ≡ [] → b.states ≡ 1 → b.head.items ≡ [] → b.pointer ≡ pointer → CanBegin t b
+begin t b size pointer which public leaves sized ee es eh ep = record {
+  pointer = elim which [ inl q ↦ (omega arith, omega arith) | inr q ↦ (omega arith, omega arith) ];
+  edges = ee;
+  states = es;
+  head = eh;
+  public = public;
+  even = rw ep (sized_even pointer size t sized);
+  room = rw ep leaves;
+}
 
-pub some_states : (xs ys : List ℕ) (b : Bool) → ys ≡ xs → b ≡ (length ys == 0) → b ≡ false → xs ≢ []
-some_states xs ys b w e f q = let z : (length ys == 0) ≡ true = rw (w, q) refl in cc
+pub of_none : (t : Tree) (b : Building) (size pointer : ℕ) (edges : List Edge) (starts : List ℕ) → CanBegin t b → b.pointer ≡ pointer → HasNoLoose b.pointer t → edges ≡ [] → starts ≡ [] → IsAutomatonOf t (record { states = 0; edges = edges; starts = starts; size = size; pointer = pointer })
+of_none t b size pointer edges starts can ep none ee es = rw (ee, es, ← ep) (built_none t size b.pointer can.pointer.0 can.public none)
+
+pub of_some : (t : Tree) (b c : Building) (size pointer state : ℕ) (starts : List ℕ) → CanBegin t b → b.pointer ≡ pointer → HasSize pointer size t → IsPlacedTree t 0 b c state → starts ≡ state ∷ [] → IsAutomatonOf t (record { states = c.states; edges = c.edges.items; starts = starts; size = size; pointer = pointer })
+of_some t b c size pointer state starts can ep sized h es = rw (es, ← ep) (built_some t size b c state can (rw (← ep) at sized) h)

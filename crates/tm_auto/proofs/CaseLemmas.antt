@@ -1,118 +1,130 @@
--- What is built for each kind of tree.
-use Rattle.std.proofs.Common.{◌≡◌, ◌≢◌, ℕ, zero, suc, ◌+◌, ◌-◌, ◌*◌, ◌^◌, ◌<◌, ◌≤◌, Bool, true, false, IsTrue, List, [], ◌∷◌, ◌++◌, length, take, drop, get_or, refl, sym, ap, ◌∙◌, subst, arith, ◌↔◌, Result, Ok, Err, IfOk, OnOk, drop-cons, inl, inr, ◌⊎◌}
-use Rattle.std.specs.Prelude.{◌==◌}
-use Rattle.tm_base.specs.declared.memory.Memory.{Memory}
-use Rattle.tm_base.specs.declared.tree.Tree.{Tree, Never, Range, Ref, Seq, Alt, Repeat}
+-- What is built along a list of trees, turn by turn, and for a reference.
+use Rattle.std.proofs.Common.{◌≡◌, ◌≢◌, ℕ, zero, suc, ◌+◌, ◌-◌, ◌*◌, ◌^◌, ◌<◌, ◌≤◌, ◌⊎◌, inl, inr, Bool, List, [], ◌∷◌, ◌++◌, length, take, drop, get_or, refl, sym, ap, ◌∙◌, subst, arith, ◌↔◌, drop-cons, add-one, append-nil, length-append, Result, Ok, Err, OnOk}
+use Rattle.std.proofs.Math.Seq.{take-suc}
+use Rattle.std.proofs.lemmas.Bool.{cases_lt}
+use Rattle.std.proofs.lemmas.List.{take_all}
+use Rattle.tm_base.specs.declared.cell.Cell.TheVariants.{Byte, Ptr}
 use Rattle.tm_base.specs.declared.cell.RefId.{RefId}
-use Rattle.tm_base.specs.Cells.{Word, Times}
+use Rattle.tm_base.specs.declared.tree.Tree.{Tree, Range, Pad, Ref, Seq}
+use Rattle.tm_base.specs.declared.memory.Memory.{Memory}
+use Rattle.tm_base.specs.Cells.{Word}
 use Rattle.tm_base.specs.Shapes.{leaves_of, all_leaves, HasNoPrivate, NonePrivate, HasNoAlternatives, NoneAlternative}
 use Rattle.tm_base.specs.Transmutes.{holds}
+use Rattle.tm_auto.specs.declared.build.Building.{Building}
+use Rattle.tm_auto.specs.declared.build.Way.{Way}
 use Rattle.tm_auto.specs.declared.edge.Edge.{Edge}
 use Rattle.tm_auto.specs.declared.edge.Label.{Label}
-use Rattle.tm_auto.specs.declared.edge.Label.TheVariants.{Bytes}
-use Rattle.tm_auto.specs.Builds.{edges_to, IsSound, IsReady, MayFollow, MakesBy, Makes, IsPut, IsSettled}
-use Rattle.tm_auto.specs.Labels.{CanTake, Begins}
-use Rattle.tm_auto.specs.Loose.{LooseWord, LooseBytes, LooseInTurn, LooseOneOf, LooseOneWhere}
-use Rattle.tm_auto.specs.Sets.{with_states}
-use Rattle.tm_auto.specs.Shapes.{nodes_of, all_nodes, leaves_where, is_cell, is_no_cell}
-use Rattle.tm_auto.proofs.AmongLemmas.{with_states_to, with_states_keeps, with_states_has}
-use Rattle.tm_auto.proofs.CellLemmas.{IsCell, range_cell, take_one, leaves_where-add, leaves_where-skip, leaves_where-take}
-use Rattle.tm_auto.proofs.LooseLemmas.{LooseWord-Seq, LooseWord-Alt, LooseWord-Repeat, LooseWord-Ref, LooseWord-Never, LooseWord-Range, LooseOneWhere-more, LooseOneWhere-skip, LooseOneOf-both}
-use Rattle.tm_auto.proofs.MakeLemmas.{Either, makes_as, makes_none, makes_nowhere, makes_empty, makes_leaf, makes_both, makes_either, begins_joins}
-use Rattle.tm_auto.proofs.SetLemmas.{same_at}
-use Rattle.tm_base.proofs.ShapeLemmas.{leaves_of-Seq, leaves_of-Alt, leaves_of-Repeat, HasNoAlternatives-Seq, HasNoAlternatives-Alt, HasNoAlternatives-Repeat}
-use Rattle.tm_auto.proofs.ShapeLemmas.{leaves_where-both}
+use Rattle.tm_auto.specs.declared.edge.Label.TheVariants.{Bytes, Free, Leaf}
+use Rattle.tm_auto.specs.declared.extent.Extent.TheVariants.{Dead, Empty, Long}
+use Rattle.tm_auto.specs.Builds.{Words, MayFollow, IsSound, IsReady, IsGrowable, CanGrow, MakesBy, MakesTree, IsPlacedBy, IsAdded, IsSealed, AreEven, any}
+use Rattle.tm_auto.specs.Labels.{CanTake, Begins, Joins}
+use Rattle.tm_auto.specs.Loose.{LooseBytes, LooseWord, LooseInTurn, LooseOneOf}
+use Rattle.tm_auto.specs.Paths.{Among}
+use Rattle.tm_auto.specs.Shapes.{extent_of, in_turn, one_of}
+use Rattle.tm_auto.proofs.ExtentLemmas.{IsExtent, extent_is, turn_is, empty_alone, live_at, even_at}
+use Rattle.tm_auto.proofs.GrowLemmas.{Both, CellWords}
+use Rattle.tm_auto.proofs.LooseLemmas.{LooseWord-Seq, LooseWord-Ref, LooseWord-Range, LooseWord-Pad}
+use Rattle.tm_auto.proofs.MakeLemmas.{IsSame, begins_joins, makes_as, makes_way, makes_before, makes_either, placed_none, placed_some, ready_still}
+use Rattle.tm_auto.proofs.ShapeLemmas.{extent_of-Seq, extent_of-no_range}
+use Rattle.tm_base.proofs.ShapeLemmas.{leaves_of-Seq, HasNoAlternatives-Seq, HasNoPrivate-Seq}
 
--- what is built for a tree
-abbrev pub MakesTree : Tree → List Edge → List Edge → ℕ → ℕ → List ℕ → List ℕ → Type 0
-MakesTree t es fs n m targets starts = Makes (HasNoAlternatives t) (leaves_of t) (λ A. LooseWord (holds A) t) es fs n m targets starts
+-- What stands in front of the target: nothing yet, or words of P.
+abbrev pub Front : (Label → Type 0) → Type 0 → ℕ → Words → ℕ → Building → Building → ℕ → Type 0
+Front q line room P target b c next = ((next ≡ target) × IsSame b c × ((A : ℕ → ℕ → Bool) (w : Word) → P A w ↔ (w ≡ []))) ⊎ MakesBy q line room P target b c
 
-abbrev pub MakesInTurn : List Tree → List Edge → List Edge → ℕ → ℕ → List ℕ → List ℕ → Type 0
-MakesInTurn ts es fs n m targets starts = Makes (NoneAlternative ts) (all_leaves ts) (λ A. LooseInTurn (holds A) ts) es fs n m targets starts
+module _ {q : Label → Type 0} {line : Type 0} {room : ℕ} {P : Words} {target : ℕ} {b c : Building} {next : ℕ} where
+  pub front_mark : (mark : ℕ) → mark ≡ length b.head.items → Front q line room P target b c next → mark ≤ length c.head.items
+  front_mark mark e (inl (at, same, none)) = let x = ap length same.head in omega arith
+  front_mark mark e (inr h) = let x = ap length h.head in let y = length-append b.head.items h.ways in omega arith
 
-abbrev pub MakesTimes : ℕ → Tree → List Edge → List Edge → ℕ → ℕ → List ℕ → List ℕ → Type 0
-MakesTimes k t es fs n m targets starts = Makes (HasNoAlternatives t) (k * leaves_of t) (λ A. Times k (LooseWord (holds A) t)) es fs n m targets starts
+  pub front_room : (mark all : ℕ) → mark ≡ length b.head.items → room ≤ all → b.states + all ≤ 2 ^ 31 → Front q line room P target b c next → mark < length c.head.items → c.states + 1 ≤ 2 ^ 31
+  front_room mark all e l r (inl (at, same, none)) more = let x = ap length same.head in absurd (omega arith)
+  front_room mark all e l r (inr h) more = let x = h.few in omega arith
 
--- the cells of all trees, and the first trees that are none
-abbrev pub MakesMembers : List Tree → List Tree → List Edge → List Edge → ℕ → ℕ → List ℕ → List ℕ → Type 0
-MakesMembers ts first es fs n m targets starts = Makes ⊥ (leaves_where is_cell ts + leaves_where is_no_cell first) (Either (λ A. LooseOneWhere (holds A) is_cell ts) (λ A. LooseOneWhere (holds A) is_no_cell first)) es fs n m targets starts
+  -- once it is sealed
+  pub front_placed : (mark : ℕ) (d : Building) (state : ℕ) → mark ≡ length b.head.items → IsReady b target → ((e : Edge) → Among e b.edges.items → e.from ≡ target → q e.label) → Front q line room P target b c next → IsSealed mark next c d state → IsPlacedBy q line room P target b d state
+  front_placed mark d state em ready opens (inl (at, same, none)) sealed =
+      let size : length c.head.items ≡ mark = ap length same.head ∙ sym em in
+      let (ee, es, en) = sealed.none size in
+      let head : d.head.items ≡ b.head.items = sealed.head ∙ ap (take mark) same.head ∙ take_all mark b.head.items (omega arith) in
+      let same2 : IsSame b d = record { pointer = sealed.pointer ∙ same.pointer; states = es ∙ same.states; edges = ee ∙ same.edges; head = head } in
+      placed_none q line room P target b d state none same2 (en ∙ at) ready.sound ready.below opens
+  front_placed mark d state em ready opens (inr h) sealed = placed_some next d state h (subst (λ (z : ℕ). IsSealed z next c d state) em sealed)
 
-pub not_empty : (b : Bool) (xs : List ℕ) → (IsTrue b ↔ (xs ≡ [])) → b ≡ false → xs ≢ []
-not_empty b xs h e q = let x = h.1 q in cc
+-- a state may be built in front of
+pub placed_ready : {line : Type 0} {room : ℕ} {P : Words} {target : ℕ} {b d : Building} {state : ℕ} → IsReady b target → IsPlacedBy Begins line room P target b d state → IsReady d state
+placed_ready r h = record { pointer = rw h.pointer r.pointer; sound = h.sound; below = h.below; plain = h.opens }
 
-pub into : {X : Type 0} (r : Result X Memory) (P Q : X → Type 0) → ((s : X) → P s → Q s) → IfOk r P → IfOk r Q
-into (Ok s) P Q f h = f s h
-into (Err e) P Q f h = tt
+-- ---- one cell
 
-pub put_into : (r : Result (List ℕ) Memory) (label : Label) (es fs : List Edge) (n m : ℕ) (targets : List ℕ) (Q : List ℕ → Type 0) → OnOk r (fs ≡ es ++ edges_to n label targets) → OnOk r (m ≡ n + 1) → IfOk r (λ s. s ≡ n ∷ []) → ((s : List ℕ) → IsPut es fs n m label targets s → Q s) → IfOk r Q
-put_into (Ok s) label es fs n m targets Q a b c f = f s (record { edges = a; states = b; start = c })
-put_into (Err e) label es fs n m targets Q a b c f = tt
+pub onto : {X : Type 0} (r : Result X Memory) (P Q : Type 0) → (P → Q) → OnOk r P → OnOk r Q
+onto (Ok x) P Q f h = f h
+onto (Err e) P Q f h = tt
 
-pub tree_nowhere : (t : Tree) (es : List Edge) (n : ℕ) (targets starts : List ℕ) → targets ≡ [] → starts ≡ [] → IsSound es n → MakesTree t es es n n targets starts
-tree_nowhere t es n targets starts et es2 sound = rw (et, es2) (makes_nowhere (HasNoAlternatives t) (leaves_of t) (λ A. LooseWord (holds A) t) es n sound)
+range_long : (low high : ℕ) → extent_of (Range low high) ≡ Long → low ≤ high
+range_long low high e = elim (cases_lt high low) [
+  | inl l ↦ (let q : Dead ≡ Long = sym (extent_of-no_range low high l) ∙ e in cc)
+  | inr l ↦ l
+]
 
-pub tree_none : (t : Tree) (es : List Edge) (n : ℕ) (targets starts : List ℕ) → starts ≡ [] → ((A : ℕ → ℕ → Bool) (w : Word) → LooseWord (holds A) t w → ⊥) → IsSound es n → MakesTree t es es n n targets starts
-tree_none t es n targets starts e never sound = rw e (makes_none Begins (HasNoAlternatives t) (leaves_of t) es n targets (λ A. LooseWord (holds A) t) never sound)
+pub range_made : (low high target : ℕ) (b c : Building) → high < 256 → CanGrow (Range low high) target b → IsAdded (Bytes low high) target b c → MakesTree (Range low high) target b c
+unfolding leaves_of
+range_made low high target b c byte can added =
+    let le = range_long low high can.growable.long in
+    makes_as (omega arith) (λ l. tt) (λ A w. (
+      λ (x, (y, lo, hi, e), ew). (LooseWord-Range b.pointer (holds A) low high w).1 (y, lo, hi, ew ∙ ap (λ z. z ∷ []) e),
+      λ h. let (y, lo, hi, ew) = (LooseWord-Range b.pointer (holds A) low high w).0 h in (Byte y, (y, lo, hi, refl), ew),
+    )) (makes_way Begins Begins (Bytes low high) target b c (le, byte) tt (begins_joins (Bytes low high)) can.ready.sound can.ready.below can.ready.plain added)
 
-pub no_never : (A : ℕ → ℕ → Bool) (w : Word) → LooseWord (holds A) Never w → ⊥
-no_never A w h = LooseWord-Never (holds A) w h
+pub pad_made : (target : ℕ) (b c : Building) → CanGrow Pad target b → IsAdded Free target b c → MakesTree Pad target b c
+unfolding leaves_of
+pad_made target b c can added =
+    makes_as (omega arith) (λ l. tt) (λ A w. let (x, y) = LooseWord-Pad b.pointer (holds A) w in (y, x)) (makes_way Begins Begins Free target b c tt tt (begins_joins Free) can.ready.sound can.ready.below can.ready.plain added)
 
-pub no_range : (low high : ℕ) → high < low → (A : ℕ → ℕ → Bool) (w : Word) → LooseWord (holds A) (Range low high) w → ⊥
-no_range low high l A w h = let (x, lo, hi, e) = (LooseWord-Range (holds A) low high w).0 h in omega arith
+-- ---- references
 
-pub tree_cell : (t : Tree) (label : Label) (es fs : List Edge) (n m : ℕ) (targets starts : List ℕ) → IsCell t label → CanTake label → targets ≢ [] → IsReady es n targets → IsPut es fs n m label targets starts → MakesTree t es fs n m targets starts
-tree_cell t label es fs n m targets starts cell can some r put =
-    let leaf = cell.leaf in
-    let made : MakesTree t es (es ++ edges_to n label targets) n (n + 1) targets (n ∷ []) = makes_as (omega arith) (λ l. tt) cell.words (makes_leaf Begins Begins es n label targets some can cell.begins (begins_joins label) r.sound r.below r.plain) in
-    rw (put.edges, put.states, put.start) made
+-- so many bytes of a reference from a place on
+abbrev pub RefFront : RefId → ℕ → ℕ → Building → Building → ℕ → Type 0
+RefFront t place target b c next = Front (MayFollow t place) (Unit {0}) (b.pointer - place) (λ A. LooseBytes (holds A) t.0 place (b.pointer - place)) target b c next
 
--- a byte of a range that may be empty
-pub range_put : (low high : ℕ) (es fs : List Edge) (n m : ℕ) (targets starts : List ℕ) → low ≤ high → high < 256 → targets ≢ [] → IsReady es n targets → IsPut es fs n m (Bytes low high) targets starts → Makes (Unit {0}) 1 (λ A. LooseWord (holds A) (Range low high)) es fs n m targets starts
-range_put low high es fs n m targets starts le byte some r put =
-    let cell = range_cell low high in
-    let made : Makes (Unit {0}) 1 (λ A. LooseWord (holds A) (Range low high)) es (es ++ edges_to n (Bytes low high) targets) n (n + 1) targets (n ∷ []) = makes_as (omega arith) (λ l. tt) cell.words (makes_leaf Begins Begins es n (Bytes low high) targets some (le, byte) cell.begins (begins_joins (Bytes low high)) r.sound r.below r.plain) in
-    rw (put.edges, put.states, put.start) made
+pub ref_none : (t : RefId) (target : ℕ) (b c : Building) → IsSame b c → RefFront t b.pointer target b c target
+ref_none t target b c same = let none : b.pointer - b.pointer ≡ 0 = omega arith in inl (refl, same, λ A w. rw none (λ h. h, λ h. h))
 
-pub range_none : (low high : ℕ) (es : List Edge) (n : ℕ) (targets starts : List ℕ) → high < low → starts ≡ [] → IsSound es n → Makes (Unit {0}) 1 (λ A. LooseWord (holds A) (Range low high)) es es n n targets starts
-range_none low high es n targets starts l e sound = rw e (makes_none Begins (Unit {0}) 1 es n targets (λ A. LooseWord (holds A) (Range low high)) (no_range low high l) sound)
-
-pub tree_range : (low high : ℕ) (es fs : List Edge) (n m : ℕ) (targets starts : List ℕ) → Makes (Unit {0}) 1 (λ A. LooseWord (holds A) (Range low high)) es fs n m targets starts → MakesTree (Range low high) es fs n m targets starts
-tree_range low high es fs n m targets starts h = let leaf = (range_cell low high).leaf in makes_as (omega arith) (λ l. tt) (λ A w. (λ k. k, λ k. k)) h
-
--- an equation of lists, told of what is built
-pub in_turn_none : (ts : List Tree) (es : List Edge) (n : ℕ) (targets starts : List ℕ) → ts ≡ [] → starts ≡ targets → IsReady es n targets → MakesInTurn ts es es n n targets starts
-in_turn_none ts es n targets starts et e r = rw (et, e) (makes_empty Begins (NoneAlternative []) 0 es n targets r.sound r.below r.plain)
-
-pub times_none : (t : Tree) (es : List Edge) (n : ℕ) (targets starts : List ℕ) → starts ≡ targets → IsReady es n targets → MakesTimes 0 t es es n n targets starts
-times_none t es n targets starts e r = rw e (makes_as (omega arith) (λ l. l) (λ A w. (λ k. k, λ k. k)) (makes_empty Begins (HasNoAlternatives t) 0 es n targets r.sound r.below r.plain))
-
-pub tree_ref : (t : RefId) (es fs : List Edge) (n m : ℕ) (targets starts : List ℕ) → leaves_of (Ref t) ≡ 8 → MakesBy (MayFollow t 0) (Unit {0}) 8 (λ A. LooseBytes (holds A) t.0 0 8) es fs n m targets starts → MakesTree (Ref t) es fs n m targets starts
-tree_ref t es fs n m targets starts leaves h = makes_as (omega arith) (λ l. tt) (λ A w. let (x, y) = LooseWord-Ref (holds A) t w in (y, x)) h
-
-pub tree_seq : (ts : List Tree) (es fs : List Edge) (n m : ℕ) (targets starts : List ℕ) → MakesInTurn ts es fs n m targets starts → MakesTree (Seq ts) es fs n m targets starts
-tree_seq ts es fs n m targets starts h = let e = leaves_of-Seq ts in makes_as (omega arith) (HasNoAlternatives-Seq ts).0 (λ A w. let (x, y) = LooseWord-Seq (holds A) ts w in (y, x)) h
-
-pub tree_repeat : (k : ℕ) (t : Tree) (es fs : List Edge) (n m : ℕ) (targets starts : List ℕ) → MakesTimes k t es fs n m targets starts → MakesTree (Repeat k t) es fs n m targets starts
-tree_repeat k t es fs n m targets starts h = let e = leaves_of-Repeat k t in makes_as (omega arith) (HasNoAlternatives-Repeat k t).0 (λ A w. let (x, y) = LooseWord-Repeat (holds A) k t w in (y, x)) h
-
--- an alternative of one tree is that tree
-pub tree_only : (t : Tree) (es fs : List Edge) (n m : ℕ) (targets starts : List ℕ) → MakesTree t es fs n m targets starts → MakesTree (Alt (t ∷ [])) es fs n m targets starts
-tree_only t es fs n m targets starts h =
-    let e = leaves_of-Alt (t ∷ []) in
-    makes_as (omega arith) (λ l. ((HasNoAlternatives-Alt (t ∷ [])).0 l).1.0) (λ A w. let (x, y) = LooseWord-Alt (holds A) (t ∷ []) w in (λ k. y (inl k), λ k. elim (x k) [ inl j ↦ j | inr j ↦ absurd j ])) h
-
-none_alternative : (ts : List Tree) → length ts ≢ 1 → HasNoAlternatives (Alt ts) → ts ≡ []
-none_alternative ts many l = let few = ((HasNoAlternatives-Alt ts).0 l).0 in elim (empty ts) [ inl e ↦ e | inr k ↦ absurd (many (omega arith)) ]
+pub ref_turn : (t : RefId) (place target : ℕ) (b c d e : Building) (mark next state : ℕ) → 0 < place → place ≤ b.pointer → t.0 < 2 ^ 32 → mark ≡ length b.head.items → IsReady b target → RefFront t place target b c next → IsSealed mark next c d state → IsAdded (Leaf t (place - 1)) state d e → RefFront t (place - 1) target b e state
+ref_turn t zero target b c d e mark next state pos le id em ready h sealed added = absurd (omega arith)
+ref_turn t (suc k) target b c d e mark next state pos le id em ready h sealed added =
+    let last : suc k - 1 ≡ k = omega arith in
+    let size : suc (b.pointer - suc k) ≡ b.pointer - k = omega arith in
+    let j : ℕ = b.pointer - suc k in
+    let placed = front_placed mark d state em ready (λ f a w. begins_joins (Leaf t k) f.label (ready.plain f a w)) h sealed in
+    let point = placed.pointer in
+    let can : CanTake d.pointer (Leaf t k) = (id, omega arith) in
+    let way = makes_way (MayFollow t (suc k)) (MayFollow t k) (Leaf t k) state d e can (mine k) (λ l x. x) placed.sound placed.below placed.opens (subst (λ (z : ℕ). IsAdded (Leaf t z) state d e) last added) in
+    let made : MakesBy (MayFollow t k) (Unit {0}) (suc (b.pointer - suc k)) (λ A. LooseBytes (holds A) t.0 k (suc (b.pointer - suc k))) target b e = makes_as (omega arith) (λ l. (tt, tt)) (same (b.pointer - suc k)) (makes_before placed way) in
+    let made2 : MakesBy (MayFollow t k) (Unit {0}) (b.pointer - k) (λ A. LooseBytes (holds A) t.0 k (b.pointer - k)) target b e = subst (λ (z : ℕ). MakesBy (MayFollow t k) (Unit {0}) z (λ A. LooseBytes (holds A) t.0 k z) target b e) size made in
+    rw last (inr made2)
   where
-    empty : (ts : List Tree) → (ts ≡ []) ⊎ (0 < length ts)
-    empty [] = inl refl
-    empty (t ∷ ts) = inr (omega arith)
+    mine : (k : ℕ) → MayFollow t k (Leaf t k)
+    mine zero = tt
+    mine (suc i) = refl
 
-pub tree_many : (ts : List Tree) (es fs : List Edge) (n m : ℕ) (targets starts : List ℕ) → length ts ≢ 1 → Makes (ts ≡ []) (all_leaves ts) (λ A. LooseOneOf (holds A) ts) es fs n m targets starts → MakesTree (Alt ts) es fs n m targets starts
-tree_many ts es fs n m targets starts many h = let e = leaves_of-Alt ts in makes_as (omega arith) (none_alternative ts many) (λ A w. let (x, y) = LooseWord-Alt (holds A) ts w in (y, x)) h
+    same : (j : ℕ) (A : ℕ → ℕ → Bool) (w : Word) → Both (CellWords (Leaf t k)) (λ A. LooseBytes (holds A) t.0 (suc k) j) A w ↔ LooseBytes (holds A) t.0 k (suc j) w
+    same j A w = (
+      λ (u, v, e, (c, (x, a, ec), eu), more). (x, v, a, e ∙ ap (λ z. z ++ v) (eu ∙ ap (λ z. z ∷ []) ec), more),
+      λ (x, v, a, e, more). (Ptr (record { 0 = x }) k ∷ [], v, e, (Ptr (record { 0 = x }) k, (x, a, refl), refl), more),
+    )
 
-pub alt_none : (ts : List Tree) (es : List Edge) (n : ℕ) (targets starts : List ℕ) → ts ≡ [] → starts ≡ [] → IsSound es n → Makes (ts ≡ []) (all_leaves ts) (λ A. LooseOneOf (holds A) ts) es es n n targets starts
-alt_none ts es n targets starts et e sound = rw e (makes_none Begins (ts ≡ []) (all_leaves ts) es n targets (λ A. LooseOneOf (holds A) ts) (λ A w h. subst (λ (z : List Tree). LooseOneOf (holds A) z w) et h) sound)
+pub ref_done : (t : RefId) (target : ℕ) (b c : Building) (next : ℕ) → IsReady b target → leaves_of b.pointer (Ref t) ≡ b.pointer → RefFront t 0 target b c next → MakesTree (Ref t) target b c
+ref_done t target b c next ready leaves h =
+    let all : b.pointer - 0 ≡ b.pointer = omega arith in
+    elim (subst (λ (z : ℕ). Front (MayFollow t 0) (Unit {0}) z (λ A. LooseBytes (holds A) t.0 0 z) target b c next) all h) [
+      | inl (at, same, none) ↦ absurd (some b.pointer ready.pointer.0 none)
+      | inr made ↦ makes_as (omega arith) (λ l. tt) (λ A w. let (x, y) = LooseWord-Ref b.pointer (holds A) t w in (y, x)) made
+    ]
+  where
+    some : (n : ℕ) → 0 < n → ((A : ℕ → ℕ → Bool) (w : Word) → LooseBytes (holds A) t.0 0 n w ↔ (w ≡ [])) → ⊥
+    some zero pos none = omega arith
+    some (suc n) pos none = let (x, v, a, e, more) = (none any []).1 refl in cc
 
 -- ---- along a list of trees
 
@@ -121,100 +133,113 @@ public_at [] i d h l = absurd (omega arith)
 public_at (t ∷ ts) zero d h l = h.0
 public_at (t ∷ ts) (suc i) d h l = public_at ts i d h.1 (omega arith)
 
-pub nodes_at : (ts : List Tree) (i : ℕ) (d : Tree) → i < length ts → nodes_of (get_or ts i d) ≤ all_nodes ts
-nodes_at [] i d l = absurd (omega arith)
-nodes_at (t ∷ ts) zero d l = omega arith
-nodes_at (t ∷ ts) (suc i) d l = let h = nodes_at ts i d (omega arith) in omega arith
+pub all_leaves-drop : (p : ℕ) (ts : List Tree) (i : ℕ) → all_leaves p (drop i ts) ≤ all_leaves p ts
+all_leaves-drop p [] zero = omega arith
+all_leaves-drop p [] (suc i) = omega arith
+all_leaves-drop p (t ∷ ts) zero = omega arith
+all_leaves-drop p (t ∷ ts) (suc i) = let h = all_leaves-drop p ts i in omega arith
 
-pub all_leaves-drop : (ts : List Tree) (i : ℕ) → all_leaves (drop i ts) ≤ all_leaves ts
-all_leaves-drop [] zero = omega arith
-all_leaves-drop [] (suc i) = omega arith
-all_leaves-drop (t ∷ ts) zero = omega arith
-all_leaves-drop (t ∷ ts) (suc i) = let h = all_leaves-drop ts i in omega arith
+pub all_leaves-take : (p : ℕ) (ts : List Tree) (i : ℕ) → all_leaves p (take i ts) ≤ all_leaves p ts
+all_leaves-take p [] zero = omega arith
+all_leaves-take p [] (suc i) = omega arith
+all_leaves-take p (t ∷ ts) zero = omega arith
+all_leaves-take p (t ∷ ts) (suc i) = let h = all_leaves-take p ts i in omega arith
 
-pub drop_one : (ts : List Tree) (at : ℕ) (t : Tree) → 0 < at → at ≤ length ts → t ≡ get_or ts (at - 1) t → drop (at - 1) ts ≡ t ∷ drop at ts
+pub all_leaves-more : (p : ℕ) (ts : List Tree) (t : Tree) → all_leaves p (ts ++ t ∷ []) ≡ all_leaves p ts + leaves_of p t
+all_leaves-more p [] t = omega arith
+all_leaves-more p (s ∷ ts) t = let e = all_leaves-more p ts t in omega arith
+
+drop_one : (ts : List Tree) (at : ℕ) (t : Tree) → 0 < at → at ≤ length ts → t ≡ get_or ts (at - 1) t → drop (at - 1) ts ≡ t ∷ drop at ts
 drop_one ts at t pos l e =
     let next : suc (at - 1) ≡ at = omega arith in
     drop-cons ts (at - 1) t (omega arith) ∙ ap (λ (z : Tree). z ∷ drop (suc (at - 1)) ts) (sym e) ∙ ap (λ (k : ℕ). t ∷ drop k ts) next
 
-pub room_before : (ts : List Tree) (at n m : ℕ) (t : Tree) → 0 < at → at ≤ length ts → t ≡ get_or ts (at - 1) t → m ≤ n + all_leaves (drop at ts) → n + all_leaves ts ≤ 2 ^ 31 → m + leaves_of t ≤ 2 ^ 31
-room_before ts at n m t pos l e few room =
-    let all = all_leaves-drop ts (at - 1) in
-    let one = ap all_leaves (drop_one ts at t pos l e) in
-    omega arith
+-- what a call of the builder tells, of trees with references of the size that they had before
+pub said_before : (p : ℕ) (t : Tree) (target : ℕ) (d e : Building) → d.pointer ≡ p → MakesTree t target d e → MakesBy Begins (HasNoAlternatives t) (leaves_of p t) (λ A. LooseWord p (holds A) t) target d e
+said_before p t target d e same h = subst (λ (z : ℕ). MakesBy Begins (HasNoAlternatives t) (leaves_of z t) (λ A. LooseWord z (holds A) t) target d e) same h
 
-pub seq_turn : (ts : List Tree) (at : ℕ) (t : Tree) (es fs gs hs : List Edge) (n m k j : ℕ) (targets mids starts : List ℕ) → 0 < at → at ≤ length ts → t ≡ get_or ts (at - 1) t → IsSound es n
-    → MakesInTurn (drop at ts) es fs n m targets mids → MakesTree t fs gs m k mids starts → IsSettled es gs hs n k j starts → MakesInTurn (drop (at - 1) ts) es hs n j targets starts
-seq_turn ts at t es fs gs hs n m k j targets mids starts pos l e sound q p settled =
-    subst (λ (z : List Tree). MakesInTurn z es hs n j targets starts) (sym (drop_one ts at t pos l e))
-    (makes_both (HasNoAlternatives t) (NoneAlternative (drop at ts)) (leaves_of t) (all_leaves (drop at ts)) (λ A. LooseWord (holds A) t) (λ A. LooseInTurn (holds A) (drop at ts)) es fs gs hs n m k j targets mids starts sound q p settled)
+-- ---- one after another
 
-one_more : (k l : ℕ) → l + k * l ≡ (k + 1) * l
-one_more k l = grind arith
+-- the last trees stand
+abbrev pub TurnFront : List Tree → ℕ → Building → Building → ℕ → Type 0
+TurnFront ts target b c next = Front Begins (NoneAlternative ts) (all_leaves b.pointer ts) (λ A. LooseInTurn b.pointer (holds A) ts) target b c next
 
-pub room_for_turn : (count turn l n m : ℕ) → turn < count → m ≤ n + turn * l → n + count * l ≤ 2 ^ 31 → m + l ≤ 2 ^ 31
-room_for_turn count turn l n m lt few room =
-    let one = one_more turn l in
-    let le : turn + 1 ≤ count = omega arith in
-    let most = mul_right (turn + 1) count l le in
-    omega arith
-  where
-    mul_right : (a b l : ℕ) → a ≤ b → a * l ≤ b * l
-    mul_right a b l h = grind arith
+pub turn_none : (ts : List Tree) (target : ℕ) (b c : Building) → ts ≡ [] → IsSame b c → TurnFront ts target b c target
+turn_none ts target b c e same = rw e (inl (refl, same, λ A w. (λ h. h, λ h. h)))
 
-pub times_turn : (turn : ℕ) (t : Tree) (es fs gs hs : List Edge) (n m k j : ℕ) (targets mids starts : List ℕ) → IsSound es n
-    → MakesTimes turn t es fs n m targets mids → MakesTree t fs gs m k mids starts → IsSettled es gs hs n k j starts → MakesTimes (turn + 1) t es hs n j targets starts
-times_turn turn t es fs gs hs n m k j targets mids starts sound q p settled =
-    let next : suc turn ≡ turn + 1 = omega arith in
-    let both = makes_both (HasNoAlternatives t) (HasNoAlternatives t) (leaves_of t) (turn * leaves_of t) (λ A. LooseWord (holds A) t) (λ A. Times turn (LooseWord (holds A) t)) es fs gs hs n m k j targets mids starts sound q p settled in
-    let one = one_more turn (leaves_of t) in
-    let made : Makes (HasNoAlternatives t) ((turn + 1) * leaves_of t) (λ A. Times (suc turn) (LooseWord (holds A) t)) es hs n j targets starts = makes_as (omega arith) (λ l. (l, l)) (λ A w. (λ h. h, λ h. h)) both in
-    subst (λ (z : ℕ). Makes (HasNoAlternatives t) ((turn + 1) * leaves_of t) (λ A. Times z (LooseWord (holds A) t)) es hs n j targets starts) next made
+-- what is asked of trees that may be grown one after another
+pub record AreGrowable (p : ℕ) (ts : List Tree) : Type 0 where
+  pub public : NonePrivate ts
+  pub long : in_turn ts ≡ Long
+  pub even : AreEven (LooseInTurn p (holds any) ts)
 
--- ---- members of an alternative
+pub turn_growable : (p : ℕ) (ts : List Tree) → IsGrowable p (Seq ts) → AreGrowable p ts
+turn_growable p ts g = record {
+  public = (HasNoPrivate-Seq ts).0 g.public;
+  long = sym (extent_of-Seq ts) ∙ g.long;
+  even = let (n, even) = g.even in (n, λ w h. even w ((LooseWord-Seq p (holds any) ts w).1 h));
+}
 
-pub members_none : (ts : List Tree) (es fs : List Edge) (n m : ℕ) (targets starts : List ℕ) → Makes ⊥ (leaves_where is_cell ts) (λ A. LooseOneWhere (holds A) is_cell ts) es fs n m targets starts → MakesMembers ts [] es fs n m targets starts
-members_none ts es fs n m targets starts h = makes_as (omega arith) (λ l. l) (λ A w. (λ x. inl x, λ x. elim x [ inl y ↦ y | inr y ↦ absurd y ])) h
+live : (ts : List Tree) → in_turn ts ≡ Long → in_turn ts ≢ Dead
+live ts e q = let z : Long ≡ Dead = sym e ∙ q in cc
 
-no_cell : (t : Tree) → is_cell t ≡ false → is_no_cell t ≡ true
-no_cell t e = rw e refl
+module _ (ts : List Tree) (at : ℕ) (t : Tree) (target : ℕ) (b : Building) (pos : 0 < at) (within : at ≤ length ts) (et : t ≡ get_or ts (at - 1) t) (can : CanGrow (Seq ts) target b) where
+  grow : AreGrowable b.pointer ts
+  grow = turn_growable b.pointer ts can.growable
 
-is_one : (t : Tree) → is_cell t ≡ true → is_no_cell t ≡ false
-is_one t e = rw e refl
+  leaves_left : all_leaves b.pointer (drop at ts) + leaves_of b.pointer t ≤ leaves_of b.pointer (Seq ts)
+  leaves_left = let x = all_leaves-drop b.pointer ts (at - 1) in let y = ap (all_leaves b.pointer) (drop_one ts at t pos within et) in let z = leaves_of-Seq b.pointer ts in omega arith
 
-pub members_skip : (ts first : List Tree) (t : Tree) (es fs : List Edge) (n m : ℕ) (targets starts : List ℕ) → is_cell t ≡ true → MakesMembers ts first es fs n m targets starts → MakesMembers ts (first ++ t ∷ []) es fs n m targets starts
-members_skip ts first t es fs n m targets starts e h =
-    let x = leaves_where-skip is_no_cell first t (is_one t e) in
-    makes_as (omega arith) (λ l. l) (λ A w.
-    let (a, b) = LooseOneWhere-skip (holds A) is_no_cell first t (is_one t e) w in
-    (λ k. elim k [ inl y ↦ inl y | inr y ↦ inr (b y) ], λ k. elim k [ inl y ↦ inl y | inr y ↦ inr (a y) ])) h
+  even_here : AreEven (LooseWord b.pointer (holds any) t)
+  even_here = subst (λ (z : Tree). AreEven (LooseWord b.pointer (holds any) z)) (sym et) (even_at b.pointer can.ready.pointer.0 ts (at - 1) t (live ts grow.long) grow.even (omega arith))
 
-pub members_more : (ts first : List Tree) (t : Tree) (es fs gs : List Edge) (n m k : ℕ) (targets starts more all : List ℕ) → is_cell t ≡ false → IsReady es n targets → all ≡ with_states more starts
-    → MakesMembers ts first es fs n m targets starts → MakesTree t fs gs m k targets more → MakesMembers ts (first ++ t ∷ []) es gs n k targets all
-members_more ts first t es fs gs n m k targets starts more all e r ea h p =
-    let x = leaves_where-add is_no_cell first t (no_cell t e) in
-    let both = makes_either _ _ _ _ _ _ es fs gs n m k targets starts more (with_states more starts) r (λ s a. with_states_to more starts s a) (λ s a. with_states_keeps more starts s a) (λ s a. with_states_has more starts s a) h p in
-    let made : MakesMembers ts (first ++ t ∷ []) es gs n k targets (with_states more starts) = makes_as (omega arith) (λ l. l) (λ A w.
-    let (a, b) = LooseOneWhere-more (holds A) is_no_cell first t (no_cell t e) w in
-    (λ k. elim k [ inl y ↦ elim y [ inl z ↦ inl z | inr z ↦ inr (b (inl z)) ] | inr y ↦ inr (b (inr y)) ], λ k. elim k [ inl y ↦ inl (inl y) | inr y ↦ elim (a y) [ inl z ↦ inl (inr z) | inr z ↦ inr z ] ])) both in
-    rw ea made
+  pub turn_room : (mark : ℕ) (c : Building) (next : ℕ) → mark ≡ length b.head.items → TurnFront (drop at ts) target b c next → mark < length c.head.items → c.states + 1 ≤ 2 ^ 31
+  turn_room mark c next em h = let x = leaves_left in front_room {room = all_leaves b.pointer (drop at ts)} mark (leaves_of b.pointer (Seq ts)) em (omega arith) can.room h
 
-pub members_all : (ts : List Tree) (es fs : List Edge) (n m : ℕ) (targets starts : List ℕ) → ts ≢ [] → MakesMembers ts ts es fs n m targets starts → Makes (ts ≡ []) (all_leaves ts) (λ A. LooseOneOf (holds A) ts) es fs n m targets starts
-members_all ts es fs n m targets starts some h = let e = leaves_where-both ts in makes_as (omega arith) some (λ A w. LooseOneOf-both (holds A) ts w) h
+  pub turn_placed : (mark : ℕ) (c d : Building) (next state : ℕ) → mark ≡ length b.head.items → TurnFront (drop at ts) target b c next → IsSealed mark next c d state → IsPlacedBy Begins (NoneAlternative (drop at ts)) (all_leaves b.pointer (drop at ts)) (λ A. LooseInTurn b.pointer (holds A) (drop at ts)) target b d state
+  turn_placed mark c d next state em h sealed = front_placed mark d state em can.ready can.ready.plain h sealed
 
-pub room_for_member : (ts : List Tree) (i : ℕ) (t : Tree) (n m : ℕ) → i < length ts → t ≡ get_or ts i t → is_cell t ≡ false → m ≤ n + (leaves_where is_cell ts + leaves_where is_no_cell (take i ts)) → n + all_leaves ts ≤ 2 ^ 31 → m + leaves_of t ≤ 2 ^ 31
-room_for_member ts i t n m l e other few room =
-    let all = leaves_where-take is_no_cell ts (i + 1) in
-    let one = ap (leaves_where is_no_cell) (take_one ts i t l e) ∙ leaves_where-add is_no_cell (take i ts) t (no_cell t other) in
-    let both = leaves_where-both ts in
-    omega arith
+  pub turn_can : (d : Building) (state : ℕ) → extent_of t ≡ Long → IsPlacedBy Begins (NoneAlternative (drop at ts)) (all_leaves b.pointer (drop at ts)) (λ A. LooseInTurn b.pointer (holds A) (drop at ts)) target b d state → CanGrow t state d
+  turn_can d state long h =
+      let x = leaves_left in
+      let few = h.few in
+      let room : d.states + leaves_of b.pointer t ≤ 2 ^ 31 = (let y = can.room in omega arith) in
+      record {
+        growable = rw h.pointer (record { public = rw et (public_at ts (at - 1) t grow.public (omega arith)); long = long; even = even_here });
+        ready = placed_ready can.ready h;
+        room = rw h.pointer room;
+      }
 
-pub room_for_cells : (ts : List Tree) (n : ℕ) → n + all_leaves ts ≤ 2 ^ 31 → n + leaves_where is_cell ts ≤ 2 ^ 31
-room_for_cells ts n room = let both = leaves_where-both ts in omega arith
+  pub turn_long : (d e : Building) (state : ℕ) → IsPlacedBy Begins (NoneAlternative (drop at ts)) (all_leaves b.pointer (drop at ts)) (λ A. LooseInTurn b.pointer (holds A) (drop at ts)) target b d state → MakesTree t state d e → TurnFront (drop (at - 1) ts) target b e state
+  turn_long d e state placed h =
+      let made : MakesBy Begins (NoneAlternative (t ∷ drop at ts)) (all_leaves b.pointer (t ∷ drop at ts)) (λ A. LooseInTurn b.pointer (holds A) (t ∷ drop at ts)) target b e = makes_before placed (said_before b.pointer t state d e placed.pointer h) in
+      subst (λ (z : List Tree). TurnFront z target b e state) (sym (drop_one ts at t pos within et)) (inr made)
 
-pub some_trees : (ts : List Tree) (b : Bool) → b ≡ (length ts == 0) → b ≡ false → ts ≢ []
-some_trees ts b e f q = let z : (length ts == 0) ≡ true = rw q refl in cc
+  pub turn_empty : (c : Building) (next : ℕ) → extent_of t ≡ Empty → TurnFront (drop at ts) target b c next → TurnFront (drop (at - 1) ts) target b c next
+  turn_empty c next empty h = subst (λ (z : List Tree). TurnFront z target b c next) (sym (drop_one ts at t pos within et)) (elim h [
+    | inl (st, same, none) ↦ inl (st, same, λ A w. (λ k. (none A w).0 ((words A w).1 k), λ k. (words A w).0 ((none A w).1 k)))
+    | inr made ↦ inr (makes_as {line2 = NoneAlternative (t ∷ drop at ts)} {room2 = all_leaves b.pointer (t ∷ drop at ts)} {Q = λ A. LooseInTurn b.pointer (holds A) (t ∷ drop at ts)} (omega arith) (λ l. l.1) words made)
+  ])
+    where
+      none_here : IsExtent Empty (λ A. LooseWord b.pointer (holds A) t)
+      none_here = subst (λ z. IsExtent z (λ A. LooseWord b.pointer (holds A) t)) empty (extent_is b.pointer can.ready.pointer.0 t)
 
-pub no_trees : (ts : List Tree) (b : Bool) → b ≡ (length ts == 0) → b ≡ true → ts ≡ []
-no_trees [] b e f = refl
-no_trees (t ∷ ts) b e f = let z = same_at (length (t ∷ ts)) 0 (sym e ∙ f) in absurd (omega arith)
+      words : (A : ℕ → ℕ → Bool) (w : Word) → LooseInTurn b.pointer (holds A) (drop at ts) w ↔ LooseInTurn b.pointer (holds A) (t ∷ drop at ts) w
+      words A w = (
+        λ k. ([], w, refl, none_here A, k),
+        λ (u, v, e, a, k). (
+            let eu = empty_alone b.pointer can.ready.pointer.0 t empty even_here A u a in
+            let ew : w ≡ v = e ∙ ap (λ (z : Word). z ++ v) eu in
+            subst (λ (z : Word). LooseInTurn b.pointer (holds A) (drop at ts) z) (sym ew) k),
+      )
+
+  pub turn_dead : extent_of t ≡ Dead → ⊥
+  turn_dead dead = live_at b.pointer can.ready.pointer.0 ts (at - 1) t (live ts grow.long) (omega arith) (ap extent_of (sym et) ∙ dead)
+
+pub turn_done : (ts : List Tree) (target : ℕ) (b c : Building) (next : ℕ) → CanGrow (Seq ts) target b → TurnFront ts target b c next → MakesTree (Seq ts) target b c
+turn_done ts target b c next can (inl (at, same, none)) =
+    let g = turn_growable b.pointer ts can.growable in
+    let (d, w, h) = subst (λ z. IsExtent z (λ A. LooseInTurn b.pointer (holds A) ts)) g.long (turn_is b.pointer can.ready.pointer.0 ts) in
+    let e : d ∷ w ≡ [] = (none any (d ∷ w)).0 h in
+    cc
+turn_done ts target b c next can (inr made) = let e = leaves_of-Seq b.pointer ts in makes_as (omega arith) (HasNoAlternatives-Seq ts).0 (λ A w. let (x, y) = LooseWord-Seq b.pointer (holds A) ts w in (y, x)) made

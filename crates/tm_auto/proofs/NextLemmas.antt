@@ -6,7 +6,7 @@ use Rattle.std.specs.List.Sorted.{IsStrictlyIncreasing, IsPartitionedBy}
 use Rattle.std.proofs.lemmas.Bool.{ne_eqb}
 use Rattle.tm_auto.specs.declared.edge.Edge.{Edge}
 use Rattle.tm_auto.specs.declared.edge.Symbol.{Symbol}
-use Rattle.tm_auto.specs.Automata.{Automaton, IsAutomaton, IsOrdered, AreStates, AreInLayer, edges_from}
+use Rattle.tm_auto.specs.Automata.{Automaton, IsAutomaton, IsStep, IsOrdered, AreStates, AreInLayer, edges_from}
 use Rattle.tm_auto.specs.Paths.{Among, here, there, IsPath}
 use Rattle.tm_auto.specs.Sets.{with_state, with_ends, passes, next}
 use Rattle.tm_auto.proofs.SetLemmas.{bool_cases, same_at, with_state_to, with_state_has, with_state_keeps, with_state-IsStrictlyIncreasing, rises_same, increasing_rises}
@@ -196,6 +196,12 @@ module _ (A : ℕ → ℕ → Bool) (x : Symbol) where
       drop_none [] (suc i) l = refl
       drop_none (s ∷ ss) zero l = absurd (omega arith)
       drop_none (s ∷ ss) (suc i) l = drop_none ss i (omega arith)
+
+  pub next_step : (auto : Automaton) (from : List ℕ) → IsStep A auto from x (next A auto.edges from x)
+  next_step auto from = record {
+    rising = next-IsStrictlyIncreasing A auto.edges from x;
+    states = λ s. (λ m. next_to A auto.edges from x s m, λ (e, ea, ef, ep, eq). subst (λ (z : ℕ). Among z (next A auto.edges from x)) eq (to_next A auto.edges from x e ea ef ep));
+  }
 
   -- what a step makes of states is states, and of a layer the next one
   pub next_states : (auto : Automaton) → IsAutomaton auto → (from : List ℕ) → AreStates auto (next A auto.edges from x)

@@ -37,19 +37,19 @@ byte_at (Byte b) = b
 byte_at Uninit = 0
 byte_at (Ptr r k) = 0
 
-id_at : Cell → ℕ
+abbrev pub id_at : Cell → ℕ
 id_at (Byte b) = 0
 id_at Uninit = 0
 id_at (Ptr r k) = r.0
 
-place_at : Cell → ℕ
+abbrev pub place_at : Cell → ℕ
 place_at (Byte b) = 0
 place_at Uninit = 0
 place_at (Ptr r k) = k
 
 -- a label passes what it takes
 pub passes_takes : (A : ℕ → ℕ → Bool) (l : Label) (c : Cell) → (passes A l (symbol_of c) ≡ true) ↔ Takes (holds A) l c
-unfolding byte_at id_at place_at
+unfolding byte_at
 passes_takes A (Bytes low high) (Byte b) = (
   λ e. let (p, q) = both_true (nat_le low b) (nat_le b high) e in (b, le_test low b p, le_test b high q, refl),
   λ (y, p, q, e). let z = ap byte_at e in and_from _ _ (le_holds low b (omega arith)) (le_holds b high (omega arith)),

@@ -1,22 +1,27 @@
 -- What an automaton is, and what its words are.
-use Rattle.std.specs.Prelude.{◌≡◌, ◌≢◌, ℕ, suc, Bool, ◌<◌, ◌≤◌, ◌⊎◌, ◌↔◌, ◌==◌, filter, List, [], ◌∷◌, ◌++◌, length}
+use Rattle.std.specs.Prelude.{◌≡◌, ◌≢◌, ℕ, suc, Bool, IsTrue, ◌^◌, ◌<◌, ◌≤◌, ◌⊎◌, ◌↔◌, ◌==◌, filter, List, [], ◌∷◌, ◌++◌, length}
 use Rattle.std.specs.List.Sorted.{IsStrictlyIncreasing}
+use Rattle.tm_base.specs.declared.cell.Cell.{Cell}
 use Rattle.tm_base.specs.declared.cell.Cell.TheVariants.{Ptr}
 use Rattle.tm_base.specs.declared.cell.RefId.{RefId}
-use Rattle.tm_base.specs.Cells.{Word, OrOwn, pointer_size}
+use Rattle.tm_base.specs.Cells.{Word, own, OrOwn}
 use Rattle.tm_base.specs.Transmutes.{holds}
 use Rattle.tm_auto.specs.declared.edge.Edge.{Edge}
+use Rattle.tm_auto.specs.declared.edge.Label.TheVariants.{Leaf}
+use Rattle.tm_auto.specs.declared.edge.Symbol.{Symbol}
 use Rattle.tm_auto.specs.Joined.{IsJoined, IsWhole, HasNoOwn}
 use Rattle.tm_auto.specs.Labels.{CanTake, Begins, Joins}
 use Rattle.tm_auto.specs.Paths.{Among, Leads, Spells, Reaches, IsPath}
-use Rattle.tm_auto.specs.Sets.{reached_from}
+use Rattle.tm_auto.specs.Sets.{passes, reached_from, symbol_of}
 
--- States are the numbers below `states`, and 0 is the end. Each word has `size` cells.
+-- States are the numbers below `states`, and 0 is the end. Each word has `size` cells, and a reference
+-- in it `pointer` of them.
 pub record Automaton : Type 0 where
   pub states : ℕ
   pub edges : List Edge
   pub starts : List ℕ
   pub size : ℕ
+  pub pointer : ℕ
 
 -- a word: a joined list of cells that the labels of a path from a start to the end spell
 pub record AutoWord (A : ℕ → ℕ → Type 0) (auto : Automaton) (w : Word) : Type 0 where
@@ -59,13 +64,14 @@ pub record IsAutomaton (auto : Automaton) : Type 0 where
   pub ordered : IsOrdered auto.edges
   pub left : (s : ℕ) → 0 < s → s < auto.states → (e : Edge) × Among e auto.edges × (e.from ≡ s)
   pub entered : (s : ℕ) → s < auto.states → IsEntered auto.edges auto.starts s
-  pub takes : (e : Edge) → Among e auto.edges → CanTake e.label
+  pub takes : (e : Edge) → Among e auto.edges → CanTake auto.pointer e.label
   pub joins : (e f : Edge) → Among e auto.edges → Among f auto.edges → e.to ≡ f.from → Joins e.label f.label
   pub begins : (e : Edge) → Among e auto.edges → Among e.from auto.starts → Begins e.label
   pub rising : IsStrictlyIncreasing auto.starts
+  pub one : (s t : ℕ) → Among s auto.starts → Among t auto.starts → s ≡ t
   pub below : (s : ℕ) → Among s auto.starts → s < auto.states
   pub sized : (A : ℕ → ℕ → Bool) (w : Word) → AutoWord (holds A) auto w → length w ≡ auto.size
-  pub whole : (A : ℕ → ℕ → Bool) (w : Word) → AutoWord (holds A) auto w → IsWhole w
+  pub whole : (A : ℕ → ℕ → Bool) (w : Word) → AutoWord (holds A) auto w → IsWhole auto.pointer w
 
 -- a word goes through the state
 pub record LiesOnWord (A : ℕ → ℕ → Type 0) (auto : Automaton) (s : ℕ) : Type 0 where
@@ -96,15 +102,37 @@ AreInLayer auto k states = (s : ℕ) → Among s states → IsInLayer auto k s
 abbrev pub equal : ℕ → ℕ → Bool
 equal x t = x == t
 
+-- an edge that leaves one of the states leads to this one and passes the symbol
+abbrev pub StepsTo : (ℕ → ℕ → Bool) → Automaton → List ℕ → Symbol → ℕ → Type 0
+StepsTo A auto from symbol s = (e : Edge) × Among e auto.edges × Among e.from from × IsTrue (passes A e.label symbol) × (e.to ≡ s)
+
+-- just the states to which a step leads, in rising order
+pub record IsStep (A : ℕ → ℕ → Bool) (auto : Automaton) (from : List ℕ) (symbol : Symbol) (set : List ℕ) : Type 0 where
+  pub rising : IsStrictlyIncreasing set
+  pub states : (s : ℕ) → Among s set ↔ StepsTo A auto from symbol s
+
+-- an edge that takes the first byte of the target reference leaves one of the states
+abbrev pub BeginsReference : Automaton → List ℕ → RefId → Type 0
+BeginsReference auto states t = (e : Edge) × Among e auto.edges × Among e.from states × (e.label ≡ Leaf t 0)
+
+-- what is taken as a reference is one: its number is below 2 ^ 32
+abbrev pub IsOfReferences : (ℕ → ℕ → Bool) → Type 0
+IsOfReferences A = (x t : ℕ) → t < 2 ^ 32 → IsTrue (A x t) → x < 2 ^ 32
+
 -- What lists of cells reach. A joined list in which no reference holds itself reaches a state exactly
--- where it is viable, in the middle of a reference too. Under the test of equal references, as for a
--- source, each list does that begins a word, and what reaches a state is joined. And where a byte of a
--- reference is taken, so is the next: a refused one has place 0.
+-- where it is viable, in the middle of a reference too, and a state where a target reference may begin
+-- exactly where that reference, holding itself, may stand behind it. Under the test of equal references,
+-- as for a source, each list does that begins a word, and what reaches a state is joined. And where a
+-- byte of a reference is taken, so is the next: a refused one has place 0.
 pub record ReadsWords (auto : Automaton) : Type 0 where
+  pub begins : (A : ℕ → ℕ → Bool) → reached A auto [] ≡ auto.starts
+  pub steps : (A : ℕ → ℕ → Bool) (w : Word) (c : Cell) (set : List ℕ) → IsStep A auto (reached A auto w) (symbol_of c) set → set ≡ reached A auto (w ++ c ∷ [])
   pub states : (A : ℕ → ℕ → Bool) (w : Word) (s : ℕ) → Among s (reached A auto w) ↔ ((a : ℕ) × Among a auto.starts × Leads (holds A) auto.edges w a s)
   pub layer : (A : ℕ → ℕ → Bool) (w : Word) → AreInLayer auto (length w) (reached A auto w)
   pub viable : (A : ℕ → ℕ → Bool) (w : Word) → IsJoined w → HasNoOwn w → (reached A auto w ≢ []) ↔ IsViable (holds A) auto w
+  pub opens : (A : ℕ → ℕ → Bool) (w : Word) (t : RefId) → IsOfReferences A → IsJoined w → HasNoOwn w
+      → BeginsReference auto (reached A auto w) t ↔ IsViable (holds A) auto (w ++ Ptr (record { 0 = own t.0 }) 0 ∷ [])
   pub source : (w : Word) → (reached equal auto w ≢ []) ↔ ((v : Word) × AutoWord (holds equal) auto (w ++ v))
   pub joined : (w : Word) → reached equal auto w ≢ [] → IsJoined w
-  pub onward : (A : ℕ → ℕ → Bool) (w : Word) (r : RefId) (k : ℕ) → suc k < pointer_size → IsJoined (w ++ Ptr r k ∷ []) → HasNoOwn (w ++ Ptr r k ∷ [])
+  pub onward : (A : ℕ → ℕ → Bool) (w : Word) (r : RefId) (k : ℕ) → suc k < auto.pointer → IsJoined (w ++ Ptr r k ∷ []) → HasNoOwn (w ++ Ptr r k ∷ [])
       → reached A auto (w ++ Ptr r k ∷ []) ≢ [] → reached A auto ((w ++ Ptr r k ∷ []) ++ Ptr r (suc k) ∷ []) ≢ []

@@ -1,101 +1,176 @@
--- What the builder makes. It goes from the end: in front of some states, the targets, it puts new ones
--- with the edges that leave them, and the states at which a word may begin are the starts.
-use Rattle.std.specs.Prelude.{◌≡◌, ◌≢◌, ℕ, zero, suc, ◌+◌, ◌-◌, ◌<◌, ◌≤◌, Bool, List, [], ◌∷◌, ◌++◌, length, take}
+-- What the builder makes. It goes from the end: in front of a state, the target, it puts the words of a
+-- tree. The ways by which they begin wait for a state that they leave.
+use Rattle.std.specs.Prelude.{◌≡◌, ◌≢◌, ℕ, zero, suc, ◌+◌, ◌^◌, ◌<◌, ◌≤◌, ◌⊎◌, Bool, true, List, [], ◌∷◌, ◌++◌, length, take, drop}
+use Rattle.tm_base.specs.declared.cell.Cell.{Cell}
 use Rattle.tm_base.specs.declared.cell.RefId.{RefId}
+use Rattle.tm_base.specs.declared.tree.Tree.{Tree}
 use Rattle.tm_base.specs.Cells.{Word}
+use Rattle.tm_base.specs.Shapes.{leaves_of, HasNoPrivate, HasNoAlternatives}
 use Rattle.tm_base.specs.Transmutes.{holds}
+use Rattle.tm_auto.specs.declared.build.Building.{Building}
+use Rattle.tm_auto.specs.declared.build.Way.{Way}
 use Rattle.tm_auto.specs.declared.edge.Edge.{Edge}
 use Rattle.tm_auto.specs.declared.edge.Label.{Label}
 use Rattle.tm_auto.specs.declared.edge.Label.TheVariants.{Leaf}
-use Rattle.tm_auto.specs.Automata.{IsEntered, IsOrdered}
-use Rattle.tm_auto.specs.Labels.{CanTake, Begins, Joins}
-use Rattle.tm_auto.specs.Loose.{LooseBytes}
-use Rattle.tm_auto.specs.Paths.{Among, Reaches}
+use Rattle.tm_auto.specs.declared.extent.Extent.TheVariants.{Long}
+use Rattle.tm_auto.specs.Automata.{IsOrdered}
+use Rattle.tm_auto.specs.Labels.{Takes, CanTake, Begins, Joins}
+use Rattle.tm_auto.specs.Loose.{LooseWord}
+use Rattle.tm_auto.specs.Paths.{Among, Spells}
+use Rattle.tm_auto.specs.Shapes.{extent_of}
 
--- an edge from the state to each target
-abbrev pub edges_to : ℕ → Label → List ℕ → List Edge
-edges_to s label [] = []
-edges_to s label (t ∷ ts) = record { from = s; to = t; label = label } ∷ edges_to s label ts
+-- words, for every test of references
+abbrev pub Words : Type 1
+Words = (ℕ → ℕ → Bool) → Word → Type 0
 
--- q holds of the labels of the edges that leave these states
-abbrev pub OpensWith : (Label → Type 0) → List Edge → List ℕ → Type 0
-OpensWith q es states = (e : Edge) → Among e es → Among e.from states → q e.label
+-- the edges of a state that is given these ways
+abbrev pub edges_by : ℕ → List Way → List Edge
+edges_by s [] = []
+edges_by s (way ∷ ways) = record { from = s; to = way.to; label = way.label } ∷ edges_by s ways
+
+-- one of the ways takes the first cell, and the others lead on to the end
+pub record Opens (A : ℕ → ℕ → Type 0) (es : List Edge) (ways : List Way) (w : Word) : Type 0 where
+  pub way : Way
+  pub among : Among way ways
+  pub cell : Cell
+  pub rest : Word
+  pub is : w ≡ cell ∷ rest
+  pub takes : Takes A way.label cell
+  pub spells : Spells A es rest way.to
+
+-- a way or an edge leads to the state
+abbrev pub IsLedTo : List Way → List Edge → ℕ → Type 0
+IsLedTo ways es s = ((way : Way) × Among way ways × (way.to ≡ s)) ⊎ ((e : Edge) × Among e es × (e.to ≡ s))
+
+-- no state has edges to two states
+abbrev pub IsForward : List Edge → Type 0
+IsForward es = (e f : Edge) → Among e es → Among f es → e.from ≡ f.from → e.to ≡ f.to
 
 -- the label may stand right after the bytes of a reference before this place
 abbrev pub MayFollow : RefId → ℕ → Label → Type 0
 MayFollow t zero l = Begins l
 MayFollow t (suc k) l = Joins (Leaf t k) l
 
-abbrev pub Below : List ℕ → ℕ → Type 0
-Below states n = (s : ℕ) → Among s states → s < n
+-- the words have one size
+abbrev pub AreEven : (Word → Type 0) → Type 0
+AreEven P = (n : ℕ) × ((w : Word) → P w → length w ≡ n)
 
--- no state has edges to two states
-abbrev pub IsForward : List Edge → Type 0
-IsForward es = (e f : Edge) → Among e es → Among f es → e.from ≡ f.from → e.to ≡ f.to
+-- each reference may hold each other
+abbrev pub any : ℕ → ℕ → Bool
+any x t = true
 
-abbrev pub HasAtMostOne : List ℕ → Type 0
-HasAtMostOne xs = (s t : ℕ) → Among s xs → Among t xs → s ≡ t
+-- A tree that may be grown: it has words with cells, all of one size, and no private part.
+pub record IsGrowable (pointer : ℕ) (t : Tree) : Type 0 where
+  pub public : HasNoPrivate t
+  pub long : extent_of t ≡ Long
+  pub even : AreEven (LooseWord pointer (holds any) t)
 
 -- the edges between the states below n
-pub record IsSound (es : List Edge) (n : ℕ) : Type 0 where
+pub record IsSound (pointer : ℕ) (es : List Edge) (n : ℕ) : Type 0 where
   pub some : 0 < n
   pub from : (e : Edge) → Among e es → e.from < n
   pub down : (e : Edge) → Among e es → e.to < e.from
   pub ordered : IsOrdered es
   pub left : (s : ℕ) → 0 < s → s < n → (e : Edge) × Among e es × (e.from ≡ s)
-  pub takes : (e : Edge) → Among e es → CanTake e.label
+  pub takes : (e : Edge) → Among e es → CanTake pointer e.label
   pub joins : (e f : Edge) → Among e es → Among f es → e.to ≡ f.from → Joins e.label f.label
 
--- and states in front of which may be built
-pub record IsReady (es : List Edge) (n : ℕ) (targets : List ℕ) : Type 0 where
-  pub sound : IsSound es n
-  pub below : Below targets n
-  pub plain : OpensWith Begins es targets
+-- a state in front of which may be built
+pub record IsReady (b : Building) (target : ℕ) : Type 0 where
+  pub pointer : (0 < b.pointer) × (b.pointer ≤ 8)
+  pub sound : IsSound b.pointer b.edges.items b.states
+  pub below : target < b.states
+  pub plain : (e : Edge) → Among e b.edges.items → e.from ≡ target → Begins e.label
 
--- from the starts a word of P leads to a target, and nothing else leads on to the end
-pub record Grows (A : ℕ → ℕ → Type 0) (P : Word → Type 0) (es fs : List Edge) (targets starts : List ℕ) : Type 0 where
-  pub forth : (w : Word) → Reaches A fs starts w → (u : Word) × (v : Word) × (w ≡ u ++ v) × P u × Reaches A es targets v
-  pub back : (u v : Word) → P u → Reaches A es targets v → Reaches A fs starts (u ++ v)
+-- a way that a new state may be given; q holds of its label
+pub record IsWay (q : Label → Type 0) (b : Building) (way : Way) : Type 0 where
+  pub below : way.to < b.states
+  pub takes : CanTake b.pointer way.label
+  pub opens : q way.label
+  pub joins : (e : Edge) → Among e b.edges.items → way.to ≡ e.from → Joins way.label e.label
 
--- What is built for the words of P in front of the targets: from the edges es of n states come the edges
--- fs of m states, at most `room` more. q holds of the labels at the starts. Where `line` holds, what led
--- forward in one line still does.
-pub record MakesBy (q : Label → Type 0) (line : Type 0) (room : ℕ) (P : (ℕ → ℕ → Bool) → Word → Type 0) (es fs : List Edge) (n m : ℕ) (targets starts : List ℕ) : Type 0 where
-  pub later : n ≤ m
-  pub few : m ≤ n + room
-  pub sound : IsSound fs m
-  pub below : Below starts m
-  pub opens : OpensWith q fs starts
+-- by the ways a word of P leads to the target, and nothing else leads on to the end
+pub record Grows (A : ℕ → ℕ → Type 0) (P : Word → Type 0) (es fs : List Edge) (ways : List Way) (target : ℕ) : Type 0 where
+  pub forth : (w : Word) → Opens A fs ways w → (u : Word) × (v : Word) × (w ≡ u ++ v) × P u × Spells A es v target
+  pub back : (u v : Word) → P u → Spells A es v target → Opens A fs ways (u ++ v)
+
+-- What is built for the words of P in front of the target: at most `room` edges and ways are new, and
+-- fewer states. q holds of the labels of the new ways. Where `line` holds, what led forward in one line
+-- still does.
+pub record MakesBy (q : Label → Type 0) (line : Type 0) (room : ℕ) (P : Words) (target : ℕ) (b c : Building) : Type 0 where
+  pub pointer : c.pointer ≡ b.pointer
+  pub later : b.states ≤ c.states
+  pub few : c.states < b.states + room
   pub more : List Edge
-  pub longer : fs ≡ es ++ more
-  pub fresh : (e : Edge) → Among e more → n ≤ e.from
-  pub into : (s : ℕ) → n ≤ s → s < m → IsEntered fs starts s
-  pub covers : (a : ℕ) → Among a starts → (t : ℕ) → Among t targets → IsEntered fs starts t
-  pub front : (a : ℕ) → Among a starts → (t : ℕ) × Among t targets
-  pub forward : line → IsForward es → HasAtMostOne targets → IsForward fs × HasAtMostOne starts
-  pub grows : (A : ℕ → ℕ → Bool) → Grows (holds A) (P A) es fs targets starts
+  pub longer : c.edges.items ≡ b.edges.items ++ more
+  pub fresh : (e : Edge) → Among e more → b.states ≤ e.from
+  pub ways : List Way
+  pub head : c.head.items ≡ b.head.items ++ ways
+  pub some : ways ≢ []
+  pub linear : length more + length ways ≤ room
+  pub sound : IsSound c.pointer c.edges.items c.states
+  pub each : (way : Way) → Among way ways → IsWay q c way
+  pub into : (s : ℕ) → b.states ≤ s → s < c.states → IsLedTo ways c.edges.items s
+  pub covers : IsLedTo ways c.edges.items target
+  pub forward : line → IsForward b.edges.items → IsForward c.edges.items × (length ways ≤ 1)
+  pub grows : (A : ℕ → ℕ → Bool) → Grows (holds A) (P A) b.edges.items c.edges.items ways target
 
-abbrev pub Makes : Type 0 → ℕ → ((ℕ → ℕ → Bool) → Word → Type 0) → List Edge → List Edge → ℕ → ℕ → List ℕ → List ℕ → Type 0
-Makes line room P es fs n m targets starts = MakesBy Begins line room P es fs n m targets starts
+-- The same once the ways have a state: words of P begin there. Where nothing was put, it is the target.
+pub record IsPlacedBy (q : Label → Type 0) (line : Type 0) (room : ℕ) (P : Words) (target : ℕ) (b c : Building) (state : ℕ) : Type 0 where
+  pub pointer : c.pointer ≡ b.pointer
+  pub later : b.states ≤ c.states
+  pub few : c.states ≤ b.states + room
+  pub more : List Edge
+  pub longer : c.edges.items ≡ b.edges.items ++ more
+  pub fresh : (e : Edge) → Among e more → b.states ≤ e.from
+  pub head : c.head.items ≡ b.head.items
+  pub linear : length more ≤ room
+  pub sound : IsSound c.pointer c.edges.items c.states
+  pub below : state < c.states
+  pub opens : (e : Edge) → Among e c.edges.items → e.from ≡ state → q e.label
+  pub into : (s : ℕ) → b.states ≤ s → s < c.states → (s ≡ state) ⊎ ((e : Edge) × Among e c.edges.items × (e.to ≡ s))
+  pub covers : (target ≡ state) ⊎ ((e : Edge) × Among e c.edges.items × (e.to ≡ target))
+  pub forward : line → IsForward b.edges.items → IsForward c.edges.items
+  pub forth : (A : ℕ → ℕ → Bool) (w : Word) → Spells (holds A) c.edges.items w state → (u : Word) × (v : Word) × (w ≡ u ++ v) × P A u × Spells (holds A) b.edges.items v target
+  pub back : (A : ℕ → ℕ → Bool) (u v : Word) → P A u → Spells (holds A) b.edges.items v target → Spells (holds A) c.edges.items (u ++ v) state
 
--- so many bytes of a reference from a place on
-abbrev pub MakesBytes : RefId → ℕ → ℕ → List Edge → List Edge → ℕ → ℕ → List ℕ → List ℕ → Type 0
-MakesBytes t place count es fs n m targets starts =
-    (starts ≢ []) × MakesBy (MayFollow t place) (Unit {0}) count (λ A. LooseBytes (holds A) t.0 place count) es fs n m targets starts
+-- what is built for a tree
+abbrev pub MakesTree : Tree → ℕ → Building → Building → Type 0
+MakesTree t target b c = MakesBy Begins (HasNoAlternatives t) (leaves_of b.pointer t) (λ A. LooseWord b.pointer (holds A) t) target b c
 
--- the builder went back to where it was if nothing starts
-pub record IsSettled (es gs hs : List Edge) (n k j : ℕ) (starts : List ℕ) : Type 0 where
-  pub back : starts ≡ [] → (hs ≡ take (length es) gs) × (j ≡ n)
-  pub stays : starts ≢ [] → (hs ≡ gs) × (j ≡ k)
+abbrev pub IsPlacedTree : Tree → ℕ → Building → Building → ℕ → Type 0
+IsPlacedTree t target b c state = IsPlacedBy Begins (HasNoAlternatives t) (leaves_of b.pointer t) (λ A. LooseWord b.pointer (holds A) t) target b c state
 
--- a new state with the label was put
-pub record IsPut (es fs : List Edge) (n m : ℕ) (label : Label) (targets starts : List ℕ) : Type 0 where
-  pub edges : fs ≡ es ++ edges_to n label targets
-  pub states : m ≡ n + 1
-  pub start : starts ≡ n ∷ []
+-- there is room for a tree that may be grown in front of the target
+pub record CanGrow (t : Tree) (target : ℕ) (b : Building) : Type 0 where
+  pub growable : IsGrowable b.pointer t
+  pub ready : IsReady b target
+  pub room : b.states + leaves_of b.pointer t ≤ 2 ^ 31
 
--- the newest state has the label too
-pub record IsShared (es fs : List Edge) (n m : ℕ) (label : Label) (targets old new : List ℕ) : Type 0 where
-  pub edges : fs ≡ es ++ edges_to (n - 1) label targets
-  pub states : m ≡ n
-  pub start : new ≡ old
+-- nothing is built yet, and there is room for the tree, whose words have one size
+pub record CanBegin (t : Tree) (b : Building) : Type 0 where
+  pub pointer : (0 < b.pointer) × (b.pointer ≤ 8)
+  pub edges : b.edges.items ≡ []
+  pub states : b.states ≡ 1
+  pub head : b.head.items ≡ []
+  pub public : HasNoPrivate t
+  pub even : AreEven (LooseWord b.pointer (holds any) t)
+  pub room : leaves_of b.pointer t < 2 ^ 31
+
+abbrev pub HasNoLoose : ℕ → Tree → Type 0
+HasNoLoose pointer t = (A : ℕ → ℕ → Bool) (w : Word) → LooseWord pointer (holds A) t w → ⊥
+
+-- one more way
+pub record IsAdded (label : Label) (target : ℕ) (b c : Building) : Type 0 where
+  pub pointer : c.pointer ≡ b.pointer
+  pub states : c.states ≡ b.states
+  pub edges : c.edges.items ≡ b.edges.items
+  pub head : c.head.items ≡ b.head.items ++ record { label = label; to = target } ∷ []
+
+-- The ways behind the first `mark` were given a new state, where there were any: words go on there, and
+-- else at `next`.
+pub record IsSealed (mark next : ℕ) (b c : Building) (state : ℕ) : Type 0 where
+  pub pointer : c.pointer ≡ b.pointer
+  pub head : c.head.items ≡ take mark b.head.items
+  pub none : length b.head.items ≡ mark → (c.edges.items ≡ b.edges.items) × (c.states ≡ b.states) × (state ≡ next)
+  pub put : mark < length b.head.items → (c.edges.items ≡ b.edges.items ++ edges_by b.states (drop mark b.head.items)) × (c.states ≡ b.states + 1) × (state ≡ b.states)

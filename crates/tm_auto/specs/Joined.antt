@@ -1,8 +1,8 @@
 -- Lists of cells in which references stand whole from their first byte on.
-use Rattle.std.specs.Prelude.{◌≡◌, zero, suc, ◌<◌, ◌^◌, [], ◌∷◌}
+use Rattle.std.specs.Prelude.{◌≡◌, ℕ, zero, suc, ◌<◌, ◌^◌, [], ◌∷◌}
 use Rattle.tm_base.specs.declared.cell.Cell.{Cell}
 use Rattle.tm_base.specs.declared.cell.Cell.TheVariants.{Byte, Uninit, Ptr}
-use Rattle.tm_base.specs.Cells.{Word, pointer_size}
+use Rattle.tm_base.specs.Cells.{Word}
 
 -- the second cell may follow the first: a later byte of a reference follows the byte before it alone
 abbrev pub Follows : Cell → Cell → Type 0
@@ -30,13 +30,15 @@ abbrev pub HasNoOwn : Word → Type 0
 HasNoOwn [] = Unit {0}
 HasNoOwn (c ∷ w) = IsNotOwn c × HasNoOwn w
 
--- the byte of the next place of the same reference comes first
-abbrev pub GoesOn : Cell → Word → Type 0
-GoesOn (Byte b) w = Unit {0}
-GoesOn Uninit w = Unit {0}
-GoesOn (Ptr r k) w = suc k < pointer_size → (v : Word) × (w ≡ Ptr r (suc k) ∷ v)
+-- where a reference has `pointer` bytes
+module _ (pointer : ℕ) where
+  -- the byte of the next place of the same reference comes first
+  abbrev pub GoesOn : Cell → Word → Type 0
+  GoesOn (Byte b) w = Unit {0}
+  GoesOn Uninit w = Unit {0}
+  GoesOn (Ptr r k) w = suc k < pointer → (v : Word) × (w ≡ Ptr r (suc k) ∷ v)
 
--- each byte of a reference but the last is directly followed by the next
-abbrev pub IsWhole : Word → Type 0
-IsWhole [] = Unit {0}
-IsWhole (c ∷ w) = GoesOn c w × IsWhole w
+  -- each byte of a reference but the last is directly followed by the next
+  abbrev pub IsWhole : Word → Type 0
+  IsWhole [] = Unit {0}
+  IsWhole (c ∷ w) = GoesOn c w × IsWhole w

@@ -2,7 +2,7 @@
 use Rattle.std.specs.Prelude.{◌≡◌, ℕ, zero, suc, ◌≤◌, ◌<◌, ◌^◌}
 use Rattle.tm_base.specs.declared.cell.Cell.{Cell}
 use Rattle.tm_base.specs.declared.cell.Cell.TheVariants.{Byte, Ptr}
-use Rattle.tm_base.specs.Cells.{IsFree, pointer_size}
+use Rattle.tm_base.specs.Cells.{IsFree}
 use Rattle.tm_auto.specs.declared.edge.Label.{Label}
 use Rattle.tm_auto.specs.declared.edge.Label.TheVariants.{Bytes, Free, Leaf}
 
@@ -13,10 +13,10 @@ Takes A Free c = IsFree c
 Takes A (Leaf t k) c = (x : ℕ) × A x t.0 × (c ≡ Ptr (record { 0 = x }) k)
 
 -- the label takes something: its range has a byte, its reference is one and has the place
-abbrev pub CanTake : Label → Type 0
-CanTake (Bytes low high) = (low ≤ high) × (high < 256)
-CanTake Free = Unit {0}
-CanTake (Leaf t k) = (t.0 < 2 ^ 32) × (k < pointer_size)
+abbrev pub CanTake : ℕ → Label → Type 0
+CanTake pointer (Bytes low high) = (low ≤ high) × (high < 256)
+CanTake pointer Free = Unit {0}
+CanTake pointer (Leaf t k) = (t.0 < 2 ^ 32) × (k < pointer)
 
 -- the label may stand first: it is no later byte of a reference
 abbrev pub Begins : Label → Type 0

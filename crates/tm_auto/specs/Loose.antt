@@ -1,23 +1,23 @@
 -- The words of a tree where each byte of a reference may be another's: what the edges alone spell. The
--- joined ones among them are the words of the tree.
-use Rattle.std.specs.Prelude.{◌≡◌, ℕ, zero, suc, ◌≤◌, ◌⊎◌, Bool, IsTrue, List, [], ◌∷◌, ◌++◌}
+-- joined ones among them are the words of the tree. A reference has `pointer` bytes.
+use Rattle.std.specs.Prelude.{◌≡◌, ℕ, zero, suc, ◌≤◌, ◌⊎◌, List, [], ◌∷◌, ◌++◌}
 use Rattle.tm_base.specs.declared.cell.Cell.{Cell}
 use Rattle.tm_base.specs.declared.cell.Cell.TheVariants.{Byte, Ptr}
 use Rattle.tm_base.specs.declared.tree.Tree.{Tree, Row_of-Tree, end_of-Tree, more_of-Tree, Never, Range, Pad, Ref, Seq', Alt', Repeat', Private'}
 use Rattle.tm_base.specs.Cells.{Word, IsFree, Times}
 
-module _ (A : ℕ → ℕ → Type 0) where
-  -- so many bytes of a reference from a place on, each of some value that it may hold
-  abbrev pub LooseBytes : ℕ → ℕ → ℕ → Word → Type 0
-  LooseBytes t k zero w = w ≡ []
-  LooseBytes t k (suc n) w = (x : ℕ) × (v : Word) × A x t × (w ≡ Ptr (record { 0 = x }) k ∷ v) × LooseBytes t (suc k) n v
+-- so many bytes of a reference from a place on, each of some value that it may hold
+abbrev pub LooseBytes : (ℕ → ℕ → Type 0) → ℕ → ℕ → ℕ → Word → Type 0
+LooseBytes A t k zero w = w ≡ []
+LooseBytes A t k (suc n) w = (x : ℕ) × (v : Word) × A x t × (w ≡ Ptr (record { 0 = x }) k ∷ v) × LooseBytes A t (suc k) n v
 
+module _ (pointer : ℕ) (A : ℕ → ℕ → Type 0) where
   unfoldable mutual
     pub LooseWord : Tree → Word → Type 0
     LooseWord Never w = ⊥
     LooseWord (Range low high) w = (b : ℕ) × (low ≤ b) × (b ≤ high) × (w ≡ Byte b ∷ [])
     LooseWord Pad w = (c : Cell) × IsFree c × (w ≡ c ∷ [])
-    LooseWord (Ref t) w = LooseBytes t.0 0 8 w
+    LooseWord (Ref t) w = LooseBytes A t.0 0 pointer w
     LooseWord (Seq' shape row) w = RowLooseInTurn row w
     LooseWord (Alt' shape row) w = RowLooseOneOf row w
     LooseWord (Repeat' n shape row) w = RowLooseTimes n row w
@@ -44,8 +44,3 @@ module _ (A : ℕ → ℕ → Type 0) where
   abbrev pub LooseOneOf : List Tree → Word → Type 0
   LooseOneOf [] w = ⊥
   LooseOneOf (t ∷ ts) w = LooseWord t w ⊎ LooseOneOf ts w
-
-  -- a word of one of the trees that pass a test
-  abbrev pub LooseOneWhere : (Tree → Bool) → List Tree → Word → Type 0
-  LooseOneWhere p [] w = ⊥
-  LooseOneWhere p (t ∷ ts) w = (IsTrue (p t) × LooseWord t w) ⊎ LooseOneWhere p ts w

@@ -22,11 +22,6 @@ with_state s (x ∷ xs) =
     else if x == s then x ∷ xs
     else x ∷ with_state s xs
 
--- the set with each of the states
-abbrev pub with_states : List ℕ → List ℕ → List ℕ
-with_states [] xs = xs
-with_states (s ∷ ss) xs = with_states ss (with_state s xs)
-
 -- What a label passes: a range of bytes that lies within its own whole, or for a free cell any, or the
 -- place of a reference that may be taken as its own.
 abbrev pub passes : (ℕ → ℕ → Bool) → Label → Symbol → Bool

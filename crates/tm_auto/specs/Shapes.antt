@@ -1,9 +1,8 @@
--- Numbers and tests over trees that the builder goes by.
-use Rattle.std.specs.Prelude.{ℕ, ◌+◌, Bool, true, false, if◌then◌else◌, nat_le, Option, Some, None, is_some, List, [], ◌∷◌}
+-- What is told of a tree by its shape alone.
+use Rattle.std.specs.Prelude.{ℕ, ◌+◌, if◌then◌else◌, ◌==◌, nat_le, List, [], ◌∷◌}
 use Rattle.tm_base.specs.declared.tree.Tree.{Tree, Row_of-Tree, end_of-Tree, more_of-Tree, Never, Range, Pad, Ref, Seq', Alt', Repeat', Private'}
-use Rattle.tm_base.specs.Shapes.{leaves_of}
-use Rattle.tm_auto.specs.declared.edge.Label.{Label}
-use Rattle.tm_auto.specs.declared.edge.Label.TheVariants.{Bytes, Free}
+use Rattle.tm_auto.specs.declared.extent.Extent.{Extent}
+use Rattle.tm_auto.specs.declared.extent.Extent.TheVariants.{Dead, Empty, Long}
 
 -- how many trees are in a tree, itself among them
 unfoldable mutual
@@ -25,19 +24,49 @@ abbrev pub all_nodes : List Tree → ℕ
 all_nodes [] = 0
 all_nodes (t ∷ ts) = nodes_of t + all_nodes ts
 
--- the label of a tree that is one cell and has a word
-abbrev pub cell_of : Tree → Option Label
-cell_of (Range low high) = if nat_le low high then Some (Bytes low high) else None
-cell_of Pad = Some Free
-cell_of other = None
+-- of two trees one after the other
+abbrev pub both_extents : Extent → Extent → Extent
+both_extents Dead other = Dead
+both_extents Empty other = other
+both_extents Long Dead = Dead
+both_extents Long Empty = Long
+both_extents Long Long = Long
 
-abbrev pub is_cell : Tree → Bool
-is_cell t = is_some (cell_of t)
+-- of one tree or another: the first that has a word tells it
+abbrev pub either_extent : Extent → Extent → Extent
+either_extent Dead other = other
+either_extent Empty other = Empty
+either_extent Long other = Long
 
-abbrev pub is_no_cell : Tree → Bool
-is_no_cell t = if is_cell t then false else true
+-- Whether a tree has no word, the empty one or one with cells. A private part counts as having none.
+unfoldable mutual
+  pub extent_of : Tree → Extent
+  extent_of Never = Dead
+  extent_of (Range low high) = if nat_le low high then Long else Dead
+  extent_of Pad = Long
+  extent_of (Ref t) = Long
+  extent_of (Seq' shape row) = row_in_turn row
+  extent_of (Alt' shape row) = row_one_of row
+  extent_of (Repeat' n shape row) = row_times n row
+  extent_of (Private' shape row) = Dead
 
--- how many leaves the trees have that pass a test
-abbrev pub leaves_where : (Tree → Bool) → List Tree → ℕ
-leaves_where p [] = 0
-leaves_where p (t ∷ ts) = (if p t then leaves_of t else 0) + leaves_where p ts
+  pub row_in_turn : {m : _} → Row_of-Tree m → Extent
+  row_in_turn end_of-Tree = Empty
+  row_in_turn (more_of-Tree t ts) = both_extents (extent_of t) (row_in_turn ts)
+
+  pub row_one_of : {m : _} → Row_of-Tree m → Extent
+  row_one_of end_of-Tree = Dead
+  row_one_of (more_of-Tree t ts) = either_extent (extent_of t) (row_one_of ts)
+
+  pub row_times : {m : _} → ℕ → Row_of-Tree m → Extent
+  row_times n end_of-Tree = Dead
+  row_times n (more_of-Tree t ts) = if n == 0 then Empty else extent_of t
+
+-- of trees in turn, and of one of some
+abbrev pub in_turn : List Tree → Extent
+in_turn [] = Empty
+in_turn (t ∷ ts) = both_extents (extent_of t) (in_turn ts)
+
+abbrev pub one_of : List Tree → Extent
+one_of [] = Dead
+one_of (t ∷ ts) = either_extent (extent_of t) (one_of ts)

@@ -1,25 +1,27 @@
-ghost use Rattle.std.specs.Prelude.{◌≡◌, ℕ, ◌+◌, ◌^◌, ◌<◌, ◌≤◌, ◌↔◌, Bool, IfOk, OnOk, length, slice_range};
+ghost use Rattle.std.specs.Prelude.{◌≡◌, ℕ, ◌+◌, ◌^◌, ◌<◌, ◌≤◌, ◌⊎◌, ◌↔◌, Bool, IfOk, OnOk, length, slice_range};
 ghost use Rattle.tm_base.specs.Cells.{Word};
 ghost use Rattle.tm_base.specs.Shapes.{leaves_of, HasNoPrivate, HasNoAlternatives, HasSize};
 ghost use Rattle.tm_base.specs.Transmutes.{holds};
 ghost use Rattle.tm_base.specs.Trees.{TreeWord};
-ghost use Rattle.tm_auto.specs.Automata.{AutoWord, IsAutomaton, HasOneStateALayer, IsLayered, ReadsWords, AreStates, AreInLayer, IsOrdered, edges_from};
-ghost use Rattle.tm_auto.specs.Sets.{next, passes, with_ends};
+ghost use Rattle.tm_auto.specs.Automata.{AutoWord, IsAutomaton, HasOneStateALayer, IsLayered, ReadsWords, AreStates, AreInLayer, IsStep, IsOrdered, edges_from};
+ghost use Rattle.tm_auto.specs.Sets.{with_ends};
 
-use crate::build::{Building, grow};
-use crate::edge::{Edge, Label, Symbol};
+use crate::build::Building;
+use crate::edge::{Edge, Symbol};
 use crate::set::StateSet;
 use std::alloc::Global;
 use std::marker::Model;
 use tm_base::{Memory, RefTest, Tree};
 
-/// An automaton over cells. Contracts see its states, its edges, its starts and the size of its words.
+/// An automaton over cells. Contracts see its states, its edges, its starts, of which there is one at
+/// most, and the numbers of cells of its words and of a reference.
 #[derive(Drop)]
 pub struct Auto {
     states: u32,
     edges: Vec<Edge>,
     starts: StateSet,
     size: u32,
+    pointer: u32,
 }
 
 impl Model for Auto {
@@ -27,43 +29,52 @@ impl Model for Auto {
 
     ghost Value = { Automaton };
 
-    ghost view = { λ auto. record { states = auto.states; edges = auto.edges.items; starts = auto.starts; size = auto.size } };
+    ghost view = { λ auto. record { states = auto.states; edges = auto.edges.items; starts = auto.starts; size = auto.size; pointer = auto.pointer } };
 
-    ghost invariant = { λ auto. IsAutomaton (record { states = auto.states; edges = auto.edges.items; starts = auto.starts; size = auto.size }) };
+    ghost invariant = { λ auto. IsAutomaton (record { states = auto.states; edges = auto.edges.items; starts = auto.starts; size = auto.size; pointer = auto.pointer }) };
 }
 
 impl Auto {
-    /// The automaton of a tree without private parts, whose words all have `size` cells.
-    pub fn build(alloc: Global, tree: &Tree, size: u32) -> Result<Auto, Memory>
+    /// The automaton of a tree without private parts, whose words all have `size` cells. A reference has
+    /// `pointer` cells, which is 4 or 8.
+    pub fn build(alloc: Global, tree: &Tree, size: u32, pointer: u32) -> Result<Auto, Memory>
+        requires pointer { (pointer ≡ 4) ⊎ (pointer ≡ 8) }
         requires public { HasNoPrivate tree.now }
-        requires leaves { leaves_of tree.now < 2 ^ 31 }
-        requires sized { HasSize size tree.now }
-        ensures automaton { IfOk result (λ auto. IsAutomaton auto) }
+        requires leaves { leaves_of pointer tree.now < 2 ^ 31 }
+        requires sized { HasSize pointer size tree.now }
         ensures size { IfOk result (λ auto. auto.size ≡ size) }
+        ensures pointer { IfOk result (λ auto. auto.pointer ≡ pointer) }
         ensures words { IfOk result (λ auto. (A : ℕ → ℕ → Bool) (keep : Bool) (w : Word)
-            → TreeWord (holds A) keep tree.now w ↔ AutoWord (holds A) auto w) }
+            → TreeWord pointer (holds A) keep tree.now w ↔ AutoWord (holds A) auto w) }
         ensures single { HasNoAlternatives tree.now → IfOk result (λ auto. HasOneStateALayer auto) }
+        ensures linear { IfOk result (λ auto. length auto.edges ≤ leaves_of pointer tree.now) }
     {
-        let mut b = Building {
-            edges: Vec::new(alloc),
-            states: 1,
-        };
-        let end = StateSet::of_one(alloc, 0)?;
-        let starts = grow(alloc, &mut b, tree, &end)?;
-        if starts.as_slice().is_empty() {
-            return Ok(Auto {
+        let mut b = Building::new(alloc, pointer as u8);
+        match b.whole(tree)? {
+            None => Ok(Auto {
                 states: 0,
                 edges: Vec::new(alloc),
-                starts,
+                starts: StateSet::new(alloc),
                 size,
-            });
+                pointer,
+            }),
+            Some(start) => Ok(Auto {
+                states: b.states,
+                edges: b.edges,
+                starts: StateSet::of_one(alloc, start)?,
+                size,
+                pointer,
+            }),
         }
-        Ok(Auto {
-            states: b.states,
-            edges: b.edges,
-            starts,
-            size,
-        })
+    }
+
+    /// Nothing is done: the clauses say what holds of every automaton.
+    pub fn law(&self)
+        ensures automaton { IsAutomaton self.now }
+        ensures layers { IsLayered self.now }
+        ensures reads { ReadsWords self.now }
+    {
+        let _states = self.states;
     }
 
     /// The set of the states at which words begin. What follows from a set by `step` is what a list of
@@ -71,17 +82,13 @@ impl Auto {
     pub fn start(&self, alloc: Global) -> Result<StateSet, Memory>
         ensures starts { IfOk result (λ set. set ≡ self.now.starts) }
         ensures states { IfOk result (λ set. AreStates self.now set) }
-        ensures automaton { IsAutomaton self.now }
-        ensures reads { ReadsWords self.now }
     {
         self.starts.copy(alloc)
     }
 
     /// How many cells each word has.
     pub fn size(&self) -> u32
-        ensures size { result ≡ self.now.size }
-        ensures automaton { IsAutomaton self.now }
-        ensures layers { IsLayered self.now }
+        ensures { result ≡ self.now.size }
     {
         self.size
     }
@@ -104,7 +111,7 @@ impl Auto {
         symbol: Symbol,
     ) -> Result<StateSet, Memory>
         requires { AreStates self.now from.now }
-        ensures next { IfOk result (λ set. set ≡ next (M.test refs.now) self.now.edges from.now symbol) }
+        ensures step { IfOk result (λ set. IsStep (M.test refs.now) self.now from.now symbol set) }
         ensures states { IfOk result (λ set. AreStates self.now set) }
         ensures layer { (k : ℕ) → AreInLayer self.now k from.now → IfOk result (λ set. AreInLayer self.now (k + 1) set) }
     {
@@ -148,24 +155,9 @@ fn follow<M: RefTest>(
     ensures { OnOk result (reached.new ≡ with_ends (M.test refs.now) symbol edges.now reached.old) }
 {
     for edge in edges {
-        if takes(refs, edge.label, symbol) {
+        if edge.label.takes(refs, symbol) {
             reached.insert(edge.to)?;
         }
     }
     Ok(())
-}
-
-// Whether the label passes the symbol.
-fn takes<M: RefTest>(refs: &M, label: Label, symbol: Symbol) -> bool
-    ensures { result ≡ passes (M.test refs.now) label symbol }
-{
-    match (label, symbol) {
-        (Label::Bytes(low, high), Symbol::Bytes(first, last)) => low <= first && last <= high,
-        (Label::Free, Symbol::Bytes(_, _)) => true,
-        (Label::Free, Symbol::Uninit) => true,
-        (Label::Leaf(target, place), Symbol::Ptr(source, k)) => {
-            k == place && refs.holds(source, target)
-        }
-        _ => false,
-    }
 }

@@ -1,4 +1,7 @@
-use tm_base::RefId;
+ghost use Rattle.std.specs.Prelude.{◌≡◌};
+ghost use Rattle.tm_auto.specs.Sets.{passes};
+
+use tm_base::{RefId, RefTest};
 
 /// What an edge takes: a byte of a range, both of its ends taken in; a byte that nothing is asked of
 /// and that may be uninitialised; or the byte of a place of a reference.
@@ -7,6 +10,24 @@ pub enum Label {
     Bytes(u8, u8),
     Free,
     Leaf(RefId, u8),
+}
+
+impl Label {
+    /// Whether an edge with the label passes the symbol: a range of bytes as a whole or not at all, and
+    /// a reference's byte where the test holds and the place is the same.
+    pub fn takes<M: RefTest>(self, refs: &M, symbol: Symbol) -> bool
+        ensures { result ≡ passes (M.test refs.now) self symbol }
+    {
+        match (self, symbol) {
+            (Label::Bytes(low, high), Symbol::Bytes(first, last)) => low <= first && last <= high,
+            (Label::Free, Symbol::Bytes(_, _)) => true,
+            (Label::Free, Symbol::Uninit) => true,
+            (Label::Leaf(target, place), Symbol::Ptr(source, k)) => {
+                k == place && refs.holds(source, target)
+            }
+            _ => false,
+        }
+    }
 }
 
 /// An edge from one state to another.

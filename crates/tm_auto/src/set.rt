@@ -1,6 +1,6 @@
-ghost use Rattle.std.specs.Prelude.{◌≡◌, [], ◌∷◌, ◌↔◌, ◌≤◌, IsTrue, IfOk, OnOk, OnErr, IfSome, IfNone, insert, length};
+ghost use Rattle.std.specs.Prelude.{◌≡◌, [], ◌∷◌, ◌≤◌, IfOk, OnOk, OnErr, IfSome, IfNone, insert, length};
 ghost use Rattle.std.specs.List.Sorted.{IsStrictlyIncreasing};
-ghost use Rattle.tm_auto.specs.Sets.{with_state, with_states};
+ghost use Rattle.tm_auto.specs.Sets.{with_state};
 
 use smallvec::SmallVec;
 use std::alloc::Global;
@@ -61,13 +61,6 @@ impl StateSet {
         }
     }
 
-    /// Whether there is no state in it.
-    pub(crate) fn is_empty(&self) -> bool
-        ensures { IsTrue result ↔ (self.now ≡ []) }
-    {
-        self.states.as_slice().is_empty()
-    }
-
     /// Puts a state in its place, unless it is there. Where memory is wanting, the set is as it was.
     pub(crate) fn insert(&mut self, state: u32) -> Result<(), Memory>
         ensures added { OnOk result (self.new ≡ with_state state self.old) }
@@ -80,16 +73,6 @@ impl StateSet {
                 Err(_) => Err(Memory),
             },
         }
-    }
-
-    /// Puts each state of the other set in its place.
-    pub(crate) fn insert_all(&mut self, more: StateSet) -> Result<(), Memory>
-        ensures { OnOk result (self.new ≡ with_states more self.old) }
-    {
-        for state in more.as_slice() {
-            self.insert(*state)?;
-        }
-        Ok(())
     }
 }
 

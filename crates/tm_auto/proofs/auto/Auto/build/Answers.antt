@@ -1,46 +1,26 @@
-use Rattle.std.proofs.Common.{sym, ◌∙◌}
-use Rattle.tm_auto.proofs.BuiltLemmas.{ready_at_end, built_none, built_some, no_states, some_states}
+use Rattle.tm_auto.proofs.BuiltLemmas.{begin, of_none, of_some}
 use Rattle.tm_auto.proofs.auto.Auto.build.Goals as goal
 
-pub grow-requires-clause-ready : goal.grow-requires-clause-ready
-grow-requires-clause-ready c = ready_at_end _ _ c.in_ok-end.ensures c.new.ensures.items
+pub whole-requires : goal.whole-requires
+whole-requires c =
+    begin c.args.tree.now c.new-b.result c.args.size c.args.pointer c.requires.pointer c.requires.public c.requires.leaves c.requires.sized c.new-b.ensures.edges c.new-b.ensures.states c.new-b.ensures.head c.new-b.ensures.pointer
 
-pub invariant_of-result : goal.invariant_of-result
-invariant_of-result c =
-    let nothing = sym c.as_slice.ensures.states ∙ no_states _ _ c.is_empty.ensures c.if-is_empty.true in
-    (built_none c.args.tree.now c.args.size _ _ _ _ _ _ c.new.ensures.items c.in_ok-end.ensures c.new-then-is_empty.ensures.items nothing c.requires.public c.in_ok-starts.ensures).automaton
+pub invariant_of-result-in-Some : goal.invariant_of-result-in-Some
+invariant_of-result-in-Some c =
+    let can = begin c.args.tree.now c.new-b.result c.args.size c.args.pointer c.requires.pointer c.requires.public c.requires.leaves c.requires.sized c.new-b.ensures.edges c.new-b.ensures.states c.new-b.ensures.head c.new-b.ensures.pointer in
+    (of_some c.args.tree.now c.new-b.result c.whole.new.self c.args.size c.args.pointer c.in-Some.start _ can c.new-b.ensures.pointer c.requires.sized (rw c.in-Some.is at c.in_ok-whole.ensures.start) c.in_ok-of_one-in-Some.ensures).automaton
 
-pub returns-then-is_empty-clause-automaton : goal.returns-then-is_empty-clause-automaton
-returns-then-is_empty-clause-automaton c =
-    let nothing = sym c.as_slice.ensures.states ∙ no_states _ _ c.is_empty.ensures c.if-is_empty.true in
-    (built_none c.args.tree.now c.args.size _ _ _ _ _ _ c.new.ensures.items c.in_ok-end.ensures c.new-then-is_empty.ensures.items nothing c.requires.public c.in_ok-starts.ensures).automaton
+pub returns-in-None-clause-words : goal.returns-in-None-clause-words
+returns-in-None-clause-words c =
+    let can = begin c.args.tree.now c.new-b.result c.args.size c.args.pointer c.requires.pointer c.requires.public c.requires.leaves c.requires.sized c.new-b.ensures.edges c.new-b.ensures.states c.new-b.ensures.head c.new-b.ensures.pointer in
+    (of_none c.args.tree.now c.new-b.result c.args.size c.args.pointer _ _ can c.new-b.ensures.pointer (rw c.in-None.is at c.in_ok-whole.ensures.none) c.new.ensures.items c.new-in-None.ensures).words
 
-pub returns-then-is_empty-clause-words : goal.returns-then-is_empty-clause-words
-returns-then-is_empty-clause-words c =
-    let nothing = sym c.as_slice.ensures.states ∙ no_states _ _ c.is_empty.ensures c.if-is_empty.true in
-    (built_none c.args.tree.now c.args.size _ _ _ _ _ _ c.new.ensures.items c.in_ok-end.ensures c.new-then-is_empty.ensures.items nothing c.requires.public c.in_ok-starts.ensures).words
+pub returns-in_ok-of_one-in-Some-clause-words : goal.returns-in_ok-of_one-in-Some-clause-words
+returns-in_ok-of_one-in-Some-clause-words c =
+    let can = begin c.args.tree.now c.new-b.result c.args.size c.args.pointer c.requires.pointer c.requires.public c.requires.leaves c.requires.sized c.new-b.ensures.edges c.new-b.ensures.states c.new-b.ensures.head c.new-b.ensures.pointer in
+    (of_some c.args.tree.now c.new-b.result c.whole.new.self c.args.size c.args.pointer c.in-Some.start _ can c.new-b.ensures.pointer c.requires.sized (rw c.in-Some.is at c.in_ok-whole.ensures.start) c.in_ok-of_one-in-Some.ensures).words
 
-pub returns-then-is_empty-clause-single : goal.returns-then-is_empty-clause-single
-returns-then-is_empty-clause-single c =
-    let nothing = sym c.as_slice.ensures.states ∙ no_states _ _ c.is_empty.ensures c.if-is_empty.true in
-    (built_none c.args.tree.now c.args.size _ _ _ _ _ _ c.new.ensures.items c.in_ok-end.ensures c.new-then-is_empty.ensures.items nothing c.requires.public c.in_ok-starts.ensures).single
-
-pub invariant_of-result-2 : goal.invariant_of-result-2
-invariant_of-result-2 c =
-    let ne = some_states _ _ _ c.as_slice.ensures.states c.is_empty.ensures c.if-is_empty.false in
-    (built_some c.args.tree.now c.args.size _ _ _ _ _ c.new.ensures.items c.in_ok-end.ensures ne (rw c.as_slice.ensures.states at c.as_slice.ensures.rising) c.requires.public c.requires.sized c.in_ok-starts.ensures).automaton
-
-pub returns-clause-automaton : goal.returns-clause-automaton
-returns-clause-automaton c =
-    let ne = some_states _ _ _ c.as_slice.ensures.states c.is_empty.ensures c.if-is_empty.false in
-    (built_some c.args.tree.now c.args.size _ _ _ _ _ c.new.ensures.items c.in_ok-end.ensures ne (rw c.as_slice.ensures.states at c.as_slice.ensures.rising) c.requires.public c.requires.sized c.in_ok-starts.ensures).automaton
-
-pub returns-clause-words : goal.returns-clause-words
-returns-clause-words c =
-    let ne = some_states _ _ _ c.as_slice.ensures.states c.is_empty.ensures c.if-is_empty.false in
-    (built_some c.args.tree.now c.args.size _ _ _ _ _ c.new.ensures.items c.in_ok-end.ensures ne (rw c.as_slice.ensures.states at c.as_slice.ensures.rising) c.requires.public c.requires.sized c.in_ok-starts.ensures).words
-
-pub returns-clause-single : goal.returns-clause-single
-returns-clause-single c =
-    let ne = some_states _ _ _ c.as_slice.ensures.states c.is_empty.ensures c.if-is_empty.false in
-    (built_some c.args.tree.now c.args.size _ _ _ _ _ c.new.ensures.items c.in_ok-end.ensures ne (rw c.as_slice.ensures.states at c.as_slice.ensures.rising) c.requires.public c.requires.sized c.in_ok-starts.ensures).single
+pub returns-in_ok-of_one-in-Some-clause-single : goal.returns-in_ok-of_one-in-Some-clause-single
+returns-in_ok-of_one-in-Some-clause-single c =
+    let can = begin c.args.tree.now c.new-b.result c.args.size c.args.pointer c.requires.pointer c.requires.public c.requires.leaves c.requires.sized c.new-b.ensures.edges c.new-b.ensures.states c.new-b.ensures.head c.new-b.ensures.pointer in
+    (of_some c.args.tree.now c.new-b.result c.whole.new.self c.args.size c.args.pointer c.in-Some.start _ can c.new-b.ensures.pointer c.requires.sized (rw c.in-Some.is at c.in_ok-whole.ensures.start) c.in_ok-of_one-in-Some.ensures).single

@@ -1,5 +1,0 @@
-use Rattle.tm_auto.specs.Automata.{AreStates}
-use Rattle.tm_auto.proofs.tests.count_after.Given as goal
-
-abbrev pub invariant-loop-symbol : goal.invariant-loop-symbol
-invariant-loop-symbol g l = AreStates l.auto' l.set
