@@ -11,7 +11,7 @@ use Rattle.tm_parse.proofs.Least.{Spells}
 use Rattle.tm_parse.proofs.WrittenLemmas.{written-Prim, written-Never, written-Tuple, written-Array, written-NonZero, written-Wrap, written-Named, written-Ref}
 use Rattle.tm_parse.specs.Bounds.{EachWritten}
 use Rattle.tm_parse.specs.Classes.{among}
-use Rattle.tm_parse.specs.Limits.{most}
+use Rattle.tm_base.specs.Limits.{limit_number}
 use Rattle.tm_parse.specs.Types.{integer, alias, primitive_of, lifetimes, places, or_none, tuple_or_inner, behind_paren, plain_type, one_level, type_part, read_none, SpellsType}
 use Rattle.tm_parse.specs.Written.{written}
 use Rattle.tm_base.specs.declared.limit.LimitKind.TheVariants as limit
@@ -24,7 +24,7 @@ pub record KeepsKinds (Is : Terminal → Type 0) (K : Expr → Type 0) : Type 0 
   pub prim : (p : Primitive) → K (expr.Prim p)
   pub never : K expr.Never
   pub tuple : (ts : List Expr) → K (expr.Tuple ts)
-  pub array : (t : Expr) (n : ℕ) → n ≤ most limit.ArrayLength → K (expr.Array t n)
+  pub array : (t : Expr) (n : ℕ) → n ≤ limit_number limit.ArrayLength → K (expr.Array t n)
   pub wrap : (w : Wrapper) (t : Expr) → K (expr.Wrap w t)
   pub ref : (t : Terminal) (unique : Bool) (inner : Expr) → Is t → K (expr.Ref t.place unique inner)
   pub nonzero : (t : Terminal) → among (integer ∷ []) t.class ≡ true → Is t → K (expr.NonZero (primitive_of t))

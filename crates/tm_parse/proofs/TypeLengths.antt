@@ -6,7 +6,7 @@ use Rattle.tm_base.specs.declared.limit.LimitKind.TheVariants as limit
 use Rattle.tm_parse.proofs.EachType.{KeepsTypes}
 use Rattle.tm_parse.proofs.TypeKeeping.{KeepsKinds, keeps_written}
 use Rattle.tm_parse.specs.Bounds.{is_short, HasShortArrays}
-use Rattle.tm_parse.specs.Limits.{most}
+use Rattle.tm_base.specs.Limits.{limit_number}
 use Rattle.tm_parse.specs.declared.terminal.Terminal.{Terminal}
 
 abbrev Any : Terminal → Type 0
@@ -17,7 +17,7 @@ kinds = record {
   prim = λ p. refl;
   never = refl;
   tuple = λ ts. refl;
-  array = λ t n l. le-leb n (most limit.ArrayLength) l;
+  array = λ t n l. le-leb n (limit_number limit.ArrayLength) l;
   wrap = λ w t. refl;
   ref = λ t unique inner h. refl;
   nonzero = λ t h is. refl;

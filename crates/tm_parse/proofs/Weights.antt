@@ -4,8 +4,9 @@ use Rattle.std.proofs.lemmas.Bool.{ltb-false}
 use Rattle.std.specs.Prelude.{nat_lt}
 use Rattle.tm_base.specs.declared.limit.LimitKind.{LimitKind}
 use Rattle.tm_base.specs.declared.limit.LimitKind.TheVariants as limit
+use Rattle.tm_base.specs.Limits.{limit_number}
 use Rattle.tm_parse.specs.Events.{Mark, a_definition, a_question, a_lifetime, a_parameter, a_field, a_variant, a_type, Role, plain, array_length, Event, terminal, mark}
-use Rattle.tm_parse.specs.Limits.{most, Step, Fine, Passes, within, and_then, name_bytes, number_of, is_number_or_sign, nodes_before, step, Within, counted, count}
+use Rattle.tm_parse.specs.Limits.{Step, Fine, Passes, within, and_then, name_bytes, number_of, is_number_or_sign, nodes_before, step, Within, counted, count}
 use Rattle.tm_parse.specs.declared.counts.Counts.{Counts}
 use Rattle.tm_parse.specs.declared.terminal.Terminal.{Terminal}
 
@@ -27,12 +28,12 @@ weigh-nothing (mark m ∷ e) = let others = weigh-nothing e in omega (arith, oth
 
 -- an event that passes no limit
 
-pub within-fine : (kind : LimitKind) (n : ℕ) (after d : Counts) → within kind n after ≡ Fine d → (after ≡ d) × (n ≤ most kind)
-within-fine kind n after d h = go (nat_lt (most kind) n) refl h
+pub within-fine : (kind : LimitKind) (n : ℕ) (after d : Counts) → within kind n after ≡ Fine d → (after ≡ d) × (n ≤ limit_number kind)
+within-fine kind n after d h = go (nat_lt (limit_number kind) n) refl h
   where
-    go : (b : Bool) → nat_lt (most kind) n ≡ b → (if b then Passes kind else Fine after) ≡ Fine d → (after ≡ d) × (n ≤ most kind)
+    go : (b : Bool) → nat_lt (limit_number kind) n ≡ b → (if b then Passes kind else Fine after) ≡ Fine d → (after ≡ d) × (n ≤ limit_number kind)
     go true e h = absurd cc
-    go false e h = (cc, ltb-false (most kind) n e)
+    go false e h = (cc, ltb-false (limit_number kind) n e)
 
 then-fine : (first next : Step) (d : Counts) → and_then first next ≡ Fine d → next ≡ Fine d
 then-fine (Fine c) next d h = h
@@ -83,7 +84,7 @@ mark-fine c d (a_type depth) h = within-fine limit.TypeNodes (nodes_before depth
 -- One of the counts goes up by the marks' weights, but at a mark that resets it, and stays within its limit.
 pub record Counter (kind : LimitKind) (of : Counts → ℕ) (weight resets : Mark → ℕ) : Type 0 where
   pub adds : (c : Counts) (m : Mark) → resets m ≡ 0 → of (marked c m) ≡ of c + weight m
-  pub holds : (c : Counts) (m : Mark) → resets m ≡ 0 → Holds (marked c m) m → of c ≤ most kind → of (marked c m) ≤ most kind
+  pub holds : (c : Counts) (m : Mark) → resets m ≡ 0 → Holds (marked c m) m → of c ≤ limit_number kind → of (marked c m) ≤ limit_number kind
 
 -- the events behind the first are counted from the counts that it leaves
 behind-terminal : (c d : Counts) (role : Role) (t : Terminal) (e : List Event) → count c (terminal role t ∷ e) ≡ Within d → count c e ≡ Within d
@@ -101,7 +102,7 @@ behind_mark c d m e h = go (step c (mark m)) refl h
     go (Passes other) x h = absurd cc
 
 module _ {kind : LimitKind} {of : Counts → ℕ} {weight resets : Mark → ℕ} (counter : Counter kind of weight resets) where
-  pub counter_within : (c d : Counts) (e : List Event) → count c e ≡ Within d → weigh resets e ≡ 0 → of c ≤ most kind → of c + weigh weight e ≤ most kind
+  pub counter_within : (c d : Counts) (e : List Event) → count c e ≡ Within d → weigh resets e ≡ 0 → of c ≤ limit_number kind → of c + weigh weight e ≤ limit_number kind
   counter_within c d [] h r l = omega (arith, l)
   counter_within c d (terminal role t ∷ e) h r l = counter_within c d e (behind-terminal c d role t e h) r l
   counter_within c d (mark m ∷ e) h r l =

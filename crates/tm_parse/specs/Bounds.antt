@@ -6,7 +6,7 @@ use Rattle.tm_base.specs.declared.limit.LimitKind.TheVariants as limit
 use Rattle.tm_base.specs.Integers.{is_integer}
 use Rattle.tm_parse.specs.Classes.{among}
 use Rattle.tm_parse.specs.Definitions.{single}
-use Rattle.tm_parse.specs.Limits.{most}
+use Rattle.tm_base.specs.Limits.{limit_number}
 use Rattle.tm_parse.specs.Types.{integer, alias, primitive_of}
 use Rattle.tm_parse.specs.Written.{written}
 use Rattle.tm_parse.specs.declared.parsed.Decl.{Decl}
@@ -18,9 +18,9 @@ use Rattle.tm_parse.specs.declared.terminal.Terminal.{Terminal}
 
 -- lifetimes, definitions and questions are no more than the limits allow
 pub record HasFewItems (file : Parsed) : Type 0 where
-  pub lifetimes : length file.lifetimes ≤ most limit.Lifetimes
-  pub definitions : length file.decls ≤ most limit.Definitions
-  pub questions : length file.questions ≤ most limit.Questions
+  pub lifetimes : length file.lifetimes ≤ limit_number limit.Lifetimes
+  pub definitions : length file.decls ≤ limit_number limit.Definitions
+  pub questions : length file.questions ≤ limit_number limit.Questions
 
 -- The variants that a definition of the kind may have: a struct is one variant, with neither name nor
 -- written discriminant; so is a union, which has a field; each variant of an enum has a name.
@@ -38,9 +38,9 @@ fields_of = flat_map (λ variant. variant.fields)
 
 -- a definition's parameters, its variants, and the fields of all of them, are no more than the limits allow
 pub record HasFewParts (definition : Decl) : Type 0 where
-  pub parameters : length definition.params ≤ most limit.Parameters
-  pub variants : length definition.variants ≤ most limit.Variants
-  pub fields : length (fields_of definition.variants) ≤ most limit.Fields
+  pub parameters : length definition.params ≤ limit_number limit.Parameters
+  pub variants : length definition.variants ≤ limit_number limit.Variants
+  pub fields : length (fields_of definition.variants) ≤ limit_number limit.Fields
 
 -- what holds of each type that a field has, and of both types of each question
 pub record EachType (Is : Expr → Type 0) (file : Parsed) : Type 0 where
@@ -49,7 +49,7 @@ pub record EachType (Is : Expr → Type 0) (file : Parsed) : Type 0 where
 
 -- the types that are written in one, itself among them, are no more than the limit allows
 pub record IsSmall (type : Expr) : Type 0 where
-  pub nodes : length (written type) ≤ most limit.TypeNodes
+  pub nodes : length (written type) ≤ limit_number limit.TypeNodes
 
 -- what holds of a type and of each one that is written in it
 pub record EachWritten (Is : Expr → Type 0) (type : Expr) : Type 0 where
@@ -65,7 +65,7 @@ HasIntegers = EachWritten (λ inner. IsTrue (is_of_integer inner))
 
 -- the length of an array is no more than the limit allows
 abbrev pub is_short : Expr → Bool
-is_short (Array' shape row n) = nat_le n (most limit.ArrayLength)
+is_short (Array' shape row n) = nat_le n (limit_number limit.ArrayLength)
 is_short other = true
 
 abbrev pub HasShortArrays : Expr → Type 0

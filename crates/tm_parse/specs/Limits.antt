@@ -7,24 +7,8 @@ use Rattle.tm_parse.specs.declared.class.Class.TheVariants as c
 use Rattle.tm_parse.specs.declared.counts.Counts.{Counts}
 use Rattle.tm_base.specs.declared.limit.LimitKind.{LimitKind}
 use Rattle.tm_base.specs.declared.limit.LimitKind.TheVariants as limit
+use Rattle.tm_base.specs.Limits.{limit_number}
 use Rattle.tm_parse.specs.declared.terminal.Terminal.{Terminal}
-
--- the greatest number that each limit allows
-abbrev pub most : LimitKind → ℕ
-most limit.FileBytes = 1048576
-most limit.Definitions = 256
-most limit.Questions = 256
-most limit.Lifetimes = 16
-most limit.Parameters = 4
-most limit.Fields = 256
-most limit.Variants = 256
-most limit.Nesting = 32
-most limit.TypeNodes = 64
-most limit.ArrayLength = 4294967295
-most limit.NameBytes = 64
-most limit.NamedTypes = 1024
-most limit.References = 64
-most limit.Depth = 64
 
 -- an event is counted, or passes a limit
 pub data Step : Type 0 where
@@ -33,7 +17,7 @@ pub data Step : Type 0 where
 
 -- a number against a limit
 abbrev pub within : LimitKind → ℕ → Counts → Step
-within kind n after = if nat_lt (most kind) n then Passes kind else Fine after
+within kind n after = if nat_lt (limit_number kind) n then Passes kind else Fine after
 
 -- a second limit, where the first isn't passed
 abbrev pub and_then : Step → Step → Step
