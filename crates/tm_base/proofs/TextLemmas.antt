@@ -1,7 +1,6 @@
 -- The texts of types, kind by kind, where at most n names and references are followed behind one another.
-use Rattle.std.proofs.Common.{◌≡◌, ℕ, zero, suc, ◌+◌, ◌<◌, refl, sym, ◌∙◌, ap, arith, List, [], ◌∷◌, ◌++◌, append_assoc, length, map, None, Some, slice_get, if◌then◌else◌}
+use Rattle.std.proofs.Common.{◌≡◌, ℕ, zero, suc, ◌+◌, ◌<◌, refl, ◌∙◌, ap, arith, List, [], ◌∷◌, ◌++◌, length, map, None, Some, slice_get, if◌then◌else◌}
 use Rattle.std.specs.Prelude.{codes, decimal}
-use Rattle.std.proofs.lemmas.Grind.{flat_map-append}
 use Rattle.tm_base.specs.declared.cell.RefId.{RefId}
 use Rattle.tm_base.specs.declared.definition.Def.{Def}
 use Rattle.tm_base.specs.declared.definition.NamedRow.{NamedRow}
@@ -12,26 +11,15 @@ use Rattle.tm_base.specs.declared.ground.Primitive.{Primitive}
 use Rattle.tm_base.specs.declared.ground.Wrapper.{Wrapper}
 use Rattle.tm_base.specs.Spelled.{Spelled, spell, spelled_all, spelled_within, follow_name, follow_row}
 use Rattle.tm_base.specs.Tables.{Tables}
-use Rattle.tm_base.specs.Texts.{prim_text, wrapper_text, applied, behind_commas, separated, tuple_text, def_text, region_text, spelled_text, element_texts, text_within}
+use Rattle.tm_base.specs.Texts.{prim_text, wrapper_text, applied, separated, tuple_text, def_text, region_text, spelled_text, element_texts, text_within}
 use Rattle.tm_base.proofs.GroundLemmas.{spell-Tuple, spell-Array, spell-Wrap}
 
--- two lists of texts, the first of them not empty
-pub separated-append : (text : List ℕ) (texts others : List (List ℕ)) → separated ((text ∷ texts) ++ others) ≡ text ++ behind_commas texts ++ behind_commas others
-separated-append text texts others =
-    ap (λ rest. text ++ rest) (flat_map-append (λ one. codes ", " ++ one) texts others) ∙ sym (append_assoc text (behind_commas texts) (behind_commas others))
-
--- a definition's name where it is given something, and where it is given nothing
+-- a definition's name where it is given something
 pub def-given : {A B : Type 0} (f : A → List ℕ) (h : B → List ℕ) (def : Def) (xs : List A) (ys : List B) → 0 < length xs + length ys
     → def_text (Some def) (map f xs ++ map h ys) ≡ applied def.name (separated (map f xs ++ map h ys))
 def-given f h def [] [] some = absurd (omega (arith, some))
 def-given f h def [] (y ∷ ys) some = refl
 def-given f h def (x ∷ xs) ys some = refl
-
-pub def-alone : {A B : Type 0} (f : A → List ℕ) (h : B → List ℕ) (def : Def) (xs : List A) (ys : List B) → ¬ (0 < length xs + length ys)
-    → def_text (Some def) (map f xs ++ map h ys) ≡ def.name
-def-alone f h def [] [] none = refl
-def-alone f h def [] (y ∷ ys) none = absurd (none (omega arith))
-def-alone f h def (x ∷ xs) ys none = absurd (none (omega arith))
 
 module _ (tables : Tables) where
   abbrev text : ℕ → Ground → List ℕ

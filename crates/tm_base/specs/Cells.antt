@@ -36,6 +36,14 @@ little_endian (c ∷ cs) = byte_of c + 256 * little_endian cs
 abbrev pub pointer_of : ℕ → ℕ → Word
 pointer_of size x = map (λ k. Ptr (record { 0 = x }) k) (range_with_len 0 size)
 
+-- A word whose references are whole: each stands with all its cells, from the first to the last, and between
+-- them stand bytes that are no reference's.
+pub data HasWholeReferences (size : ℕ) : Word → Type 0 where
+  nothing_left : (w : Word) → w ≡ [] → HasWholeReferences size w
+  byte_first : (b : ℕ) (w rest : Word) → w ≡ Byte b ∷ rest → HasWholeReferences size rest → HasWholeReferences size w
+  uninit_first : (w rest : Word) → w ≡ Uninit ∷ rest → HasWholeReferences size rest → HasWholeReferences size w
+  reference_first : (x : ℕ) (w rest : Word) → w ≡ pointer_of size x ++ rest → HasWholeReferences size rest → HasWholeReferences size w
+
 -- A relation of source references to target references says which value a reference may hold. Where
 -- a target reference t may also hold itself, as a place that no source fills yet, the value is of the
 -- reference own t, which no source has, since the numbers of all references are below 2 ^ 32.

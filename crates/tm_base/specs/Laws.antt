@@ -1,24 +1,22 @@
 -- The laws of these definitions, which the functions of `laws` have as their contracts.
-use Rattle.std.specs.Prelude.{◌≡◌, ℕ, suc, ◌*◌, ◌<◌, ◌≤◌, ◌⊎◌, ◌↔◌, ◌+◌, Bool, false, IsTrue, Option, is_some, List, [], ◌∷◌, length}
+use Rattle.std.specs.Prelude.{◌≡◌, ℕ, suc, ◌*◌, ◌<◌, ◌≤◌, ◌↔◌, ◌+◌, Bool, false, IsTrue, Option, is_some, List, [], ◌∷◌, length}
 use Rattle.tm_base.specs.declared.answer.Answer.{Answer}
 use Rattle.tm_base.specs.declared.ask.Ask.{Ask}
 use Rattle.tm_base.specs.declared.assume.Assume.{Assume}
-use Rattle.tm_base.specs.declared.ground.Ground.{Ground}
 use Rattle.tm_base.specs.Answers.{IsAnswer, NoSharedTexts}
-use Rattle.tm_base.specs.Assumptions.{Includes}
 use Rattle.tm_base.specs.declared.cell.Cell.{Cell}
 use Rattle.tm_base.specs.declared.cell.Cell.TheVariants.{Byte}
 use Rattle.tm_base.specs.declared.cell.RefId.{RefId}
 use Rattle.tm_base.specs.declared.tree.Tree.{Tree, Never, Range, Pad, Ref, Seq, Alt, Repeat, Private}
 use Rattle.tm_base.specs.Cells.{Word, IsFree, OrOwn, or_own, pointer_of, Times}
-use Rattle.tm_base.specs.Compatible.{CompatibleTo, Compatible}
+use Rattle.tm_base.specs.Compatible.{CompatibleTo}
 use Rattle.tm_base.specs.Expanded.{Expanded}
 use Rattle.tm_base.specs.Layout.{Layout, round_up, places, struct_layout, size_of}
 use Rattle.tm_base.specs.Faults.{fault_of, has_no_layout}
 use Rattle.tm_base.specs.Orders.{word_less}
 use Rattle.tm_base.specs.Parts.{some_within}
-use Rattle.tm_base.specs.Tables.{Tables, expanded_in}
-use Rattle.tm_base.specs.Transmutes.{Transmutes, IsUninhabited, IsSourceWord, holds}
+use Rattle.tm_base.specs.Tables.{Tables}
+use Rattle.tm_base.specs.Transmutes.{holds}
 use Rattle.tm_base.specs.Trees.{TreeWord, InTurn, OneOf}
 use Rattle.tm_base.specs.Valid.{Valid}
 use Rattle.tm_base.specs.ValidTest.{valid_test}
@@ -63,18 +61,6 @@ DepthsAgree = (tables : Tables) (assume : Assume) (n r t : ℕ) → CompatibleTo
 -- of two words that aren't one, one is less
 abbrev pub WordsCompare : Type 0
 WordsCompare = (v w : Word) → word_less v w ≡ false → word_less w v ≡ false → v ≡ w
-
--- the type has no value, or one is known
-abbrev pub IsSettled : Expanded → Type 0
-IsSettled s = IsUninhabited s ⊎ ((w : Word) × IsSourceWord s w)
-
--- What may be taken may be taken under more assumptions, where it is known of each type whether it has
--- a value: under `validity` a cast of a type with values wants one that fits.
-abbrev pub MoreMayBeAssumed : Type 0
-MoreMayBeAssumed =
-    (tables : Tables) (more less : Assume) → Includes more less → ((g : Ground) → IsSettled (expanded_in tables g)) → (g h : Ground)
-    → Transmutes (Compatible tables less) less (expanded_in tables g) (expanded_in tables h)
-    → Transmutes (Compatible tables more) more (expanded_in tables g) (expanded_in tables h)
 
 -- a question has one answer at most
 abbrev pub AnswersAreUnique : Type 0

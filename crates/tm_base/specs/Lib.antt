@@ -19,9 +19,11 @@ pub mod Compatible
 pub mod Viable
 pub mod Places
 pub mod Rules
+pub mod Limits
 pub mod Spelled
 pub mod Texts
 pub mod Answers
+pub mod Asked
 pub mod Whole
 pub mod Worlds
 pub mod Trees

@@ -10,6 +10,8 @@ use Rattle.tm_base.specs.declared.ground.Ground.{Ground, Row_of-Ground, end_of-G
 use Rattle.tm_base.specs.declared.ground.NamedId.{NamedId}
 use Rattle.tm_base.specs.declared.ground.Primitive.{Primitive}
 use Rattle.tm_base.specs.declared.ground.Wrapper.{Wrapper}
+use Rattle.tm_base.specs.declared.limit.LimitKind.TheVariants.{NamedTypes, References}
+use Rattle.tm_base.specs.Limits.{limit_number}
 
 mutual
   pub data Spelled : Type 0 where
@@ -71,7 +73,7 @@ follow_row pointee (Some row) = ref row.mutable row.region (pointee row.pointee)
 -- How many names and references may be followed behind one another: a world has no more of both, so a
 -- longer way comes back to where it was.
 abbrev pub following_limit : ℕ
-following_limit = 1024 + 64
+following_limit = limit_number NamedTypes + limit_number References
 
 -- a type, where so many names and references may be followed behind one another
 unfoldable pub spelled_within : ℕ → List NamedRow → List RefRow → Ground → Spelled

@@ -15,13 +15,15 @@ use Rattle.tm_base.specs.declared.ground.Ground.{Ground, out-Ground, Row_of-Grou
 use Rattle.tm_base.specs.declared.ground.Ground.TheOpen.{Ground-F}
 use Rattle.tm_base.specs.declared.ground.Primitive.{Primitive}
 use Rattle.tm_base.specs.declared.ground.Primitive.TheVariants.{I64}
+use Rattle.tm_base.specs.declared.limit.LimitKind.TheVariants.{Fields, Variants}
 use Rattle.tm_base.specs.declared.profile.Profile.{Profile}
 use Rattle.tm_base.specs.Expanded.{expanded}
 use Rattle.tm_base.specs.Integers.{is_integer, is_tag_type, fits_integer}
+use Rattle.tm_base.specs.Limits.{limit_number}
 use Rattle.tm_base.specs.Parts.{is_whole}
 use Rattle.tm_base.specs.Spelled.{ends, spelled}
 
--- the type and all types that are written in it: elements and arguments, those of these, and so on
+-- the type and all types that are written in it: elements, what wrappers hold, those of these, and so on
 unfoldable mutual
   pub written_types : Ground → List Ground
   written_types (Tuple' shape row) = Tuple' shape row ∷ row_types row
@@ -146,7 +148,7 @@ is_def_in_form profile def =
     && is_absent_or is_alignment def.repr.packed && is_absent_or is_alignment def.repr.align
     && are_variants_in_form def.kind def.variants
     && list_all (λ v. is_value_in_form profile def.repr.tag v.value) def.variants
-    && nat_le (length def.variants) 256 && nat_le (field_total def.variants) 256
+    && nat_le (length def.variants) (limit_number Variants) && nat_le (field_total def.variants) (limit_number Fields)
 
 -- each definition of a world
 unfoldable pub are_defs_in_form : Profile → List Def → Bool

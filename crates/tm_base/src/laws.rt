@@ -1,7 +1,7 @@
 //! Laws of the definitions that contracts speak in. Each is the contract of a function that does
 //! nothing, so that it is proved with the crate.
 
-ghost use Rattle.tm_base.specs.Laws.{RoundsUp, FieldsStandApart, WordsHaveTheirSize, ValidityGrows, TestIsExact, DepthsAgree, WordsCompare, MoreMayBeAssumed, AnswersAreUnique, OwnIsTested, TreesAreRead, FaultsAreFound};
+ghost use Rattle.tm_base.specs.Laws.{RoundsUp, FieldsStandApart, WordsHaveTheirSize, ValidityGrows, TestIsExact, DepthsAgree, WordsCompare, AnswersAreUnique, OwnIsTested, TreesAreRead, FaultsAreFound};
 
 /// Rounding up gives the least multiple that isn't below a number.
 pub fn rounding_up_is_least()
@@ -36,11 +36,6 @@ pub fn depths_agree()
 /// Of two words that aren't one, one is less.
 pub fn words_compare()
     ensures { WordsCompare }
-{}
-
-/// What may be taken may be taken under more assumptions.
-pub fn more_may_be_assumed()
-    ensures { MoreMayBeAssumed }
 {}
 
 /// A question has one answer at most.

@@ -22,7 +22,7 @@ mod tree;
 mod world;
 
 pub use answer::{Answer, LocalRule, RefFault, Rule, Side, Why};
-pub use ask::Ask;
+pub use ask::{Ask, AskYes};
 pub use assume::Assume;
 pub use boxed::Boxed;
 pub use cell::{Cell, RefId, Word};

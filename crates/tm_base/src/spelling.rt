@@ -7,24 +7,23 @@ ghost use Rattle.tm_base.specs.Worlds.{tables_of};
 use crate::cell::RefId;
 use crate::definition::{NamedRow, RefRow, RegionId};
 use crate::ground::{Ground, NamedId, Primitive, Wrapper};
+use crate::limit::LimitKind;
 use crate::memory::Memory;
 use crate::text::Text;
 use crate::world::World;
 use std::alloc::Global;
 
-/// How many names and references may be followed behind one another.
-const FOLLOWING_LIMIT: u32 = 1024 + 64;
-
-/// The canonical text of a type of the world, as Rust writes it: regions by their declared names or as
-/// `'static`, and one space behind each comma and semicolon. A number that names nothing in the world is
-/// written as nothing.
+/// The canonical text of a type of the world, as Rust writes it: regions by their declared names or
+/// as `'static`, and one space behind each comma and semicolon. A number that names nothing in the
+/// world is written as nothing.
 ///
 /// `Memory`: there wasn't enough memory for the text.
 pub fn text_of(alloc: Global, world: &World, g: &Ground) -> Result<Text, Memory>
     ensures { IfOk result (λ text. text ≡ text_of (tables_of world.now) g.now) }
 {
     let mut text = Text::new(alloc);
-    write_type(alloc, world, FOLLOWING_LIMIT, g, &mut text)?;
+    let most = LimitKind::NamedTypes.number() + LimitKind::References.number();
+    write_type(alloc, world, most, g, &mut text)?;
     Ok(text)
 }
 
@@ -80,7 +79,8 @@ fn write_region(world: &World, region: RegionId, text: &mut Text) -> Result<(), 
 /// Writes some regions' names, each behind a comma.
 fn write_other_regions(world: &World, regions: &[RegionId], text: &mut Text) -> Result<(), Memory>
     ensures { OnOk result (
-        text.new ≡ text.old ++ behind_commas (map (region_text (tables_of world.now)) regions.now)) }
+        let names = map (region_text (tables_of world.now)) regions.now in
+        text.new ≡ text.old ++ behind_commas names) }
 {
     for region in regions {
         text.push_str(", ")?;
@@ -100,10 +100,8 @@ fn is_given(row: &NamedRow) -> bool
 fn write_number(alloc: Global, number: u32, text: &mut Text) -> Result<(), Memory>
     ensures { OnOk result (text.new ≡ text.old ++ decimal number) }
 {
-    match format!(in alloc; "{number}") {
-        Ok(digits) => text.push_str(digits.as_str()),
-        Err(_) => Err(Memory),
-    }
+    let digits = format!(in alloc; "{number}")?;
+    text.push_str(digits.as_str())
 }
 
 /// Writes `NonZero` of a primitive.
@@ -153,7 +151,8 @@ fn write_tuple(
     text: &mut Text,
 ) -> Result<(), Memory>
     ensures { OnOk result (
-        text.new ≡ text.old ++ tuple_text (map (text_within (tables_of world.now) left) elements.now)) }
+        let texts = map (text_within (tables_of world.now) left) elements.now in
+        text.new ≡ text.old ++ tuple_text texts) }
 {
     text.push_str("(")?;
     write_types(alloc, world, left, elements, text)?;
@@ -170,7 +169,8 @@ fn write_types(
     text: &mut Text,
 ) -> Result<(), Memory>
     ensures { OnOk result (
-        text.new ≡ text.old ++ separated (map (text_within (tables_of world.now) left) types.now)) }
+        let texts = map (text_within (tables_of world.now) left) types.now in
+        text.new ≡ text.old ++ separated texts) }
 {
     let Some((first, others)) = types.split_first() else {
         return Ok(());
@@ -189,7 +189,8 @@ fn write_other_types(
     text: &mut Text,
 ) -> Result<(), Memory>
     ensures { OnOk result (
-        text.new ≡ text.old ++ behind_commas (map (text_within (tables_of world.now) left) types.now)) }
+        let texts = map (text_within (tables_of world.now) left) types.now in
+        text.new ≡ text.old ++ behind_commas texts) }
 {
     for item in types {
         text.push_str(", ")?;
@@ -248,7 +249,8 @@ fn write_named(
     id: NamedId,
     text: &mut Text,
 ) -> Result<(), Memory>
-    ensures { OnOk result (text.new ≡ text.old ++ text_within (tables_of world.now) left (Named id)) }
+    ensures { OnOk result (
+        text.new ≡ text.old ++ text_within (tables_of world.now) left (Named id)) }
 {
     if left == 0 {
         return Ok(());
@@ -272,7 +274,8 @@ fn write_row(
         let tables = tables_of world.now in
         let regions = map (region_text tables) row.now.regions in
         let args = map (text_within tables left) row.now.args in
-        text.new ≡ text.old ++ def_text (slice_get world.now.defs row.now.def.0) (regions ++ args)) }
+        let def = slice_get world.now.defs row.now.def.0 in
+        text.new ≡ text.old ++ def_text def (regions ++ args)) }
 {
     let Some(def) = world.defs.get(row.def.0 as usize) else {
         return Ok(());
@@ -356,31 +359,4 @@ fn write_row_of_ref(
     write_region(world, row.region, text)?;
     text.push_str(if row.mutable { " mut " } else { " " })?;
     write_type(alloc, world, left, &row.pointee, text)
-}
-
-#[cfg(test)]
-mod tests {
-    use super::*;
-    use crate::boxed::Boxed;
-    use crate::list::List;
-    use crate::world::tests::empty_world;
-
-    /// The text of `(Option<[u8; 4]>,)`.
-    fn sample(alloc: Global) -> Result<Text, Memory> {
-        let array = Ground::Array(Boxed::new(alloc, Ground::Prim(Primitive::U8))?, 4);
-        let option = Ground::Wrap(Wrapper::Option, Boxed::new(alloc, array)?);
-        let mut elements = List::new(alloc);
-        match elements.push(option) {
-            Ok(()) => text_of(alloc, &empty_world(alloc), &Ground::Tuple(elements)),
-            Err(_) => Err(Memory),
-        }
-    }
-
-    #[test]
-    fn one_element_has_a_comma(rt: HostRuntime) {
-        let Ok(text) = sample(rt.alloc()) else {
-            panic!(rt; "the text wants memory");
-        };
-        assert_eq!(rt; text.as_str(), "(Option<[u8; 4]>,)");
-    }
 }

@@ -3,6 +3,7 @@ use Rattle.std.proofs.Common.{◌⊎◌, inl, inr, refl, sym, subst, true, None,
 use Rattle.tm_base.specs.declared.definition.Kind.TheVariants.{Struct}
 use Rattle.tm_base.specs.declared.ground.Ground.{Ground, out-Ground, Prim, Named}
 use Rattle.tm_base.specs.declared.ground.Primitive.TheVariants as p
+use Rattle.tm_base.specs.declared.profile.Profile.TheVariants.{Le64}
 use Rattle.tm_base.specs.Expanded.{expanded_within}
 use Rattle.tm_base.specs.Faults.{fault_of, is_nullable}
 use Rattle.tm_base.specs.Layout.{layout_of}
@@ -21,10 +22,11 @@ use Rattle.tm_laws.proofs.ListedLemmas.{IsIn, IsIn-from_Contains}
 -- `#[repr(C)] struct S { pub a: u8, pub b: u16 }`
 abbrev one_struct : Tables
 one_struct = record {
+  profile = Le64;
   defs = record { name = 83 ∷ []; kind = Struct; repr = repr_c; variants = record { name = []; value = pos 0; fields = record { name = 97 ∷ []; public = true } ∷ record { name = 98 ∷ []; public = true } ∷ [] } ∷ [] } ∷ [];
   regions = [];
   bounds = [];
-  named = record { def = record { 0 = 0 }; regions = []; types = (Prim p.U8 ∷ Prim p.U16 ∷ []) ∷ [] } ∷ [];
+  named = record { def = record { 0 = 0 }; regions = []; args = []; types = (Prim p.U8 ∷ Prim p.U16 ∷ []) ∷ [] } ∷ [];
   refs = [];
 }
 
