@@ -64,10 +64,8 @@ impl Members {
     pub fn push(&mut self, tree: Tree) -> Result<(), Memory>
         ensures { OnOk result (self.new ≡ self.old ++ tree ∷ []) }
     {
-        match self.trees.push(tree) {
-            Ok(()) => Ok(()),
-            Err(_) => Err(Memory),
-        }
+        self.trees.push(tree)?;
+        Ok(())
     }
 
     /// Adds so many turns of a tree: nothing for none, and the tree itself for one.
@@ -116,10 +114,7 @@ impl Members {
     {
         let mut list = List::new(alloc);
         for tree in self.trees {
-            match list.push(tree) {
-                Ok(()) => {}
-                Err(_) => return Err(Memory),
-            }
+            list.add(tree)?;
         }
         Ok(list)
     }
