@@ -337,7 +337,7 @@ module _ (auto : Automaton) (h : IsAutomaton auto) where
       let word2 : AutoWord (OrOwn (holds A)) auto ((base ++ Ptr r (suc k) ∷ []) ++ u) = subst (λ (z : Word). AutoWord (OrOwn (holds A)) auto z) same word in
       (viable_list A (base ++ Ptr r (suc k) ∷ []) (joined_left Uninit (base ++ Ptr r (suc k) ∷ []) u word2.joined) (no_own_more base r (suc k) n (last_id w r k n))).1 (u, word2)
 
-  next_is : (A : ℕ → ℕ → Bool) (from : List ℕ) (x : Symbol) (set : List ℕ) → IsStep A auto from x set → set ≡ next A auto.edges from x
+  pub next_is : (A : ℕ → ℕ → Bool) (from : List ℕ) (x : Symbol) (set : List ℕ) → IsStep A auto from x set → set ≡ next A auto.edges from x
   next_is A from x set s = rises_same set (next A auto.edges from x) (increasing_rises set s.rising) (increasing_rises _ (next-IsStrictlyIncreasing A auto.edges from x))
       (λ t a. let (e, ea, ef, ep, eq) = (s.states t).0 a in subst (λ (z : ℕ). Among z (next A auto.edges from x)) eq (to_next A auto.edges from x e ea ef ep))
       (λ t a. (s.states t).1 (next_to A auto.edges from x t a))

@@ -93,10 +93,10 @@ symbol_of-cell_in (label.Bytes low high) = refl
 symbol_of-cell_in label.Free = refl
 symbol_of-cell_in (label.Leaf t k) = refl
 
-passes_in : (l : Label) → CanTake l → passes equal l (symbol_in l) ≡ true
-passes_in (label.Bytes low high) h = let x = h.0 in grind (arith, nat_tests)
-passes_in label.Free h = refl
-passes_in (label.Leaf t k) h = rw (eq-eqb k k refl, eq-eqb t.0 t.0 refl) refl
+passes_in : (pointer : ℕ) (l : Label) → CanTake pointer l → passes equal l (symbol_in l) ≡ true
+passes_in pointer (label.Bytes low high) h = let x = h.0 in grind (arith, nat_tests)
+passes_in pointer label.Free h = refl
+passes_in pointer (label.Leaf t k) h = rw (eq-eqb k k refl, eq-eqb t.0 t.0 refl) refl
 
 first_among : {X : Type 0} (xs : List X) (x : X) → slice_get xs 0 ≡ Some x → Among x xs
 first_among [] x h = cc
@@ -107,7 +107,7 @@ pub some_passes-first : (auto : Automaton) (states : List ℕ) (e : Edge) → Is
     → some_passes (leaving auto.edges states) (symbol_in e.label) ≡ true
 some_passes-first auto states e h first =
     let m = first_among (leaving auto.edges states) e first in
-    among_any (λ f. passes equal f.label (symbol_in e.label)) e (leaving auto.edges states) m (passes_in e.label (h.takes e (leaving_among auto.edges states e m).0))
+    among_any (λ f. passes equal f.label (symbol_in e.label)) e (leaving auto.edges states) m (passes_in auto.pointer e.label (h.takes e (leaving_among auto.edges states e m).0))
 
 pub among_at : (xs : List ℕ) (i d : ℕ) → i < length xs → Among (get_or xs i d) xs
 among_at [] i d h = absurd (omega arith)

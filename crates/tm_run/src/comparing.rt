@@ -1,30 +1,15 @@
 ghost use Rattle.std.specs.Prelude.{◌≡◌, ◌≢◌, ◌<◌, ◌≤◌, ◌↔◌, [], min, IsTrue, IfOk, MatchOption, ⊤};
 ghost use Rattle.tm_auto.specs.Automata.{AreStates, IsAutomaton, ReadsWords, equal};
-ghost use Rattle.tm_auto.specs.Sets.{passes};
 ghost use Rattle.tm_run.specs.Comparing.{Advances, AreKnown, Comparable, EveryFits, FitsEdges, GoesAlong, GoesPast, States, are_covered, covers, leaving, some_covers, some_passes, symbol_in};
 
 use std::alloc::Global;
 use tm_auto::{Auto, Edge, Label, StateSet, Symbol};
 use tm_base::{Equal, Memory};
 
-fn passes(label: Label, symbol: Symbol) -> bool
-    ensures { result ≡ passes equal label symbol }
-{
-    match (label, symbol) {
-        (Label::Bytes(low, high), Symbol::Bytes(first, last)) => low <= first && last <= high,
-        (Label::Free, Symbol::Bytes(_, _)) => true,
-        (Label::Free, Symbol::Uninit) => true,
-        (Label::Leaf(target, place), Symbol::Ptr(source, at)) => {
-            at == place && source.0 == target.0
-        }
-        _ => false,
-    }
-}
-
 fn some_passes(edges: &[Edge], symbol: Symbol) -> bool
     ensures { result ≡ some_passes edges.now symbol }
 {
-    edges.iter().any(|edge| passes(edge.label, symbol))
+    edges.iter().any(|edge| edge.label.takes(&Equal, symbol))
 }
 
 /// Whether the first label takes each cell that the second takes.
@@ -109,6 +94,7 @@ fn advance(
     to: &StateSet,
 ) -> Result<Option<(StateSet, StateSet)>, Memory>
     requires source { IsAutomaton src.now }
+    requires target { IsAutomaton dst.now }
     requires from_states { AreStates src.now from.now }
     requires to_states { AreStates dst.now to.now }
     requires goes { leaving src.now.edges from.now ≢ [] }
@@ -187,6 +173,8 @@ pub fn every_word_fits(alloc: Global, src: &Auto, dst: &Auto) -> Result<bool, Me
     requires { Comparable src.now dst.now }
     ensures { IfOk result (λ fits. IsTrue fits ↔ EveryFits src.now dst.now) }
 {
+    src.law();
+    dst.law();
     let from = src.start(alloc)?;
     let to = dst.start(alloc)?;
     if from.as_slice().is_empty() {

@@ -2,6 +2,7 @@ use Rattle.std.proofs.Common.{◌∙◌, List, sym, ap, slice_get}
 use Rattle.tm_auto.specs.Automata.{equal}
 use Rattle.tm_auto.specs.Sets.{next}
 use Rattle.tm_auto.specs.declared.edge.Edge.{Edge}
+use Rattle.tm_auto.proofs.AutomatonLemmas.{next_is}
 use Rattle.tm_run.proofs.LeavingLemmas.{FitsEdges-along, cell_in, symbol_of-cell_in, some_passes-first}
 use Rattle.tm_run.proofs.comparing.advance.Goals as goal
 
@@ -19,6 +20,6 @@ returns-clause-next c =
       fits = FitsEdges-along _ _ _ _ edges_from edges_to (c.fits.ensures.0 c.if-not-fits.false);
       cell = cell_in edge.label;
       goes = rw symbol_of-cell_in passes;
-      from_is = c.in_ok-from.ensures.next ∙ ap (next equal src.edges c.args.from.now) symbol;
-      to_is = c.in_ok-to.ensures.next ∙ ap (next equal dst.edges c.args.to.now) symbol;
+      from_is = next_is src c.requires.source equal c.args.from.now _ _ c.in_ok-from.ensures.step ∙ ap (next equal src.edges c.args.from.now) symbol;
+      to_is = next_is dst c.requires.target equal c.args.to.now _ _ c.in_ok-to.ensures.step ∙ ap (next equal dst.edges c.args.to.now) symbol;
     }
