@@ -10,8 +10,11 @@ use Rattle.tm_base.specs.declared.ground.Ground.{Ground, out-Ground}
 use Rattle.tm_base.specs.declared.ground.Ground.TheOpen.{Ground-F}
 use Rattle.tm_base.specs.declared.ground.Primitive.{Primitive}
 use Rattle.tm_base.specs.declared.ground.Primitive.TheVariants as p
-use Rattle.tm_base.specs.Cells.{Word, IsByte, number_of, fit, Times}
+use Rattle.tm_base.specs.declared.profile.Profile.{Profile}
+use Rattle.tm_base.specs.declared.profile.Profile.TheVariants.{Le64, Be64, Le32}
+use Rattle.tm_base.specs.Cells.{Word, IsByte, fit, Times}
 use Rattle.tm_base.specs.Expanded.{Expanded, prim, array, level, expanded, expanded_within}
+use Rattle.tm_base.specs.Profiles.{number_of}
 use Rattle.tm_base.specs.Layout.{prim_size, layout_of, size_of}
 use Rattle.tm_base.specs.Valid.{AreBytes, PrimValid, Valid}
 use Rattle.tm_run.specs.declared.bytes.Bytes.{Bytes}
@@ -24,7 +27,7 @@ use Rattle.tm_base.specs.declared.tree.Tree.{Range, Repeat}
 use Rattle.tm_run.specs.Questions.{nothing_assumed}
 use Rattle.tm_auto.specs.Automata.{Automaton, equal}
 use Rattle.tm_run.specs.Comparing.{AllFree, HasFreeWords, EveryFits}
-use Rattle.tm_run.specs.Bytes.{HasWordsOf, UpTo, prim_bytes, element_bytes, repeated, bytes_in, bytes_of}
+use Rattle.tm_run.specs.Bytes.{HasWordsOf, UpTo, reference_cells, prim_bytes, element_bytes, repeated, bytes_in, bytes_of}
 
 Some-injective : {T : Type 0} (x y : T) → Some x ≡ Some y → x ≡ y
 Some-injective x y h = cc
@@ -56,55 +59,60 @@ AreBytes-UpTo most (suc n) w small (b, v, e, h, others) =
 AreBytes-bytes : (n : ℕ) (w : Word) → AreBytes n w ↔ UpTo 255 n w
 AreBytes-bytes n w = (UpTo-AreBytes n w, AreBytes-UpTo 255 n w (omega arith))
 
-one_bool : (w : Word) → UpTo 255 1 w → number_of w ≤ 1 → UpTo 1 1 w
-one_bool w (b, v, e, h, rest) small =
-    let all : w ≡ Byte b ∷ [] = e ∙ ap (λ u. Byte b ∷ u) rest in
-    let low : number_of (Byte b ∷ []) ≤ 1 = subst (λ (u : Word). number_of u ≤ 1) all small in
-    (b, v, e, omega (arith, low), rest)
+one_number : (profile : Profile) (b : ℕ) → number_of profile (Byte b ∷ []) ≡ b
+one_number Le64 b = omega arith
+one_number Be64 b = omega arith
+one_number Le32 b = omega arith
 
-bool_one : (w : Word) → UpTo 1 1 w → number_of w ≤ 1
-bool_one w (b, v, e, h, rest) =
+one_bool : (profile : Profile) (w : Word) → UpTo 255 1 w → number_of profile w ≤ 1 → UpTo 1 1 w
+one_bool profile w (b, v, e, h, rest) small =
     let all : w ≡ Byte b ∷ [] = e ∙ ap (λ u. Byte b ∷ u) rest in
-    subst (λ (u : Word). number_of u ≤ 1) (sym all) (omega (arith, h))
+    let low : number_of profile (Byte b ∷ []) ≤ 1 = subst (λ (u : Word). number_of profile u ≤ 1) all small in
+    (b, v, e, omega (arith, low, one_number profile b), rest)
+
+bool_one : (profile : Profile) (w : Word) → UpTo 1 1 w → number_of profile w ≤ 1
+bool_one profile w (b, v, e, h, rest) =
+    let all : w ≡ Byte b ∷ [] = e ∙ ap (λ u. Byte b ∷ u) rest in
+    subst (λ (u : Word). number_of profile u ≤ 1) (sym all) (omega (arith, h, one_number profile b))
 
 -- a primitive's words
-PrimValid-bytes : (q : Primitive) (bytes : Bytes) → prim_bytes q ≡ Some bytes → (w : Word) → PrimValid q w ↔ UpTo bytes.most bytes.count w
-PrimValid-bytes p.Bool bytes h w =
-    subst (λ (b : Bytes). PrimValid p.Bool w ↔ UpTo b.most b.count w) (Some-injective (record { most = 1; count = 1 }) bytes h)
-    (λ v. one_bool w (UpTo-AreBytes 1 w v.0) v.1, λ v. (AreBytes-UpTo 1 1 w (omega arith) v, bool_one w v))
-PrimValid-bytes p.U8 bytes h w = subst (λ (b : Bytes). PrimValid p.U8 w ↔ UpTo b.most b.count w) (Some-injective (record { most = 255; count = 1 }) bytes h) (AreBytes-bytes 1 w)
-PrimValid-bytes p.U16 bytes h w = subst (λ (b : Bytes). PrimValid p.U16 w ↔ UpTo b.most b.count w) (Some-injective (record { most = 255; count = 2 }) bytes h) (AreBytes-bytes 2 w)
-PrimValid-bytes p.U32 bytes h w = subst (λ (b : Bytes). PrimValid p.U32 w ↔ UpTo b.most b.count w) (Some-injective (record { most = 255; count = 4 }) bytes h) (AreBytes-bytes 4 w)
-PrimValid-bytes p.U64 bytes h w = subst (λ (b : Bytes). PrimValid p.U64 w ↔ UpTo b.most b.count w) (Some-injective (record { most = 255; count = 8 }) bytes h) (AreBytes-bytes 8 w)
-PrimValid-bytes p.Char bytes h w = cc
-PrimValid-bytes p.U128 bytes h w = cc
-PrimValid-bytes p.Usize bytes h w = cc
-PrimValid-bytes p.I8 bytes h w = cc
-PrimValid-bytes p.I16 bytes h w = cc
-PrimValid-bytes p.I32 bytes h w = cc
-PrimValid-bytes p.I64 bytes h w = cc
-PrimValid-bytes p.I128 bytes h w = cc
-PrimValid-bytes p.Isize bytes h w = cc
-PrimValid-bytes p.F32 bytes h w = cc
-PrimValid-bytes p.F64 bytes h w = cc
+PrimValid-bytes : (profile : Profile) (q : Primitive) (bytes : Bytes) → prim_bytes q ≡ Some bytes → (w : Word) → PrimValid profile q w ↔ UpTo bytes.most bytes.count w
+PrimValid-bytes profile p.Bool bytes h w =
+    subst (λ (b : Bytes). PrimValid profile p.Bool w ↔ UpTo b.most b.count w) (Some-injective (record { most = 1; count = 1 }) bytes h)
+    (λ v. one_bool profile w (UpTo-AreBytes 1 w v.0) v.1, λ v. (AreBytes-UpTo 1 1 w (omega arith) v, bool_one profile w v))
+PrimValid-bytes profile p.U8 bytes h w = subst (λ (b : Bytes). PrimValid profile p.U8 w ↔ UpTo b.most b.count w) (Some-injective (record { most = 255; count = 1 }) bytes h) (AreBytes-bytes 1 w)
+PrimValid-bytes profile p.U16 bytes h w = subst (λ (b : Bytes). PrimValid profile p.U16 w ↔ UpTo b.most b.count w) (Some-injective (record { most = 255; count = 2 }) bytes h) (AreBytes-bytes 2 w)
+PrimValid-bytes profile p.U32 bytes h w = subst (λ (b : Bytes). PrimValid profile p.U32 w ↔ UpTo b.most b.count w) (Some-injective (record { most = 255; count = 4 }) bytes h) (AreBytes-bytes 4 w)
+PrimValid-bytes profile p.U64 bytes h w = subst (λ (b : Bytes). PrimValid profile p.U64 w ↔ UpTo b.most b.count w) (Some-injective (record { most = 255; count = 8 }) bytes h) (AreBytes-bytes 8 w)
+PrimValid-bytes profile p.Char bytes h w = cc
+PrimValid-bytes profile p.U128 bytes h w = cc
+PrimValid-bytes profile p.Usize bytes h w = cc
+PrimValid-bytes profile p.I8 bytes h w = cc
+PrimValid-bytes profile p.I16 bytes h w = cc
+PrimValid-bytes profile p.I32 bytes h w = cc
+PrimValid-bytes profile p.I64 bytes h w = cc
+PrimValid-bytes profile p.I128 bytes h w = cc
+PrimValid-bytes profile p.Isize bytes h w = cc
+PrimValid-bytes profile p.F32 bytes h w = cc
+PrimValid-bytes profile p.F64 bytes h w = cc
 
-prim_size-bytes : (q : Primitive) (bytes : Bytes) → prim_bytes q ≡ Some bytes → prim_size q ≡ bytes.count
-prim_size-bytes p.Bool bytes h = ap (λ b. b.count) (Some-injective (record { most = 1; count = 1 }) bytes h)
-prim_size-bytes p.U8 bytes h = ap (λ b. b.count) (Some-injective (record { most = 255; count = 1 }) bytes h)
-prim_size-bytes p.U16 bytes h = ap (λ b. b.count) (Some-injective (record { most = 255; count = 2 }) bytes h)
-prim_size-bytes p.U32 bytes h = ap (λ b. b.count) (Some-injective (record { most = 255; count = 4 }) bytes h)
-prim_size-bytes p.U64 bytes h = ap (λ b. b.count) (Some-injective (record { most = 255; count = 8 }) bytes h)
-prim_size-bytes p.Char bytes h = cc
-prim_size-bytes p.U128 bytes h = cc
-prim_size-bytes p.Usize bytes h = cc
-prim_size-bytes p.I8 bytes h = cc
-prim_size-bytes p.I16 bytes h = cc
-prim_size-bytes p.I32 bytes h = cc
-prim_size-bytes p.I64 bytes h = cc
-prim_size-bytes p.I128 bytes h = cc
-prim_size-bytes p.Isize bytes h = cc
-prim_size-bytes p.F32 bytes h = cc
-prim_size-bytes p.F64 bytes h = cc
+prim_size-bytes : (profile : Profile) (q : Primitive) (bytes : Bytes) → prim_bytes q ≡ Some bytes → prim_size profile q ≡ bytes.count
+prim_size-bytes profile p.Bool bytes h = ap (λ b. b.count) (Some-injective (record { most = 1; count = 1 }) bytes h)
+prim_size-bytes profile p.U8 bytes h = ap (λ b. b.count) (Some-injective (record { most = 255; count = 1 }) bytes h)
+prim_size-bytes profile p.U16 bytes h = ap (λ b. b.count) (Some-injective (record { most = 255; count = 2 }) bytes h)
+prim_size-bytes profile p.U32 bytes h = ap (λ b. b.count) (Some-injective (record { most = 255; count = 4 }) bytes h)
+prim_size-bytes profile p.U64 bytes h = ap (λ b. b.count) (Some-injective (record { most = 255; count = 8 }) bytes h)
+prim_size-bytes profile p.Char bytes h = cc
+prim_size-bytes profile p.U128 bytes h = cc
+prim_size-bytes profile p.Usize bytes h = cc
+prim_size-bytes profile p.I8 bytes h = cc
+prim_size-bytes profile p.I16 bytes h = cc
+prim_size-bytes profile p.I32 bytes h = cc
+prim_size-bytes profile p.I64 bytes h = cc
+prim_size-bytes profile p.I128 bytes h = cc
+prim_size-bytes profile p.Isize bytes h = cc
+prim_size-bytes profile p.F32 bytes h = cc
+prim_size-bytes profile p.F64 bytes h = cc
 
 -- bytes one after another
 UpTo-append : (most j k : ℕ) (u v : Word) → UpTo most j u → UpTo most k v → UpTo most (j + k) (u ++ v)
@@ -146,9 +154,9 @@ pub record HasBytes (t : Expanded) (bytes : Bytes) : Type 1 where
   pub size : size_of t ≡ bytes.count
   pub words : (A : ℕ → ℕ → Type 0) (keep : Bool) (w : Word) → Valid A keep t w ↔ UpTo bytes.most bytes.count w
 
-prim-HasBytes : (q : Primitive) (bytes : Bytes) → prim_bytes q ≡ Some bytes → HasBytes (prim q) bytes
+prim-HasBytes : (profile : Profile) (q : Primitive) (bytes : Bytes) → prim_bytes q ≡ Some bytes → HasBytes (prim profile q) bytes
 unfolding layout_of Valid
-prim-HasBytes q bytes h = record { size = prim_size-bytes q bytes h; words = λ A keep w. PrimValid-bytes q bytes h w }
+prim-HasBytes profile q bytes h = record { size = prim_size-bytes profile q bytes h; words = λ A keep w. PrimValid-bytes profile q bytes h w }
 
 repeated-some : (n : ℕ) (found : Option Bytes) (bytes : Bytes) → repeated n found ≡ Some bytes → (one : Bytes) × (found ≡ Some one) × (bytes ≡ record { most = one.most; count = n * one.count })
 repeated-some n None bytes h = cc
@@ -167,13 +175,13 @@ array-HasBytes t n one h = record {
 }
 
 -- whichever definitions and named types there are: a type that is some bytes names none
-module _ (defs : List Def) (rows : List NamedRow) where
-  element-HasBytes : (n : ℕ) (g : Ground) (bytes : Bytes) → element_bytes (out-Ground g) ≡ Some bytes → HasBytes (expanded_within (suc n) defs rows g) bytes
+module _ (profile : Profile) (defs : List Def) (rows : List NamedRow) where
+  element-HasBytes : (n : ℕ) (g : Ground) (bytes : Bytes) → element_bytes (out-Ground g) ≡ Some bytes → HasBytes (expanded_within profile (suc n) defs rows g) bytes
   unfolding expanded_within
   element-HasBytes n g bytes h = by (out-Ground g) h
     where
-      by : (x : Ground-F Ground) → element_bytes x ≡ Some bytes → HasBytes (level (expanded_within n defs rows) defs rows x) bytes
-      by (Ground-F.Prim q) h = prim-HasBytes q bytes h
+      by : (x : Ground-F Ground) → element_bytes x ≡ Some bytes → HasBytes (level (expanded_within profile n defs rows) profile defs rows x) bytes
+      by (Ground-F.Prim q) h = prim-HasBytes profile q bytes h
       by (Ground-F.Never) h = cc
       by (Ground-F.Unit) h = cc
       by (Ground-F.Tuple gs) h = cc
@@ -183,24 +191,24 @@ module _ (defs : List Def) (rows : List NamedRow) where
       by (Ground-F.Wrap w e) h = cc
       by (Ground-F.Ref r) h = cc
 
-  within-HasBytes : (n : ℕ) (g : Ground) (bytes : Bytes) → bytes_of g ≡ Some bytes → HasBytes (expanded_within (suc (suc n)) defs rows g) bytes
+  within-HasBytes : (n : ℕ) (g : Ground) (bytes : Bytes) → bytes_of g ≡ Some bytes → HasBytes (expanded_within profile (suc (suc n)) defs rows g) bytes
   unfolding expanded_within
   within-HasBytes n g bytes h = by (out-Ground g) h
     where
-      by : (x : Ground-F Ground) → bytes_in x ≡ Some bytes → HasBytes (level (expanded_within (suc n) defs rows) defs rows x) bytes
-      by (Ground-F.Prim q) h = prim-HasBytes q bytes h
+      by : (x : Ground-F Ground) → bytes_in x ≡ Some bytes → HasBytes (level (expanded_within profile (suc n) defs rows) profile defs rows x) bytes
+      by (Ground-F.Prim q) h = prim-HasBytes profile q bytes h
       by (Ground-F.Never) h = cc
       by (Ground-F.Unit) h = cc
       by (Ground-F.Tuple gs) h = cc
       by (Ground-F.Array e k) h =
           let (one, found, same) = repeated-some k (element_bytes (out-Ground e)) bytes h in
-          subst (λ (b : Bytes). HasBytes (array (expanded_within (suc n) defs rows e) k) b) (sym same) (array-HasBytes (expanded_within (suc n) defs rows e) k one (element-HasBytes n e one found))
+          subst (λ (b : Bytes). HasBytes (array (expanded_within profile (suc n) defs rows e) k) b) (sym same) (array-HasBytes (expanded_within profile (suc n) defs rows e) k one (element-HasBytes n e one found))
       by (Ground-F.Named id) h = cc
       by (Ground-F.NonZero q) h = cc
       by (Ground-F.Wrap w e) h = cc
       by (Ground-F.Ref r) h = cc
 
-  pub closed-HasBytes : (g : Ground) (bytes : Bytes) → bytes_of g ≡ Some bytes → HasBytes (expanded defs rows g) bytes
+  pub closed-HasBytes : (g : Ground) (bytes : Bytes) → bytes_of g ≡ Some bytes → HasBytes (expanded profile defs rows g) bytes
   closed-HasBytes g bytes h = within-HasBytes 62 g bytes h
 
 -- where nothing is assumed, a value of some bytes may be taken as one of others exactly where each word, fitted, is one
@@ -221,27 +229,27 @@ Transmutes-fits A s t src dst hs ht (inr (inl (e, every))) w h =
     subst (λ (n : ℕ). UpTo dst.most dst.count (fit w n)) ht.size ((ht.words A false (fit w (size_of t))).0 (every w ((hs.words Same true w).1 h)))
 Transmutes-fits A s t src dst hs ht (inr (inr (e, some))) w h = cc
 
-one_byte : (A : ℕ → ℕ → Bool) (most : ℕ) (w : Word) → TreeWord (holds A) true (Range 0 most) w ↔ UpTo most 1 w
+one_byte : (A : ℕ → ℕ → Bool) (most : ℕ) (w : Word) → TreeWord reference_cells (holds A) true (Range 0 most) w ↔ UpTo most 1 w
 unfolding TreeWord
 one_byte A most w = (λ (b, low, high, e). (b, [], e, high, refl), λ (b, others, e, high, none). (b, omega arith, high, e ∙ ap (λ u. Byte b ∷ u) none))
 
 -- the words of a tree of bytes
-pub TreeWord-bytes : (A : ℕ → ℕ → Bool) (most count : ℕ) (w : Word) → TreeWord (holds A) true (Repeat count (Range 0 most)) w ↔ UpTo most count w
+pub TreeWord-bytes : (A : ℕ → ℕ → Bool) (most count : ℕ) (w : Word) → TreeWord reference_cells (holds A) true (Repeat count (Range 0 most)) w ↔ UpTo most count w
 TreeWord-bytes A most count w =
-    let times = TreeWord-Repeat (holds A) true count (Range 0 most) w in
-    let bytes = Times-bytes most 1 count (TreeWord (holds A) true (Range 0 most)) (one_byte A most) w in
+    let times = TreeWord-Repeat reference_cells (holds A) true count (Range 0 most) w in
+    let bytes = Times-bytes most 1 count (TreeWord reference_cells (holds A) true (Range 0 most)) (one_byte A most) w in
     let all : count * 1 ≡ count = omega arith in
     (λ h. subst (λ (n : ℕ). UpTo most n w) all (bytes.0 (times.0 h)), λ h. times.1 (bytes.1 (subst (λ (n : ℕ). UpTo most n w) (sym all) h)))
 
-pub HasSize-bytes : (most count : ℕ) → HasSize count (Repeat count (Range 0 most))
-HasSize-bytes most count = let all : count * 1 ≡ count = omega arith in subst (λ (n : ℕ). HasSize n (Repeat count (Range 0 most))) all (HasSize-Repeat 1 count (Range 0 most) (HasSize-Range 0 most))
+pub HasSize-bytes : (most count : ℕ) → HasSize reference_cells count (Repeat count (Range 0 most))
+HasSize-bytes most count = let all : count * 1 ≡ count = omega arith in subst (λ (n : ℕ). HasSize reference_cells n (Repeat count (Range 0 most))) all (HasSize-Repeat reference_cells 1 count (Range 0 most) (HasSize-Range reference_cells 0 most))
 
-leaf : (most : ℕ) → leaves_of (Range 0 most) ≡ 1
+leaf : (most : ℕ) → leaves_of reference_cells (Range 0 most) ≡ 1
 unfolding leaves_of
 leaf most = refl
 
-pub leaves_of-bytes : (most count : ℕ) → leaves_of (Repeat count (Range 0 most)) ≡ count
-leaves_of-bytes most count = let one = leaf most in leaves_of-Repeat count (Range 0 most) ∙ rw one (omega arith)
+pub leaves_of-bytes : (most count : ℕ) → leaves_of reference_cells (Repeat count (Range 0 most)) ≡ count
+leaves_of-bytes most count = let one = leaf most in leaves_of-Repeat reference_cells count (Range 0 most) ∙ rw one (omega arith)
 
 public_byte : (most : ℕ) → HasNoPrivate (Range 0 most)
 unfolding HasNoPrivate

@@ -9,7 +9,7 @@ use Rattle.tm_ground.specs.Limits.{HasCause, IsWithinLimits}
 use Rattle.tm_ground.specs.declared.fault.GroundErr.{GroundErr}
 use Rattle.tm_ground.specs.declared.fault.GroundErr.TheVariants as ground_err
 use Rattle.tm_report.specs.declared.fault.FileFault.{FileFault}
-use Rattle.tm_report.specs.declared.fault.FileFault.TheVariants.{NotUtf8, NoToken, BadNumber, OpenComment, Unexpected, EndOfFile, Passed, Names, NotYet}
+use Rattle.tm_report.specs.declared.fault.FileFault.TheVariants.{NotUtf8, NoToken, BadNumber, OpenComment, Unexpected, EndOfFile, Passed, Names, BadRefutation, NoQuestion, NotYet}
 use Rattle.tm_run.specs.Examined.{IsAnsweredWorld, IsLateFault, IsMeaningOf, IsOnlyFault, IsStop, stop_of}
 use Rattle.tm_run.specs.Faults.{GoesBeyond, IsFirstLimit, PassesLimitOnTypes}
 use Rattle.tm_run.specs.Questions.{is_answered_today}
@@ -27,6 +27,8 @@ by_late file P limits beyond (EndOfFile at) h = absurd h
 by_late file P limits beyond (Passed kind None) h = limits kind h
 by_late file P limits beyond (Passed kind (Some at)) h = absurd h
 by_late file P limits beyond (Names why at) h = absurd h
+by_late file P limits beyond (BadRefutation line) h = absurd h
+by_late file P limits beyond (NoQuestion number) h = absurd h
 by_late file P limits beyond NotYet h = beyond h
 
 module _ (resolved : Resolved) where

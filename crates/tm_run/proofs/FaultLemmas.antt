@@ -16,10 +16,10 @@ use Rattle.tm_parse.specs.Spelling.{terminals_of}
 use Rattle.tm_parse.specs.declared.parsed.Parsed.{Parsed}
 use Rattle.tm_report.specs.declared.fault.At.{At}
 use Rattle.tm_report.specs.declared.fault.FileFault.{FileFault}
-use Rattle.tm_report.specs.declared.fault.FileFault.TheVariants.{NotUtf8, NoToken, BadNumber, OpenComment, Unexpected, EndOfFile, Passed, Names, NotYet}
+use Rattle.tm_report.specs.declared.fault.FileFault.TheVariants.{NotUtf8, NoToken, BadNumber, OpenComment, Unexpected, EndOfFile, Passed, Names, BadRefutation, NoQuestion, NotYet}
 use Rattle.tm_run.specs.Examined.{AreTokensOf, IsOnlyFault, no_token_at}
 use Rattle.tm_run.specs.Faults.{BeginsAt, EndsTooSoon, GoesBeyond, HasFault, HasNameFault, HasNameFaultAt, HasTextFault, IsNotUtf8, LacksToken, PassesLimit, PassesLimitAtToken, PassesLimitOnTypes, StopsAtToken, start_of, status_of_fault}
-use Rattle.tm_run.specs.Files.{HasSoundNames, IsResolved, IsSpelled, file_bytes}
+use Rattle.tm_run.specs.Files.{run_profile, HasSoundNames, IsResolved, IsSpelled, file_bytes}
 use Rattle.tm_run.specs.Places.{at_byte}
 use Rattle.tm_run.specs.declared.status.Status.TheVariants.{BadText, Limit, IllFormed}
 
@@ -47,6 +47,8 @@ module _ (file : List ℕ) (P : FileFault → Type 0) where
   by_cause by (Passed kind None) (inr h) = by.limits kind h
   by_cause by (Passed kind (Some at)) (place, h) = subst (λ (at : At). P (Passed kind (Some at))) (sym place) (by.passes kind at.byte h)
   by_cause by (Names why at) (place, h) = subst (λ (at : At). P (Names why at)) (sym place) (by.names why at.byte h)
+  by_cause by (BadRefutation line) h = absurd h
+  by_cause by (NoQuestion number) h = absurd h
   by_cause by NotYet h = by.beyond h
 
 -- the fault of each cause is one that the file has
@@ -192,7 +194,7 @@ module _ (file : List ℕ) (tokens : List Token) (are : AreTokensOf file tokens)
     pub ends : StopsAt (terminals_of file tokens) (length tokens) → P (EndOfFile (at_byte file (length file)))
     pub passes : (kind : LimitKind) (byte place : ℕ) → BeginsAt tokens place byte → PassesLimitAt (terminals_of file tokens) kind place
         → P (Passed kind (Some (at_byte file byte)))
-    pub names : (why : NameWhy) (place : ℕ) (parsed : Parsed) → SpellsFile (terminals_of file tokens) parsed → IsFirstFault (name_at file tokens) parsed why place
+    pub names : (why : NameWhy) (place : ℕ) (parsed : Parsed) → SpellsFile (terminals_of file tokens) parsed → IsFirstFault run_profile (name_at file tokens) parsed why place
         → P (Names why (at_byte file (start_of file (slice_get tokens place))))
     pub limits : (kind : LimitKind) → PassesLimitOnTypes file kind → P (Passed kind None)
     pub beyond : GoesBeyond file → P NotYet
@@ -213,7 +215,7 @@ module _ (file : List ℕ) (tokens : List Token) (are : AreTokensOf file tokens)
         subst (λ (b : ℕ). P (Names why (at_byte file b))) h.begins
         (subst (λ (ts : List Token). P (Names why (at_byte file (start_of file (slice_get ts h.place))))) (sym e)
         (by.names why h.place h.parsed (spelled_by file tokens are h.parsed h.spelled)
-        (subst (λ (ts : List Token). IsFirstFault (name_at file ts) h.parsed why h.place) e h.first)));
+        (subst (λ (ts : List Token). IsFirstFault run_profile (name_at file ts) h.parsed why h.place) e h.first)));
     limits = by.limits;
     beyond = by.beyond;
   })

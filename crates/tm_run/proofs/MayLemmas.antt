@@ -40,9 +40,9 @@ module _ (resolved : Resolved) (world other : World) where
       let all : ℕ → ℕ → Bool = λ x t. true in
       let so : Transmutes (holds all) nothing_assumed (type_in world ask.src) (type_in world ask.dst) = rw (assumes-nothing ask able) at (may all) in
       let fits = Transmutes-fits (holds all) (type_in world ask.src) (type_in world ask.dst) from to
-      (closed-HasBytes world.defs world.named ask.src from src) (closed-HasBytes world.defs world.named ask.dst to dst) so in
+      (closed-HasBytes world.profile world.defs world.named ask.src from src) (closed-HasBytes world.profile world.defs world.named ask.dst to dst) so in
       λ A. rw (assumes-nothing twin able') (fits-Transmutes (holds A) (type_in other twin.src) (type_in other twin.dst) from to
-      (closed-HasBytes other.defs other.named twin.src from src') (closed-HasBytes other.defs other.named twin.dst to dst') fits)
+      (closed-HasBytes other.profile other.defs other.named twin.src from src') (closed-HasBytes other.profile other.defs other.named twin.dst to dst') fits)
 
   each-same : (askeds : List OpenAsk) (asks twins : List Ask) → AllZip (IsQuestionOf resolved world) askeds asks → AllZip (IsQuestionOf resolved other) askeds twins
       → list_all is_answerable asks ≡ true → list_all is_answerable twins ≡ true → All (MayTransmute world) asks → All (MayTransmute other) twins

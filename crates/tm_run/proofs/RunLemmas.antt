@@ -1,5 +1,5 @@
 -- A run that writes its outcome, and one that stops before it writes.
-use Rattle.std.proofs.Common.{◌≡◌, ◌≢◌, ◌∙◌, ℕ, ◌<◌, ◌≤◌, ◌⊎◌, inl, inr, ◌↔◌, refl, sym, ap, subst, Bool, true, false, if◌then◌else◌, Option, Some, None, List, [], length, drop, arith, length-drop}
+use Rattle.std.proofs.Common.{◌≡◌, ◌≢◌, ◌∙◌, ℕ, ◌+◌, ◌<◌, ◌≤◌, ◌⊎◌, inl, inr, ◌↔◌, refl, sym, ap, subst, Bool, true, false, if◌then◌else◌, Option, Some, None, List, [], length, drop, arith, length-drop}
 use Rattle.std.specs.List.{list_all}
 use Rattle.std.proofs.lemmas.List.{nil_from_length}
 use Rattle.tm_base.specs.declared.limit.LimitKind.TheVariants.{FileBytes}
@@ -8,7 +8,8 @@ use Rattle.tm_io.specs.Faults.{Rose}
 use Rattle.tm_io.specs.Told.{TakesAll, TakesPast, AddsAll, AddsPrefix}
 use Rattle.tm_report.specs.FaultLines.{line_of}
 use Rattle.tm_report.specs.declared.fault.FileFault.{FileFault}
-use Rattle.tm_report.specs.declared.fault.FileFault.TheVariants.{NotUtf8, NoToken, BadNumber, OpenComment, Unexpected, EndOfFile, Passed, Names, NotYet}
+use Rattle.tm_report.specs.declared.fault.FileFault.TheVariants.{NotUtf8, NoToken, BadNumber, OpenComment, Unexpected, EndOfFile, Passed, Names, BadRefutation, NoQuestion, NotYet}
+use Rattle.tm_run.specs.Files.{file_bytes}
 use Rattle.tm_run.specs.Examined.{IsAnsweredWorld, IsOnlyFault}
 use Rattle.tm_run.specs.Faults.{GoesBeyond, HasNameFault, HasTextFault, PassesLimit, status_of_fault}
 use Rattle.tm_run.specs.FileAnswers.{EachMayTransmute, SomeMayNotTransmute}
@@ -39,6 +40,8 @@ fault_status (Unexpected at) = inl refl
 fault_status (EndOfFile at) = inl refl
 fault_status (Passed kind place) = inr (inl refl)
 fault_status (Names why at) = inr (inr refl)
+fault_status (BadRefutation line) = inl refl
+fault_status (NoQuestion number) = inl refl
 fault_status NotYet = inl refl
 
 settled_fault : (fault : FileFault) → IsSettled (status_of_fault fault)
@@ -172,7 +175,7 @@ module _ {W : Type 0} (words : List W) (left left' : Option (List ℕ)) (reads r
     pub decides : (file : List ℕ) → length words ≡ 0 → left ≡ Some file → Decides file status text
     pub unrisen : reads' ≡ reads
     pub unread : 0 < length words → left' ≡ left
-    pub taken : (file : List ℕ) → length words ≡ 0 → left ≡ Some file → left' ≡ Some (drop 1048577 file)
+    pub taken : (file : List ℕ) → length words ≡ 0 → left ≡ Some file → left' ≡ Some (drop (file_bytes + 1) file)
 
   all_written : (status : Status) (text : List ℕ) → Writes status text → AddsAll written written' text → AddsPrefix written written' text
       → (writes < writes' → status ≡ WriteFault) → Runs words left left' reads reads' written written' writes writes' status
@@ -297,7 +300,7 @@ module _ {W : Type 0} (words : List W) (left left' : Option (List ℕ)) (reads r
       }) f
 
   -- more bytes than a file may have, and the line that says so
-  too_long : (result : Status) → length words ≡ 0 → reads' ≡ reads → TakesPast left left' 1048576
+  too_long : (result : Status) → length words ≡ 0 → reads' ≡ reads → TakesPast left left' file_bytes
       → Finishes Limit (line_of (Passed FileBytes None)) written written' writes writes' result
       → Runs words left left' reads reads' written written' writes writes' result
   too_long result in_form count past f = finished words left left' reads reads' written written' writes writes' Limit (line_of (Passed FileBytes None)) result
@@ -311,8 +314,8 @@ module _ {W : Type 0} (words : List W) (left left' : Option (List ℕ)) (reads r
         taken = λ file e told. (at file told).1;
       }) f
     where
-      at : (file : List ℕ) → left ≡ Some file → (1048576 < length file) × (left' ≡ Some (drop 1048577 file))
-      at file told = subst (λ (l : Option (List ℕ)). TakesPast l left' 1048576) told past
+      at : (file : List ℕ) → left ≡ Some file → (file_bytes < length file) × (left' ≡ Some (drop (file_bytes + 1) file))
+      at file told = subst (λ (l : Option (List ℕ)). TakesPast l left' file_bytes) told past
 
       decided : (file : List ℕ) → left ≡ Some file → Decides file Limit (line_of (Passed FileBytes None))
       decided file told = fault_decides file (Passed FileBytes None) (long_only file (at file told).0)
@@ -322,7 +325,7 @@ module _ {W : Type 0} (words : List W) (left left' : Option (List ℕ)) (reads r
       by file (inr told) = inr (in_form, (decided file told).outcome)
 
   -- more bytes than a file may have, or no memory for the line
-  pub declined : (result : Status) → length words ≡ 0 → reads' ≡ reads → TakesPast left left' 1048576
+  pub declined : (result : Status) → length words ≡ 0 → reads' ≡ reads → TakesPast left left' file_bytes
       → Declines (Passed FileBytes None) written written' writes writes' result → Runs words left left' reads reads' written written' writes writes' result
   declined result in_form count past (inl f) = too_long result in_form count past f
   declined result in_form count past (inr (e, same, unwritten)) =
@@ -330,7 +333,7 @@ module _ {W : Type 0} (words : List W) (left left' : Option (List ℕ)) (reads r
       (no_memory words left left' reads reads' written written' writes writes' in_form count same unwritten)
 
   -- a file that was read whole
-  pub answered : (result : Status) (bytes : List ℕ) → length words ≡ 0 → reads' ≡ reads → TakesAll left left' bytes → length bytes ≤ 1048576
+  pub answered : (result : Status) (bytes : List ℕ) → length words ≡ 0 → reads' ≡ reads → TakesAll left left' bytes → length bytes ≤ file_bytes
       → Answers bytes written written' writes writes' result → Runs words left left' reads reads' written written' writes writes' result
   answered result bytes in_form count all short (inl (status, text, settled, decides, f)) = finished words left left' reads reads' written written' writes writes' status text result
       (record {
@@ -352,11 +355,11 @@ module _ {W : Type 0} (words : List W) (left left' : Option (List ℕ)) (reads r
       by file (inl some) = absurd (omega arith)
       by file (inr told) = inr (in_form, (decided file told).outcome)
 
-      left_over : (file : List ℕ) → left ≡ Some file → left' ≡ Some (drop 1048577 file)
+      left_over : (file : List ℕ) → left ≡ Some file → left' ≡ Some (drop (file_bytes + 1) file)
       left_over file told =
           let (same, none) = subst (λ (l : Option (List ℕ)). TakesAll l left' bytes) told all in
-          let few : length file ≤ 1048577 = subst (λ (x : List ℕ). length x ≤ 1048577) same (omega arith) in
-          none ∙ ap Some (sym (drop-short 1048577 file few))
+          let few : length file ≤ file_bytes + 1 = subst (λ (x : List ℕ). length x ≤ file_bytes + 1) same (omega arith) in
+          none ∙ ap Some (sym (drop-short (file_bytes + 1) file few))
   answered result bytes in_form count all short (inr (e, same, unwritten)) =
       subst (λ (s : Status). Runs words left left' reads reads' written written' writes writes' s) (sym e)
       (no_memory words left left' reads reads' written written' writes writes' in_form count same unwritten)

@@ -22,7 +22,7 @@ use Rattle.tm_report.specs.declared.fault.At.{At}
 use Rattle.tm_report.specs.declared.fault.FileFault.TheVariants.{Unexpected, EndOfFile, Passed, Names}
 use Rattle.tm_run.specs.Examined.{AreTokensOf, IsLateFault, IsMeaningOf, IsOnlyFault, IsParsedOf, IsResolvedOf, fault_at, no_token_at}
 use Rattle.tm_run.specs.Faults.{BeginsAt, HasFault, LacksToken, start_of}
-use Rattle.tm_run.specs.Files.{HasSoundNames, IsResolved, IsSpelled}
+use Rattle.tm_run.specs.Files.{run_profile, HasSoundNames, IsResolved, IsSpelled}
 use Rattle.tm_run.specs.Places.{at_byte}
 use Rattle.tm_run.proofs.FaultLemmas.{by_tokens, lacks_only, resolved_by, sound_by}
 
@@ -154,16 +154,16 @@ module _ (file : List ℕ) (tokens : List Token) (are : AreTokensOf file tokens)
     spelled = record { tokens = tokens; lexed = are.lexed; spelled = is.spelled }
 
     -- the first name fault of what the tokens spell is that of this
-    first_in : (why : NameWhy) (place : ℕ) (v : Parsed) → SpellsFile (terminals_of file tokens) v → IsFirstFault (name_at file tokens) v why place
-        → IsFirstFault (name_at file tokens) parsed why place
-    first_in why place v h = subst (λ (v : Parsed). IsFirstFault (name_at file tokens) v why place) (is.only v h)
+    first_in : (why : NameWhy) (place : ℕ) (v : Parsed) → SpellsFile (terminals_of file tokens) v → IsFirstFault run_profile (name_at file tokens) v why place
+        → IsFirstFault run_profile (name_at file tokens) parsed why place
+    first_in why place v h = subst (λ (v : Parsed). IsFirstFault run_profile (name_at file tokens) v why place) (is.only v h)
 
     sound_in : (v : Parsed) → SpellsFile (terminals_of file tokens) v → HasSoundNames file tokens v → HasSoundNames file tokens parsed
     sound_in v h = subst (λ (v : Parsed). HasSoundNames file tokens v) (is.only v h)
 
     -- the first name fault is the one fault
-    pub name_fault : (why : NameWhy) (place : ℕ) → IsFirstFault (name_at file tokens) parsed why place
-        → ((other : NameWhy) (there : ℕ) → IsFirstFault (name_at file tokens) parsed other there
+    pub name_fault : (why : NameWhy) (place : ℕ) → IsFirstFault run_profile (name_at file tokens) parsed why place
+        → ((other : NameWhy) (there : ℕ) → IsFirstFault run_profile (name_at file tokens) parsed other there
         → (name_err.Fault why place ≡ name_err.Fault other there) ⊎ (name_err.Fault why place ≡ name_err.Memory))
         → IsOnlyFault file (Names why (here place))
     name_fault why place first faults = record {
@@ -193,13 +193,13 @@ module _ (file : List ℕ) (tokens : List Token) (are : AreTokensOf file tokens)
       abbrev names : IsResolved file resolved
       names = record { parsed = parsed; spelled = spelled; sound = means.sound; means = means.means }
 
-      no_name_fault : (why : NameWhy) (place : ℕ) (v : Parsed) → SpellsFile (terminals_of file tokens) v → IsFirstFault (name_at file tokens) v why place → ⊥
+      no_name_fault : (why : NameWhy) (place : ℕ) (v : Parsed) → SpellsFile (terminals_of file tokens) v → IsFirstFault run_profile (name_at file tokens) v why place → ⊥
       no_name_fault why place v h first = means.sound.none why place (first_in why place v h first).fault
 
       same_meaning : (other : Resolved) → IsResolved file other → other ≡ resolved
       same_meaning other h =
-          h.means ∙ ap (λ ts. resolved_of (name_at file ts) h.parsed) (are.only h.spelled.tokens h.spelled.lexed.tokenizes)
-          ∙ ap (resolved_of (name_at file tokens)) (is.only h.parsed (resolved_by file tokens are other h)) ∙ sym means.means
+          h.means ∙ ap (λ ts. resolved_of run_profile (name_at file ts) h.parsed) (are.only h.spelled.tokens h.spelled.lexed.tokenizes)
+          ∙ ap (resolved_of run_profile (name_at file tokens)) (is.only h.parsed (resolved_by file tokens are other h)) ∙ sym means.means
 
       -- what the file's names mean
       pub meaning : IsMeaningOf file resolved

@@ -40,6 +40,10 @@ bytes_in _ = None
 abbrev pub bytes_of : Ground → Option Bytes
 bytes_of g = bytes_in (out-Ground g)
 
+-- How many cells a reference has, under the profile for which files are answered. Bytes have none.
+abbrev pub reference_cells : ℕ
+reference_cells = 8
+
 -- the automaton's words are these bytes
 pub record HasWordsOf (auto : Automaton) (bytes : Bytes) : Type 0 where
   pub words : (A : ℕ → ℕ → Bool) (w : Word) → AutoWord (holds A) auto w ↔ UpTo bytes.most bytes.count w

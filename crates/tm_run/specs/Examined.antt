@@ -21,7 +21,7 @@ use Rattle.tm_report.specs.declared.fault.At.{At}
 use Rattle.tm_report.specs.declared.fault.FileFault.{FileFault}
 use Rattle.tm_report.specs.declared.fault.FileFault.TheVariants as fault
 use Rattle.tm_run.specs.Faults.{GoesBeyond, HasFault, PassesLimitOnTypes}
-use Rattle.tm_run.specs.Files.{HasSoundNames, IsAccepted, IsLexed, IsResolved}
+use Rattle.tm_run.specs.Files.{run_profile, HasSoundNames, IsAccepted, IsLexed, IsResolved}
 use Rattle.tm_run.specs.Places.{at_byte}
 use Rattle.tm_run.specs.Questions.{is_answered_today}
 use Rattle.tm_run.specs.declared.stop.Stop.{Stop}
@@ -67,7 +67,7 @@ pub record IsParsedOf (file : List ℕ) (tokens : List Token) (parsed : Parsed) 
 -- what the file's names mean, where none is at fault
 pub record IsResolvedOf (file : List ℕ) (tokens : List Token) (parsed : Parsed) (resolved : Resolved) : Type 0 where
   pub sound : HasSoundNames file tokens parsed
-  pub means : resolved ≡ resolved_of (name_at file tokens) parsed
+  pub means : resolved ≡ resolved_of run_profile (name_at file tokens) parsed
 
 -- a fault that is told when the types are closed: of their limits, or of what isn't answered today
 abbrev pub IsLateFault : List ℕ → FileFault → Type 0

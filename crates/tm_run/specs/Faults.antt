@@ -19,8 +19,8 @@ use Rattle.tm_parse.specs.Parsing.{PassesLimitAt, StopsAt}
 use Rattle.tm_parse.specs.Spelling.{terminals_of}
 use Rattle.tm_parse.specs.declared.parsed.Parsed.{Parsed}
 use Rattle.tm_report.specs.declared.fault.FileFault.{FileFault}
-use Rattle.tm_report.specs.declared.fault.FileFault.TheVariants.{NotUtf8, NoToken, BadNumber, OpenComment, Unexpected, EndOfFile, Passed, Names, NotYet}
-use Rattle.tm_run.specs.Files.{file_bytes, IsLexed, IsResolved, IsSpelled}
+use Rattle.tm_report.specs.declared.fault.FileFault.TheVariants.{NotUtf8, NoToken, BadNumber, OpenComment, Unexpected, EndOfFile, Passed, Names, BadRefutation, NoQuestion, NotYet}
+use Rattle.tm_run.specs.Files.{file_bytes, run_profile, IsLexed, IsResolved, IsSpelled}
 use Rattle.tm_run.specs.Places.{IsPlaceIn, at_byte}
 use Rattle.tm_run.specs.Questions.{is_answered_today}
 use Rattle.tm_run.specs.declared.status.Status.{Status}
@@ -76,7 +76,7 @@ pub record HasNameFaultAt (file : List ℕ) (why : NameWhy) (byte : ℕ) : Type 
   pub parsed : Parsed
   pub spelled : IsSpelled file parsed
   pub place : ℕ
-  pub first : IsFirstFault (name_at file spelled.tokens) parsed why place
+  pub first : IsFirstFault run_profile (name_at file spelled.tokens) parsed why place
   pub begins : start_of file (slice_get spelled.tokens place) ≡ byte
 
 -- of the limits on closed types, the first that is passed is of the kind
@@ -112,6 +112,9 @@ HasFault file (EndOfFile at) = (at ≡ at_byte file (length file)) × EndsTooSoo
 HasFault file (Passed kind None) = ((kind ≡ FileBytes) × (file_bytes < length file)) ⊎ PassesLimitOnTypes file kind
 HasFault file (Passed kind (Some at)) = IsPlaceIn file at × PassesLimitAtToken file kind at.byte
 HasFault file (Names why at) = IsPlaceIn file at × HasNameFaultAt file why at.byte
+-- no refutation is read yet, and no question asked for by its number
+HasFault file (BadRefutation line) = ⊥
+HasFault file (NoQuestion number) = ⊥
 HasFault file NotYet = GoesBeyond file
 
 abbrev pub status_of_fault : FileFault → Status
@@ -123,6 +126,8 @@ status_of_fault (Unexpected at) = BadText
 status_of_fault (EndOfFile at) = BadText
 status_of_fault (Passed kind place) = Limit
 status_of_fault (Names why at) = IllFormed
+status_of_fault (BadRefutation line) = BadText
+status_of_fault (NoQuestion number) = BadText
 status_of_fault NotYet = BadText
 
 -- The file isn't too long, and it isn't UTF-8, or somewhere no token begins, or no file of the grammar goes

@@ -1,6 +1,10 @@
 -- Question files: the bytes that are UTF-8, lex, spell a file of the grammar, have no name at fault, and lead
 -- to closed types within their limits.
 use Rattle.std.specs.Prelude.{◌≡◌, ℕ, ◌≤◌, List, length, IsUtf8}
+use Rattle.tm_base.specs.declared.limit.LimitKind.TheVariants.{FileBytes}
+use Rattle.tm_base.specs.declared.profile.Profile.{Profile}
+use Rattle.tm_base.specs.declared.profile.Profile.TheVariants.{Le64}
+use Rattle.tm_base.specs.Limits.{limit_number}
 use Rattle.tm_ground.specs.Limits.{IsWithinLimits}
 use Rattle.tm_lex.specs.Lexes.{Tokenizes}
 use Rattle.tm_lex.specs.declared.token.Token.{Token}
@@ -12,9 +16,13 @@ use Rattle.tm_parse.specs.Parsing.{SpellsFile}
 use Rattle.tm_parse.specs.Spelling.{terminals_of}
 use Rattle.tm_parse.specs.declared.parsed.Parsed.{Parsed}
 
+-- the profile for which files are answered
+abbrev pub run_profile : Profile
+run_profile = Le64
+
 -- the greatest number of bytes that a file has
 abbrev pub file_bytes : ℕ
-file_bytes = 1048576
+file_bytes = limit_number FileBytes
 
 -- the file isn't too long, it is UTF-8, and these are its tokens
 pub record IsLexed (file : List ℕ) (tokens : List Token) : Type 0 where
@@ -30,14 +38,14 @@ pub record IsSpelled (file : List ℕ) (parsed : Parsed) : Type 0 where
 
 -- no name in what the file's tokens spell is at fault
 abbrev pub HasSoundNames : List ℕ → List Token → Parsed → Type 0
-HasSoundNames file tokens parsed = HasNoFault (name_at file tokens) parsed
+HasSoundNames file tokens parsed = HasNoFault run_profile (name_at file tokens) parsed
 
 -- the file is spelled, none of its names is at fault, and this is what its names mean
 pub record IsResolved (file : List ℕ) (resolved : Resolved) : Type 0 where
   pub parsed : Parsed
   pub spelled : IsSpelled file parsed
   pub sound : HasSoundNames file spelled.tokens parsed
-  pub means : resolved ≡ resolved_of (name_at file spelled.tokens) parsed
+  pub means : resolved ≡ resolved_of run_profile (name_at file spelled.tokens) parsed
 
 -- the file is resolved, and the closed types that its questions lead to pass no limit
 pub record IsAccepted (file : List ℕ) : Type 0 where

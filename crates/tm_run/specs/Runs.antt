@@ -1,12 +1,12 @@
 -- What a run keeps, all at once: the clauses of `run` say each of it.
-use Rattle.std.specs.Prelude.{◌≡◌, ◌≢◌, ℕ, ◌<◌, ◌⊎◌, ◌↔◌, Option, Some, List, length, drop}
+use Rattle.std.specs.Prelude.{◌≡◌, ◌≢◌, ℕ, ◌+◌, ◌<◌, ◌⊎◌, ◌↔◌, Option, Some, List, length, drop}
 use Rattle.tm_io.specs.Faults.{Rose}
 use Rattle.tm_io.specs.Told.{AddsAll, AddsPrefix}
 use Rattle.tm_report.specs.FaultLines.{line_of}
 use Rattle.tm_report.specs.declared.fault.FileFault.{FileFault}
 use Rattle.tm_run.specs.Faults.{GoesBeyond, HasFault, HasNameFault, HasTextFault, PassesLimit, status_of_fault}
 use Rattle.tm_run.specs.FileAnswers.{EachMayTransmute, SomeMayNotTransmute}
-use Rattle.tm_run.specs.Files.{IsAccepted}
+use Rattle.tm_run.specs.Files.{file_bytes, IsAccepted}
 use Rattle.tm_run.specs.Outcomes.{IsFileOutcome, IsReport, IsSettled, IsTold, IsRead, WritesOutcome, WritesFault, WritesPrefix, WritesReport}
 use Rattle.tm_run.specs.declared.status.Status.{Status}
 use Rattle.tm_run.specs.declared.status.Status.TheVariants.{AllYes, Mixed, Usage, BadText, Limit, ReadFault, WriteFault, Memory, IllFormed}
@@ -61,4 +61,4 @@ module _ {W : Type 0} (words : List W) (left left' : Option (List ℕ)) (reads r
     pub silent_fault : status ≡ ReadFault → written' ≡ written
     pub silent_memory : status ≡ Memory → written' ≡ written
     pub unread : 0 < length words → (left' ≡ left) × (reads' ≡ reads)
-    pub taken : (file : List ℕ) → length words ≡ 0 → left ≡ Some file → status ≢ ReadFault → status ≢ Memory → left' ≡ Some (drop 1048577 file)
+    pub taken : (file : List ℕ) → length words ≡ 0 → left ≡ Some file → status ≢ ReadFault → status ≢ Memory → left' ≡ Some (drop (file_bytes + 1) file)

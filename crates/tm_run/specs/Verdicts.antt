@@ -11,7 +11,7 @@ use Rattle.tm_run.specs.declared.verdict.Verdict.TheVariants.{Yes, No}
 
 -- a type, with the definitions of the world that it names
 abbrev pub type_in : World → Ground → Expanded
-type_in world = expanded world.defs world.named
+type_in world = expanded world.profile world.defs world.named
 
 -- A value of the source may be taken as a value of the target. The types hold no references, so that
 -- it is so under every relation of references.

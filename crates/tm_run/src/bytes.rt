@@ -9,6 +9,9 @@ use tm_base::{Boxed, Ground, Memory, Primitive, Tree};
 /// The greatest length of an array that is answered today.
 const MOST_ELEMENTS: u32 = 4096;
 
+/// How many cells a reference has. Bytes have none.
+const REFERENCE_CELLS: u32 = 8;
+
 /// Some bytes, each of which has a number from 0 to `most`.
 #[derive(Clone, Copy, PartialEq, Eq, Debug)]
 pub struct Bytes {
@@ -68,5 +71,5 @@ pub fn automaton(alloc: Global, bytes: Bytes) -> Result<Auto, Memory>
 {
     let byte = Boxed::new(alloc, Tree::Range(0, bytes.most))?;
     let tree = Tree::Repeat(bytes.count, byte);
-    Auto::build(alloc, &tree, bytes.count)
+    Auto::build(alloc, &tree, bytes.count, REFERENCE_CELLS)
 }

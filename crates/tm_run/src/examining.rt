@@ -3,6 +3,7 @@ ghost use Rattle.tm_names.specs.ApartNames.{HasApartNames};
 ghost use Rattle.tm_names.specs.InForm.{IsInForm};
 ghost use Rattle.tm_run.specs.Examined.{AreTokensOf, IsAnsweredWorld, IsMeaningOf, IsParsedOf, IsResolvedOf, IsStop, fault_at, no_token_at};
 ghost use Rattle.tm_run.specs.Faults.{start_of};
+ghost use Rattle.tm_run.specs.Files.{file_bytes};
 ghost use Rattle.tm_run.specs.Places.{at_byte};
 
 use crate::closing::world;
@@ -10,15 +11,18 @@ use crate::places::at;
 use crate::stop::Stop;
 use std::alloc::Global;
 use std::str;
-use tm_base::World;
+use tm_base::{Profile, World};
 use tm_lex::{LexErr, LexWhy, Token, lex};
 use tm_names::{NameErr, Resolved, check};
 use tm_parse::{ParseErr, Parsed, parse};
 use tm_report::{At, FileFault};
 
+/// The profile for which files are answered.
+const PROFILE: Profile = Profile::Le64;
+
 /// The text of a file.
 fn decoded(file: &[u8]) -> Result<&str, Stop>
-    requires { length file.now ≤ 1048576 }
+    requires { length file.now ≤ file_bytes }
     ensures text { IfOk result (λ text. text.now ≡ file.now) }
     ensures stop { IfErr result (IsStop file.now) }
 {
@@ -41,7 +45,7 @@ fn no_token(why: LexWhy, at: At) -> FileFault
 
 /// The tokens of a text.
 fn tokens(alloc: Global, text: &str) -> Result<Vec<Token>, Stop>
-    requires { length text.now ≤ 1048576 }
+    requires { length text.now ≤ file_bytes }
     ensures tokens { IfOk result (λ tokens. AreTokensOf text.now tokens.items) }
     ensures stop { IfErr result (IsStop text.now) }
 {
@@ -57,7 +61,7 @@ fn tokens(alloc: Global, text: &str) -> Result<Vec<Token>, Stop>
 
 /// The place where a token of a text begins, or the end of the text where there is none.
 fn start(text: &str, tokens: &[Token], place: usize) -> At
-    requires short { length text.now ≤ 1048576 }
+    requires short { length text.now ≤ file_bytes }
     requires tokens { AreTokensOf text.now tokens.now }
     ensures { result ≡ at_byte text.now (start_of text.now (slice_get tokens.now place)) }
 {
@@ -70,7 +74,7 @@ fn start(text: &str, tokens: &[Token], place: usize) -> At
 
 /// The fault of a text whose tokens stop at a place in their list, or at its end.
 fn fault(text: &str, tokens: &[Token], place: usize) -> FileFault
-    requires short { length text.now ≤ 1048576 }
+    requires short { length text.now ≤ file_bytes }
     requires tokens { AreTokensOf text.now tokens.now }
     ensures { result ≡ fault_at text.now (slice_get tokens.now place) }
 {
@@ -84,7 +88,7 @@ fn fault(text: &str, tokens: &[Token], place: usize) -> FileFault
 
 /// The file of the grammar that a text's tokens spell.
 fn parsed(alloc: Global, text: &str, tokens: &[Token]) -> Result<Parsed, Stop>
-    requires short { length text.now ≤ 1048576 }
+    requires short { length text.now ≤ file_bytes }
     requires tokens { AreTokensOf text.now tokens.now }
     ensures parsed { IfOk result (IsParsedOf text.now tokens.now) }
     ensures stop { IfErr result (IsStop text.now) }
@@ -102,14 +106,14 @@ fn parsed(alloc: Global, text: &str, tokens: &[Token]) -> Result<Parsed, Stop>
 
 /// What the names of what a text spells mean.
 fn resolved(alloc: Global, text: &str, tokens: &[Token], parsed: &Parsed) -> Result<Resolved, Stop>
-    requires short { length text.now ≤ 1048576 }
+    requires short { length text.now ≤ file_bytes }
     requires parsed { IsParsedOf text.now tokens.now parsed.now }
     ensures resolved { IfOk result (IsResolvedOf text.now tokens.now parsed.now) }
     ensures in_form { IfOk result IsInForm }
     ensures apart { IfOk result HasApartNames }
     ensures stop { IfErr result (IsStop text.now) }
 {
-    match check(alloc, text, tokens, parsed) {
+    match check(alloc, text, tokens, parsed, PROFILE) {
         Ok(resolved) => Ok(resolved),
         Err(NameErr::Fault(why, place)) => {
             let names = FileFault::Names(why, start(text, tokens, place as usize));
@@ -121,7 +125,7 @@ fn resolved(alloc: Global, text: &str, tokens: &[Token], parsed: &Parsed) -> Res
 
 /// What the names of a text mean.
 fn meaning(alloc: Global, text: &str) -> Result<Resolved, Stop>
-    requires { length text.now ≤ 1048576 }
+    requires { length text.now ≤ file_bytes }
     ensures meaning { IfOk result (IsMeaningOf text.now) }
     ensures in_form { IfOk result IsInForm }
     ensures apart { IfOk result HasApartNames }
@@ -134,7 +138,7 @@ fn meaning(alloc: Global, text: &str) -> Result<Resolved, Stop>
 
 /// The world of a file of at most 1,048,576 bytes, or the one fault for which it gets no report.
 pub fn examine(alloc: Global, file: &[u8]) -> Result<World, Stop>
-    requires { length file.now ≤ 1048576 }
+    requires { length file.now ≤ file_bytes }
     ensures world { IfOk result (IsAnsweredWorld file.now) }
     ensures stop { IfErr result (IsStop file.now) }
 {

@@ -1,4 +1,5 @@
 ghost use Rattle.std.specs.Prelude.{◌≡◌, ◌≤◌, length};
+ghost use Rattle.tm_run.specs.Files.{file_bytes};
 ghost use Rattle.tm_run.specs.Places.{at_byte, ends_line};
 
 use tm_report::At;
@@ -11,7 +12,7 @@ fn ends_line(b: u8) -> bool
 
 /// The place of a byte of a file, or of the file's end.
 pub fn at(file: &[u8], byte: usize) -> At
-    requires short { length file.now ≤ 1048576 }
+    requires short { length file.now ≤ file_bytes }
     requires within { byte ≤ length file.now }
     ensures { result ≡ at_byte file.now byte }
 {

@@ -1,10 +1,10 @@
-ghost use Rattle.std.specs.Prelude.{◌≡◌, ◌≢◌, ℕ, ◌<◌, ◌≤◌, ◌↔◌, Option, Some, List, IfOk, IfErr, drop, length, string_bytes};
+ghost use Rattle.std.specs.Prelude.{◌≡◌, ◌≢◌, ℕ, ◌+◌, ◌<◌, ◌≤◌, ◌↔◌, Option, Some, List, IfOk, IfErr, drop, length, string_bytes};
 ghost use Rattle.tm_io.specs.Faults.{Rose};
 ghost use Rattle.tm_io.specs.Told.{AddsAll};
 ghost use Rattle.tm_run.specs.Examined.{IsStop};
 ghost use Rattle.tm_run.specs.Faults.{GoesBeyond, HasFault, HasNameFault, HasTextFault, PassesLimit};
 ghost use Rattle.tm_run.specs.FileAnswers.{EachMayTransmute, SomeMayNotTransmute};
-ghost use Rattle.tm_run.specs.Files.{IsAccepted};
+ghost use Rattle.tm_run.specs.Files.{file_bytes, IsAccepted};
 ghost use Rattle.tm_run.specs.Outcomes.{IsSettled, IsTold, IsRead, WritesFault, WritesOutcome, WritesPrefix, WritesReport};
 ghost use Rattle.tm_run.specs.Runs.{Answers, Decides, Declines, Finishes, Runs};
 
@@ -18,12 +18,9 @@ use tm_base::LimitKind;
 use tm_io::{ReadErr, Sink, SinkErr, Source, read_all, write_all};
 use tm_report::{FileFault, fault_line};
 
-/// The most bytes that an input may have.
-const FILE_BYTES: u32 = 1_048_576;
-
 const USAGE_LINE: &str = "usage: transmute_report\n";
 
-/// What is wrong with an input of more than `FILE_BYTES`.
+/// What is wrong with an input that has too many bytes.
 const TOO_LONG: FileFault = FileFault::Passed(LimitKind::FileBytes, None);
 
 /// Reads questions, answers them and writes the report.
@@ -59,7 +56,7 @@ pub fn run<S: Source, K: Sink>(alloc: Global, words: &[String], src: &mut S, out
 
     // What is left of the source.
     ensures unread { 0 < length words.now → (S.left src.new ≡ S.left src.old) × (S.faults src.new ≡ S.faults src.old) }
-    ensures taken { (file : List ℕ) → length words.now ≡ 0 → S.left src.old ≡ Some file → result ≢ Status.ReadFault → result ≢ Status.Memory → S.left src.new ≡ Some (drop 1048577 file) }
+    ensures taken { (file : List ℕ) → length words.now ≡ 0 → S.left src.old ≡ Some file → result ≢ Status.ReadFault → result ≢ Status.Memory → S.left src.new ≡ Some (drop (file_bytes + 1) file) }
 {
     ran(alloc, words, src, out)
 }
@@ -71,7 +68,7 @@ fn ran<S: Source, K: Sink>(alloc: Global, words: &[String], src: &mut S, out: &m
     if !words.is_empty() {
         return finish(out, USAGE_LINE, Status::Usage);
     }
-    match read_all(alloc, src, FILE_BYTES) {
+    match read_all(alloc, src, LimitKind::FileBytes.number()) {
         Ok(file) => answer(alloc, &file, out),
         Err(ReadErr::Fault) => Status::ReadFault,
         Err(ReadErr::TooLong) => decline(alloc, TOO_LONG, out),
@@ -81,7 +78,7 @@ fn ran<S: Source, K: Sink>(alloc: Global, words: &[String], src: &mut S, out: &m
 
 /// Writes the report on a file, or the line that says why it gets none.
 fn answer<K: Sink>(alloc: Global, file: &[u8], out: &mut K) -> Status
-    requires { length file.now ≤ 1048576 }
+    requires { length file.now ≤ file_bytes }
     ensures { Answers file.now (K.written out.old) (K.written out.new) (K.faults out.old) (K.faults out.new) result }
 {
     match judged(alloc, file) {
@@ -93,7 +90,7 @@ fn answer<K: Sink>(alloc: Global, file: &[u8], out: &mut K) -> Status
 
 /// The status and the text of the report on a file.
 fn judged(alloc: Global, file: &[u8]) -> Result<(Status, String), Stop>
-    requires { length file.now ≤ 1048576 }
+    requires { length file.now ≤ file_bytes }
     ensures settled { IfOk result (λ outcome. IsSettled outcome.0) }
     ensures report { IfOk result (λ outcome. Decides file.now outcome.0 (string_bytes outcome.1)) }
     ensures stop { IfErr result (IsStop file.now) }

@@ -1,5 +1,5 @@
 use std::alloc::Global;
-use tm_base::{Ground, NamedId, Why, World};
+use tm_base::{Ground, NamedId, Profile, Why, World};
 use tm_ground::ground;
 use tm_layout::{Layout, Layouts};
 use tm_lex::lex;
@@ -13,7 +13,7 @@ fn world(alloc: Global, text: &str) -> Option<World> {
     }
     let tokens = lex(alloc, text).ok()?;
     let parsed = parse(alloc, text, tokens.as_slice()).ok()?;
-    let resolved = check(alloc, text, tokens.as_slice(), &parsed).ok()?;
+    let resolved = check(alloc, text, tokens.as_slice(), &parsed, Profile::Le64).ok()?;
     ground(alloc, &resolved).ok()
 }
 

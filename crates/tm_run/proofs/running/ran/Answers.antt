@@ -1,4 +1,5 @@
 use Rattle.std.proofs.Common.{◌≡◌, ◌==◌, ◌∙◌, ◌≤◌, ◌<◌, ℕ, zero, suc, false, List, Err, length, refl, sym, ap, subst, arith, eqb-true}
+use Rattle.tm_run.specs.Files.{file_bytes}
 use Rattle.tm_run.specs.Runs.{Answers}
 use Rattle.tm_run.proofs.RunLemmas.{misused, declined, answered}
 use Rattle.tm_run.proofs.running.ran.Goals as goal
@@ -16,7 +17,7 @@ pub returns-in-Ok : goal.returns-in-Ok
 returns-in-Ok g c =
     let none = eqb-true (length c.args.words.now) 0 (sym c.is_empty.ensures ∙ c.if-not-is_empty.false) in
     let kept : g.S.Source.faults c.read_all.new.src ≡ g.S.Source.faults c.args.src.now = c.in-Ok.ensures.kept (λ e. cc) in
-    let short : length c.in-Ok.file.items ≤ 1048576 = let len = c.in-Ok.file.ok.0 in let bound = c.in-Ok.ensures.short in omega (arith, len, bound) in
+    let short : length c.in-Ok.file.items ≤ file_bytes = let len = c.in-Ok.file.ok.0 in let bound = c.in-Ok.ensures.short in let limit = c.number.ensures in omega (arith, len, bound, limit) in
     let whole = subst (λ (bytes : List ℕ). Answers bytes (g.K.Sink.written c.args.out.now) (g.K.Sink.written c.answer.new.out) (g.K.Sink.faults c.args.out.now) (g.K.Sink.faults c.answer.new.out) c.answer.result) c.deref.ensures.value c.answer.ensures in
     answered _ _ _ _ _ _ _ _ _ _ c.in-Ok.file.items none kept c.in-Ok.ensures.all short whole
 
@@ -24,4 +25,4 @@ pub returns-in-Err-TooLong : goal.returns-in-Err-TooLong
 returns-in-Err-TooLong g c =
     let none = eqb-true (length c.args.words.now) 0 (sym c.is_empty.ensures ∙ c.if-not-is_empty.false) in
     let kept : g.S.Source.faults c.read_all.new.src ≡ g.S.Source.faults c.args.src.now = c.in-Err-TooLong.ensures.kept (λ e. cc) in
-    declined _ _ _ _ _ _ _ _ _ _ none kept (c.in-Err-TooLong.ensures.long (ap Err c.in-Err-TooLong.field-0-is)) c.decline.ensures
+    declined _ _ _ _ _ _ _ _ _ _ none kept (rw c.number.ensures at (c.in-Err-TooLong.ensures.long (ap Err c.in-Err-TooLong.field-0-is))) c.decline.ensures

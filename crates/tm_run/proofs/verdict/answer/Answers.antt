@@ -18,8 +18,8 @@ returns-then-not-fits c = λ world h.
     let ask = c.args.ask.now in
     let from = c.in-Some.src in
     let to = c.in-Some-bytes_of.dst in
-    let src = closed-HasBytes world.defs world.named ask.src from (sym c.in-Some.ensures.bytes) in
-    let dst = closed-HasBytes world.defs world.named ask.dst to (sym c.in-Some-bytes_of.ensures.bytes) in
+    let src = closed-HasBytes world.profile world.defs world.named ask.src from (sym c.in-Some.ensures.bytes) in
+    let dst = closed-HasBytes world.profile world.defs world.named ask.dst to (sym c.in-Some-bytes_of.ensures.bytes) in
     let all : ℕ → ℕ → Bool = λ x t. true in
     let may : Transmutes (holds all) nothing_assumed (type_in world ask.src) (type_in world ask.dst) = rw (assumes-nothing c.args.ask.now c.requires) at (h all) in
     let every = bytes-EveryFits c.in_ok-src.src c.in_ok-dst.dst from to c.in_ok-src.ensures.words c.in_ok-dst.ensures.words c.in_ok-dst.ensures.size
@@ -33,8 +33,8 @@ returns c = λ world A.
     let ask = c.args.ask.now in
     let from = c.in-Some.src in
     let to = c.in-Some-bytes_of.dst in
-    let src = closed-HasBytes world.defs world.named ask.src from (sym c.in-Some.ensures.bytes) in
-    let dst = closed-HasBytes world.defs world.named ask.dst to (sym c.in-Some-bytes_of.ensures.bytes) in
+    let src = closed-HasBytes world.profile world.defs world.named ask.src from (sym c.in-Some.ensures.bytes) in
+    let dst = closed-HasBytes world.profile world.defs world.named ask.dst to (sym c.in-Some-bytes_of.ensures.bytes) in
     let every = c.in_ok-fits.ensures.0 c.if-not-fits.false in
     rw (assumes-nothing c.args.ask.now c.requires) (fits-Transmutes (holds A) (type_in world ask.src) (type_in world ask.dst) from to src dst
     (EveryFits-bytes c.in_ok-src.src c.in_ok-dst.dst from to c.in_ok-src.ensures.words c.in_ok-dst.ensures.words c.in_ok-dst.ensures.size every))
