@@ -12,7 +12,7 @@ use Rattle.tm_base.specs.Texts.{def_text, prim_text, separated, wrapper_text}
 use Rattle.tm_names.specs.declared.resolved.Resolved.{Resolved}
 use Rattle.tm_names.specs.ApartNames.{is_word_byte, HasApartNames}
 use Rattle.tm_ground.specs.Closed.{Closed, Elements, prim, never, tuple, array, nonzero, wrap, named, ref, no_elements, element}
-use Rattle.tm_ground.specs.ClosedTexts.{closed_text, closed_texts, tables_of_file}
+use Rattle.tm_ground.specs.ClosedTexts.{closed_text, closed_texts}
 use Rattle.tm_ground.proofs.NameLemmas.{name_in, def-there, region, name_of, region-word, same-region, same-def, own, own-word}
 use Rattle.tm_ground.proofs.PieceLemmas.{tail-same, tails-same, end-comma, ends-apart, space-apart, less-space, comma-apart, behind, separated-behind, applied-text, inside, tuple-inside, array-text, mark_of, ref-text}
 use Rattle.tm_ground.proofs.WordLemmas.{EndsType, StopsWord, ends-stops, same-word, word-bytes, decimal-bytes, Reading, a_mark, a_prim, a_nonzero, a_wrapper, a_name, read_head, kind_of, look, read-word, prim-kind, prim-word, wrapper-kind, wrapper-word, nonzero-kind, nonzero-word, own-kind, unlike}
@@ -83,7 +83,7 @@ module _ (resolved : Resolved) where
   given [] r = r
   given (g ∷ gs) r = 60 ∷ (region resolved g ++ behind (map (region resolved) gs) (62 ∷ r))
 
-  def-given : (d : Def) (gs : List RegionId) (r : List ℕ) → def_text (tables_of_file resolved) gs (Some d) ++ r ≡ d.name ++ given gs r
+  def-given : (d : Def) (gs : List RegionId) (r : List ℕ) → def_text (Some d) (map (region resolved) gs) ++ r ≡ d.name ++ given gs r
   def-given d [] r = refl
   def-given d (g ∷ gs) r = applied-text d.name (separated (map (region resolved) (g ∷ gs))) r ∙ ap (λ xs. d.name ++ (60 ∷ xs)) (separated-behind (region resolved g) (map (region resolved) gs) (62 ∷ r))
 
@@ -91,7 +91,7 @@ module _ (resolved : Resolved) where
   unfolding closed_text
   named-given def gs r l =
       let (d, at) = def-there resolved.defs def.0 l in
-      ap (λ o. def_text (tables_of_file resolved) gs o ++ r) at ∙ def-given d gs r ∙ ap (λ o. name_in o ++ given gs r) (sym at)
+      ap (λ o. def_text o (map (region resolved) gs) ++ r) at ∙ def-given d gs r ∙ ap (λ o. name_in o ++ given gs r) (sym at)
 
   given-stops : (gs : List RegionId) (r : List ℕ) → EndsType r → StopsWord (given gs r)
   unfolding is_word_byte

@@ -4,7 +4,7 @@ use Rattle.std.specs.List.{AllZip, range_with_len}
 use Rattle.std.specs.Cmp.Lexicographic.{slice_cmp}
 use Rattle.std.specs.List.Sorted.{IsSorted}
 use Rattle.std.specs.Ordering.{nat_cmp}
-use Rattle.std.proofs.lemmas.List.Elements.{All-contains, All-cons}
+use Rattle.std.proofs.lemmas.List.Elements.{All-contains}
 use Rattle.std.proofs.lemmas.Slice.Zip.{AllZip-long}
 use Rattle.tm_base.specs.declared.ground.Ground.{Ground}
 use Rattle.tm_base.specs.declared.ground.Ground as ground_is
@@ -13,7 +13,7 @@ use Rattle.tm_base.specs.Texts.{text_of}
 use Rattle.tm_base.specs.Whole.{AreDistinct}
 use Rattle.tm_base.specs.Worlds.{tables_of}
 use Rattle.tm_names.specs.declared.resolved.Resolved.{Resolved}
-use Rattle.tm_ground.specs.Belongs.{type_of_row, StandsFor, ListsAll, IsQuestionOf, HasItsTypes, IsRowOf, ref_texts, BelongsToFile}
+use Rattle.tm_ground.specs.Belongs.{type_of_row, StandsFor, ListsAll, IsQuestionOf, HasItsTypes, HasNoArgs, IsRowOf, ref_texts, BelongsToFile}
 use Rattle.tm_ground.specs.Closed.{Closed}
 use Rattle.tm_ground.specs.ClosedTexts.{closed_text, AreInOrder}
 use Rattle.tm_ground.specs.Closing.{AreWhole}
@@ -26,7 +26,7 @@ use Rattle.tm_ground.specs.Rows.{IsNamedRow, IsRefRow, IsAsk, IsWorldOf}
 use Rattle.tm_ground.proofs.ApartRefs.{ref-texts-apart}
 use Rattle.tm_ground.proofs.GrowLemmas.{contains-from_get}
 use Rattle.tm_ground.proofs.OccurringForm.{occurring-formed}
-use Rattle.tm_ground.proofs.StandsLemmas.{stands}
+use Rattle.tm_ground.proofs.StandsLemmas.{stands, zip-second}
 use Rattle.tm_ground.proofs.TextLemmas.{ref-text}
 
 -- what holds of each pair makes another fact hold of it
@@ -35,13 +35,6 @@ zip-weaken R S f [] [] h = tt
 zip-weaken R S f [] (y ∷ ys) h = absurd h
 zip-weaken R S f (x ∷ xs) [] h = absurd h
 zip-weaken R S f (x ∷ xs) (y ∷ ys) h = (f x y h.0, zip-weaken R S f xs ys h.1)
-
--- what holds of each pair makes a fact hold of each second item
-zip-second : {A B : Type 0} (R : A → B → Type 0) (P : B → Type 0) → ((a : A) (b : B) → R a b → P b) → (xs : List A) (ys : List B) → AllZip R xs ys → All P ys
-zip-second R P f [] [] h = λ k d l. absurd (omega (arith, l))
-zip-second R P f [] (y ∷ ys) h = absurd h
-zip-second R P f (x ∷ xs) [] h = absurd h
-zip-second R P f (x ∷ xs) (y ∷ ys) h = All-cons P y ys (f x y h.0) (zip-second R P f xs ys h.1)
 
 -- each first item is given by its second
 zip-same : {A B : Type 0} (R : A → B → Type 0) (g : B → A) → ((a : A) (b : B) → R a b → a ≡ g b) → (xs : List A) (ys : List B) → AllZip R xs ys → xs ≡ map g ys
@@ -84,11 +77,13 @@ module _ (resolved : Resolved) (form : IsInForm resolved) (types refs : List Clo
 
   pub belongs : HasApartNames resolved → AreInOrder resolved refs → BelongsToFile resolved world
   belongs names sorted = record {
+    profile = w.profile;
     defs = w.defs;
     regions = w.regions;
     bounds = w.bounds;
     questions = zip-weaken (IsAsk types refs) (IsQuestionOf resolved world) (λ asked ask r. record { src = numbers-stand _ _ r.src; dst = numbers-stand _ _ r.dst; assume = r.assume }) resolved.asks world.questions w.questions;
     named = subst (ListsAll (OccursAs is_named resolved)) (zip-same (IsNamedRow types refs resolved) type_of_row (λ c row r. r.type) types world.named w.named) whole.rows.all;
+    no_args = zip-second (IsNamedRow types refs resolved) HasNoArgs (λ c row r. r.args) types world.named w.named;
     field_types = zip-second (IsNamedRow types refs resolved) (HasItsTypes resolved world) (λ c row r. zip-weaken (AllZip (IsNumbered types refs)) (AllZip (StandsFor world.named world.refs)) (zip-weaken (IsNumbered types refs) (StandsFor world.named world.refs) numbers-stand) (field_types resolved row.def row.regions) row.types r.fields) types world.named w.named;
     ref_types = refs;
     refs = whole.refs.all;

@@ -9,7 +9,7 @@ use Rattle.tm_ground.specs.declared.stop.Stop.{Stop}
 use Rattle.tm_ground.specs.declared.stop.Stop.TheVariants as stop
 use Rattle.tm_ground.specs.Closing.{IsWhole, FindsNamed}
 use Rattle.tm_ground.specs.Growing.{IsWithin, Grows, Adds, Overflows, Adding}
-use Rattle.tm_ground.specs.Limits.{is_named, OccursAs, AreMoreThan, PassesTypes}
+use Rattle.tm_ground.specs.Limits.{is_named, OccursAs, AreMoreThan, PassesTypes, type_limit}
 use Rattle.tm_ground.specs.Occurs.{parts_of, asked_types, is_asked, is_part}
 use Rattle.tm_ground.specs.Written.{named_in}
 use Rattle.tm_ground.proofs.ContainsLemmas.{contains-nothing, contains-at}
@@ -55,7 +55,7 @@ module _ (resolved : Resolved) where
   pub record IsClosing (done : ℕ) (found : List Closed) : Type 0 where
     pub occur : (c : Closed) → Contains found c → OccursNamed c
     pub distinct : AreDistinct found
-    pub few : length found ≤ 1024
+    pub few : length found ≤ type_limit
     pub asked : IsWithin (flat_map named_in (asked_types resolved)) found
     pub parts : (k : ℕ) (c : Closed) → k < done → slice_get found k ≡ Some c → IsWithin (flat_map named_in (parts_of resolved c)) found
 
@@ -65,7 +65,7 @@ module _ (resolved : Resolved) where
   parts-occur : (whole : Closed) → OccursNamed whole → (c : Closed) → Contains (flat_map named_in (parts_of resolved whole)) c → OccursNamed c
   parts-occur whole o = kept-occur resolved is_named (parts_of resolved whole) (λ d h. is_part whole d o.occurs h)
 
-  pub closing-begins : (found : List Closed) → Adds 1024 [] (flat_map named_in (asked_types resolved)) found → IsClosing 0 found
+  pub closing-begins : (found : List Closed) → Adds type_limit [] (flat_map named_in (asked_types resolved)) found → IsClosing 0 found
   closing-begins found a = record {
     occur = grown-occur OccursNamed [] _ found (λ c h. absurd (contains-nothing c h)) asked-occur a.grows;
     distinct = a.grows.distinct none-distinct;
@@ -74,10 +74,10 @@ module _ (resolved : Resolved) where
     parts = λ k c l e. absurd (omega (arith, l));
   }
 
-  pub closing-overflows : Overflows 1024 [] (flat_map named_in (asked_types resolved)) → PassesTypes resolved
-  closing-overflows o = more-than 1024 OccursNamed [] _ none-distinct (λ c h. absurd (contains-nothing c h)) asked-occur o
+  pub closing-overflows : Overflows type_limit [] (flat_map named_in (asked_types resolved)) → PassesTypes resolved
+  closing-overflows o = more-than type_limit OccursNamed [] _ none-distinct (λ c h. absurd (contains-nothing c h)) asked-occur o
 
-  pub closing-step : (done : ℕ) (found new : List Closed) (whole : Closed) → IsClosing done found → slice_get found done ≡ Some whole → Adds 1024 found (flat_map named_in (parts_of resolved whole)) new → IsClosing (done + 1) new
+  pub closing-step : (done : ℕ) (found new : List Closed) (whole : Closed) → IsClosing done found → slice_get found done ≡ Some whole → Adds type_limit found (flat_map named_in (parts_of resolved whole)) new → IsClosing (done + 1) new
   closing-step done found new whole s at a =
       let old = grows-old found _ new a.grows in
       let inside = some-within found done whole at in
@@ -97,11 +97,11 @@ module _ (resolved : Resolved) where
             (below-or-last k done l);
       }
 
-  pub closing-passes : (done : ℕ) (found : List Closed) (whole : Closed) → IsClosing done found → slice_get found done ≡ Some whole → Overflows 1024 found (flat_map named_in (parts_of resolved whole)) → PassesTypes resolved
+  pub closing-passes : (done : ℕ) (found : List Closed) (whole : Closed) → IsClosing done found → slice_get found done ≡ Some whole → Overflows type_limit found (flat_map named_in (parts_of resolved whole)) → PassesTypes resolved
   closing-passes done found whole s at o =
-      more-than 1024 OccursNamed found _ s.distinct s.occur (parts-occur whole (s.occur whole (contains-from_get found done whole at))) o
+      more-than type_limit OccursNamed found _ s.distinct s.occur (parts-occur whole (s.occur whole (contains-from_get found done whole at))) o
 
-  pub closing-ends : (done : ℕ) (found : List Closed) → IsClosing done found → length found ≤ done → IsWhole 1024 OccursNamed found
+  pub closing-ends : (done : ℕ) (found : List Closed) → IsClosing done found → length found ≤ done → IsWhole type_limit OccursNamed found
   closing-ends done found s over =
       let held = all-held resolved is_named found s.asked (λ c o t h.
       let (k, l, e) = contains-at found c (h.within c (kept-itself is_named c t)) in
@@ -116,7 +116,7 @@ module _ (resolved : Resolved) where
       }
 
   -- why the search ends early
-  pub closing-stops : (old xs mid : List Closed) (why : Stop) → (Overflows 1024 old xs → PassesTypes resolved) → Adding 1024 old xs mid (Err why) → FindsNamed resolved (Err why)
+  pub closing-stops : (old xs mid : List Closed) (why : Stop) → (Overflows type_limit old xs → PassesTypes resolved) → Adding type_limit old xs mid (Err why) → FindsNamed resolved (Err why)
   closing-stops old xs mid stop.Full passes a = passes a
   closing-stops old xs mid stop.Memory passes a = tt
 

@@ -9,7 +9,7 @@ use Rattle.tm_ground.specs.declared.stop.Stop.{Stop}
 use Rattle.tm_ground.specs.declared.stop.Stop.TheVariants as stop
 use Rattle.tm_ground.specs.Closing.{AreWhole, IsWhole, FindsRefs}
 use Rattle.tm_ground.specs.Growing.{IsWithin, Adds, Overflows, Adding}
-use Rattle.tm_ground.specs.Limits.{is_named, is_ref, OccursAs, PassesRefs}
+use Rattle.tm_ground.specs.Limits.{is_named, is_ref, OccursAs, PassesRefs, type_limit, ref_limit}
 use Rattle.tm_ground.specs.Occurs.{parts_of, asked_types, Occurs, is_asked, is_part}
 use Rattle.tm_ground.specs.Numbered.{HasNumbers}
 use Rattle.tm_ground.specs.Written.{refs_in, written_in}
@@ -23,11 +23,11 @@ module _ (resolved : Resolved) (named : List Closed) where
   pub record IsCollecting (done : ℕ) (refs : List Closed) : Type 0 where
     pub occur : (c : Closed) → Contains refs c → OccursAs is_ref resolved c
     pub distinct : AreDistinct refs
-    pub few : length refs ≤ 64
+    pub few : length refs ≤ ref_limit
     pub asked : IsWithin (flat_map refs_in (asked_types resolved)) refs
     pub parts : (k : ℕ) (c : Closed) → k < done → slice_get named k ≡ Some c → IsWithin (flat_map refs_in (parts_of resolved c)) refs
 
-module _ (resolved : Resolved) (named : List Closed) (whole : IsWhole 1024 (OccursAs is_named resolved) named) where
+module _ (resolved : Resolved) (named : List Closed) (whole : IsWhole type_limit (OccursAs is_named resolved) named) where
   abbrev OccursRef : Closed → Type 0
   OccursRef = OccursAs is_ref resolved
 
@@ -41,7 +41,7 @@ module _ (resolved : Resolved) (named : List Closed) (whole : IsWhole 1024 (Occu
       named-occurs : (k : ℕ) (x : Closed) → slice_get named k ≡ Some x → Occurs resolved x
       named-occurs k x e = (All-contains (OccursAs is_named resolved) named x whole.all.each (contains-from_get named k x e)).occurs
 
-  pub collecting-begins : (refs : List Closed) → Adds 64 [] (flat_map refs_in (asked_types resolved)) refs → IsCollecting resolved named 0 refs
+  pub collecting-begins : (refs : List Closed) → Adds ref_limit [] (flat_map refs_in (asked_types resolved)) refs → IsCollecting resolved named 0 refs
   collecting-begins refs a = record {
     occur = grown-occur OccursRef [] _ refs (λ c h. absurd (contains-nothing c h)) asked-occur a.grows;
     distinct = a.grows.distinct none-distinct;
@@ -50,10 +50,10 @@ module _ (resolved : Resolved) (named : List Closed) (whole : IsWhole 1024 (Occu
     parts = λ k c l e. absurd (omega (arith, l));
   }
 
-  pub collecting-overflows : Overflows 64 [] (flat_map refs_in (asked_types resolved)) → PassesRefs resolved
-  collecting-overflows o = more-than 64 OccursRef [] _ none-distinct (λ c h. absurd (contains-nothing c h)) asked-occur o
+  pub collecting-overflows : Overflows ref_limit [] (flat_map refs_in (asked_types resolved)) → PassesRefs resolved
+  collecting-overflows o = more-than ref_limit OccursRef [] _ none-distinct (λ c h. absurd (contains-nothing c h)) asked-occur o
 
-  pub collecting-step : (done : ℕ) (refs new : List Closed) (c : Closed) → IsCollecting resolved named done refs → slice_get named done ≡ Some c → Adds 64 refs (flat_map refs_in (parts_of resolved c)) new → IsCollecting resolved named (done + 1) new
+  pub collecting-step : (done : ℕ) (refs new : List Closed) (c : Closed) → IsCollecting resolved named done refs → slice_get named done ≡ Some c → Adds ref_limit refs (flat_map refs_in (parts_of resolved c)) new → IsCollecting resolved named (done + 1) new
   collecting-step done refs new c s at a =
       let old = grows-old refs _ new a.grows in
       record {
@@ -71,10 +71,10 @@ module _ (resolved : Resolved) (named : List Closed) (whole : IsWhole 1024 (Occu
             (below-or-last k done l);
       }
 
-  pub collecting-passes : (done : ℕ) (refs : List Closed) (c : Closed) → IsCollecting resolved named done refs → slice_get named done ≡ Some c → Overflows 64 refs (flat_map refs_in (parts_of resolved c)) → PassesRefs resolved
-  collecting-passes done refs c s at o = more-than 64 OccursRef refs _ s.distinct s.occur (parts-occur done c at) o
+  pub collecting-passes : (done : ℕ) (refs : List Closed) (c : Closed) → IsCollecting resolved named done refs → slice_get named done ≡ Some c → Overflows ref_limit refs (flat_map refs_in (parts_of resolved c)) → PassesRefs resolved
+  collecting-passes done refs c s at o = more-than ref_limit OccursRef refs _ s.distinct s.occur (parts-occur done c at) o
 
-  pub collecting-ends : (done : ℕ) (refs : List Closed) → IsCollecting resolved named done refs → length named ≤ done → IsWhole 64 OccursRef refs
+  pub collecting-ends : (done : ℕ) (refs : List Closed) → IsCollecting resolved named done refs → length named ≤ done → IsWhole ref_limit OccursRef refs
   collecting-ends done refs s over =
       let held = all-held resolved is_ref refs s.asked (λ c o t h.
       let (k, l, e) = contains-at named c (whole.all.complete c (record { of_kind = t; occurs = o })) in
@@ -89,7 +89,7 @@ module _ (resolved : Resolved) (named : List Closed) (whole : IsWhole 1024 (Occu
       }
 
   -- why the search ends early
-  pub collecting-stops : (old xs mid : List Closed) (why : Stop) → (Overflows 64 old xs → PassesRefs resolved) → Adding 64 old xs mid (Err why) → FindsRefs resolved (Err why)
+  pub collecting-stops : (old xs mid : List Closed) (why : Stop) → (Overflows ref_limit old xs → PassesRefs resolved) → Adding ref_limit old xs mid (Err why) → FindsRefs resolved (Err why)
   collecting-stops old xs mid stop.Full passes a = passes a
   collecting-stops old xs mid stop.Memory passes a = tt
 

@@ -10,7 +10,7 @@ use Rattle.tm_names.specs.declared.resolved.Resolved.{Resolved}
 use Rattle.tm_ground.specs.declared.written.Head.TheVariants as head
 use Rattle.tm_ground.specs.Closed.{Closed, prim, never, tuple, array, nonzero, wrap, named, ref, region_of, put_in, put_in_all, put_in_first}
 use Rattle.tm_ground.specs.Depths.{deep_within, flag_in, flag_at, passes_by, row_by, AreDepths}
-use Rattle.tm_ground.specs.Limits.{depth_passes}
+use Rattle.tm_ground.specs.Limits.{depth_passes, depth_limit}
 use Rattle.tm_ground.specs.Occurs.{is_holding, listed, all_fields, written_fields, parts_held, parts_in}
 use Rattle.tm_ground.specs.Written.{head_of, written_in}
 use Rattle.tm_ground.proofs.WrittenLemmas.{flat_map-drop, written_in-parts}
@@ -133,8 +133,8 @@ all_fields-each regions [] = refl
 all_fields-each regions (ts ∷ variants) = ap (λ others. map (put_in regions) ts ++ others) (all_fields-each regions variants)
 
 -- a type is too deep, or one that is written in its parts
-pub deep-parts : (tables : List (List Bool)) (c : Closed) → deep_within tables c ≡ (passes_by tables 64 c || list_any (deep_within tables) (parts_in c))
-deep-parts tables c = ap (list_any (passes_by tables 64)) (written_in-parts c) ∙ ap (λ r. passes_by tables 64 c || r) (any-flat_map (passes_by tables 64) written_in (parts_in c))
+pub deep-parts : (tables : List (List Bool)) (c : Closed) → deep_within tables c ≡ (passes_by tables depth_limit c || list_any (deep_within tables) (parts_in c))
+deep-parts tables c = ap (list_any (passes_by tables depth_limit)) (written_in-parts c) ∙ ap (λ r. passes_by tables depth_limit c || r) (any-flat_map (passes_by tables depth_limit) written_in (parts_in c))
 
 -- a loop that looks for an item that passes, where what is left has one exactly where all have
 module _ {X : Type 0} (p : Closed → Bool) (f : X → List Closed) (xs : List X) (i : ℕ) (all : Bool)

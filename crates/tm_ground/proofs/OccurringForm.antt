@@ -7,6 +7,8 @@ use Rattle.std.proofs.lemmas.List.Elements.{All-contains, Contains-append_left, 
 use Rattle.std.proofs.lemmas.List.Sums.{AllPass-from_list_all}
 use Rattle.tm_base.specs.declared.definition.DefId.{DefId}
 use Rattle.tm_base.specs.declared.definition.RegionId.{RegionId}
+use Rattle.tm_base.specs.declared.limit.LimitKind.TheVariants.{TypeNodes}
+use Rattle.tm_base.specs.Limits.{limit_number}
 use Rattle.tm_names.specs.declared.resolved.Open.{Open}
 use Rattle.tm_names.specs.declared.resolved.OpenAsk.{OpenAsk}
 use Rattle.tm_names.specs.declared.resolved.Resolved.{Resolved}
@@ -79,7 +81,7 @@ module _ (resolved : Resolved) where
   -- its numbers are known, and it is short
   pub record IsFormed (c : Closed) : Type 0 where
     pub known : is_known (length resolved.defs) (length resolved.regions) c ≡ true
-    pub short : node_count c ≤ 64
+    pub short : node_count c ≤ limit_number TypeNodes
 
   part-formed : (c d : Closed) → IsFormed c → Contains (parts_in c) d → IsFormed d
   part-formed c d f i = record {
@@ -97,7 +99,7 @@ module _ (resolved : Resolved) where
     put_in-formed rs ts c regions i each =
         let (t, e, j) = from-map (put_in rs) ts c i in
         let heads = first _ _ (each t j) in
-        let few = leb-true (length (written t)) 64 (second (list_all (is_head_known (length resolved.defs) (length resolved.regions)) (written t)) _ (each t j)) in
+        let few = leb-true (length (written t)) (limit_number TypeNodes) (second (list_all (is_head_known (length resolved.defs) (length resolved.regions)) (written t)) _ (each t j)) in
         let known = put_in-known (length resolved.defs) (length resolved.regions) (lt-ltb 0 (length resolved.regions) form.some_region) rs regions t heads in
         subst IsFormed e (record { known = known; short = omega (arith, few, count-written rs t) })
 

@@ -19,7 +19,7 @@ use Rattle.tm_ground.specs.ClosedTexts.{closed_text, type_of_texted, AreInOrder,
 use Rattle.tm_ground.specs.Closing.{AreWhole}
 use Rattle.tm_names.specs.InForm.{IsInForm}
 use Rattle.tm_ground.specs.Keys.{closed_types}
-use Rattle.tm_ground.specs.Limits.{is_ref, OccursAs}
+use Rattle.tm_ground.specs.Limits.{is_ref, OccursAs, ref_limit}
 use Rattle.tm_ground.specs.Rows.{IsWorldOf}
 use Rattle.tm_ground.proofs.KeyLemmas.{get-within}
 use Rattle.tm_ground.proofs.NumberLemmas.{contains-map}
@@ -68,7 +68,7 @@ pub ordered-whole : (resolved : Resolved) (types : List Closed) (ts : List Open)
 ordered-whole resolved types ts all sorted ordered whole h p e =
     let same : closed_types ordered ≡ map type_of_texted sorted = ap closed_types e ∙ types-without sorted in
     let moved : IsPermutation (closed_types ts) (closed_types ordered) = rw (sym h, same) (IsPermutation-map type_of_texted all sorted p) in
-    record { rows = whole.rows; refs = whole-again 64 (OccursAs is_ref resolved) (closed_types ts) (closed_types ordered) moved whole.refs }
+    record { rows = whole.rows; refs = whole-again ref_limit (OccursAs is_ref resolved) (closed_types ts) (closed_types ordered) moved whole.refs }
 
 -- sorted by their texts they are in order
 pub ordered-sorted : (resolved : Resolved) (all sorted : List Texted) (ordered : List Open) → All (HasItsText resolved) all → IsPermutation all sorted → IsSortedByKey (λ (texted : Texted). texted.text) (slice_cmp nat_cmp) sorted → ordered ≡ map (λ texted. texted.written) sorted → AreInOrder resolved (closed_types ordered)

@@ -1,7 +1,7 @@
 -- The texts of types by their pieces, and what the front of a text tells of the rest.
 use Rattle.std.proofs.Common.{◌≡◌, ℕ, ◌==◌, Bool, false, true≢false, if◌then◌else◌, refl, ap, subst, ◌∙◌, List, [], ◌∷◌, ◌++◌, append_assoc}
 use Rattle.std.specs.Prelude.{codes}
-use Rattle.tm_base.specs.Texts.{applied, separated, tuple_text}
+use Rattle.tm_base.specs.Texts.{applied, behind_commas, separated, tuple_text}
 use Rattle.tm_ground.proofs.WordLemmas.{EndsType}
 
 pub tail-same : {a b : ℕ} {xs ys : List ℕ} → a ∷ xs ≡ b ∷ ys → xs ≡ ys
@@ -36,10 +36,12 @@ abbrev pub behind : List (List ℕ) → List ℕ → List ℕ
 behind [] end = end
 behind (t ∷ ts) end = 44 ∷ 32 ∷ (t ++ behind ts end)
 
+commas-behind : (ts : List (List ℕ)) (end : List ℕ) → behind_commas ts ++ end ≡ behind ts end
+commas-behind [] end = refl
+commas-behind (t ∷ ts) end = ap (λ xs. 44 ∷ 32 ∷ xs) (append_assoc t (behind_commas ts) end ∙ ap (λ xs. t ++ xs) (commas-behind ts end))
+
 pub separated-behind : (t : List ℕ) (ts : List (List ℕ)) (end : List ℕ) → separated (t ∷ ts) ++ end ≡ t ++ behind ts end
-separated-behind t [] end = refl
-separated-behind t (u ∷ us) end =
-    append_assoc (t ++ codes ", ") (separated (u ∷ us)) end ∙ append_assoc t (codes ", ") _ ∙ ap (λ xs. t ++ (44 ∷ 32 ∷ xs)) (separated-behind u us end)
+separated-behind t ts end = append_assoc t (behind_commas ts) end ∙ ap (λ xs. t ++ xs) (commas-behind ts end)
 
 pub applied-text : (name argument r : List ℕ) → applied name argument ++ r ≡ name ++ (60 ∷ (argument ++ (62 ∷ r)))
 applied-text name argument r = simp append_assoc

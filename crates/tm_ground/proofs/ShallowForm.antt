@@ -61,9 +61,9 @@ module _ (resolved : Resolved) (types refs : List Closed) (rows : List NamedRow)
     (typed : (c : Closed) (row : NamedRow) → Contains types c → IsNamedRow types refs resolved c row → is_row_of (slice_get resolved.defs row.def.0) row ≡ true)
     (has_type : (i : ℕ) (c : Closed) → slice_get types i ≡ Some c → Contains types c) where
   -- what is said of the parts of a type, up to one level less
-  module _ (n : ℕ) (below : (c : Closed) (g : Ground) → Occurs resolved c → IsNumbered types refs c g → depth_passes resolved n c ≡ false → IsWholeType (expanded_within n resolved.defs rows g)) where
+  module _ (n : ℕ) (below : (c : Closed) (g : Ground) → Occurs resolved c → IsNumbered types refs c g → depth_passes resolved n c ≡ false → IsWholeType (expanded_within resolved.profile n resolved.defs rows g)) where
     abbrev part : Ground → Expanded
-    part = expanded_within n resolved.defs rows
+    part = expanded_within resolved.profile n resolved.defs rows
 
     elements-whole : (cs : Elements) (gs : List Ground) → EachNumbered types refs cs gs → ((d : Closed) → Contains (listed cs) d → Occurs resolved d) → list_any (depth_passes resolved n) (listed cs) ≡ false → some_field is_too_deep (elements part gs) ≡ false
     unfolding some_part IsNumbered
@@ -92,7 +92,7 @@ module _ (resolved : Resolved) (types refs : List Closed) (rows : List NamedRow)
         (fields-whole v.fields cs g same z.0 (λ d i. o d (Contains-append_left cs _ d i)) (first-false _ _ split))
         (variants-whole vs css gs (second (length v.fields == length g) _ h) z.1 (λ d i. o d (Contains-append_right cs _ d i)) (second-false (list_any (depth_passes resolved n) cs) _ split))
 
-  pub whole-at : (n : ℕ) (c : Closed) (g : Ground) → Occurs resolved c → IsNumbered types refs c g → depth_passes resolved n c ≡ false → IsWholeType (expanded_within n resolved.defs rows g)
+  pub whole-at : (n : ℕ) (c : Closed) (g : Ground) → Occurs resolved c → IsNumbered types refs c g → depth_passes resolved n c ≡ false → IsWholeType (expanded_within resolved.profile n resolved.defs rows g)
   unfolding expanded_within some_part depth_passes IsNumbered
   whole-at zero c g o h e = absurd (true≢false e)
   whole-at (suc n) (prim p) g o h e = rw (h, ground_is.outs-Prim p) refl
@@ -104,7 +104,7 @@ module _ (resolved : Resolved) (types refs : List Closed) (rows : List NamedRow)
       rw (s, ground_is.outs-Array x k) (whole-at n c x (is_part (array c k) c o (contains-first c [])) a (first-false _ _ e))
   whole-at (suc n) (nonzero p) g o h e = rw (h, ground_is.outs-NonZero p) refl
   whole-at (suc n) (wrap w c) g o (x, s, a) e =
-      rw (s, ground_is.outs-Wrap w x) (wrapped-whole (expanded_within n resolved.defs rows) w x (λ b. whole-at n c x (is_part (wrap w c) c o (contains-first c [])) a (held-shallow (depth_passes resolved n) (is_holding w) c e b)))
+      rw (s, ground_is.outs-Wrap w x) (wrapped-whole (expanded_within resolved.profile n resolved.defs rows) w x (λ b. whole-at n c x (is_part (wrap w c) c o (contains-first c [])) a (held-shallow (depth_passes resolved n) (is_holding w) c e b)))
   whole-at (suc n) (named def rs) g o (id, s, at) e =
       let (row, found, r) = zip-get (IsNamedRow types refs resolved) types rows id.0 (named def rs) of_rows at in
       let (d, is, fit) = row-of-some (slice_get resolved.defs row.def.0) row (typed (named def rs) row (has_type id.0 (named def rs) at) r) in

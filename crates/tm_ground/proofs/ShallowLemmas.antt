@@ -8,7 +8,7 @@ use Rattle.tm_ground.specs.Closed.{Closed}
 use Rattle.tm_ground.specs.Closing.{IsWhole}
 use Rattle.tm_ground.specs.Depths.{deep_within, AreDepths}
 use Rattle.tm_ground.specs.Growing.{IsWithin}
-use Rattle.tm_ground.specs.Limits.{depth_passes, is_named, OccursAs, PassesDepth}
+use Rattle.tm_ground.specs.Limits.{depth_passes, is_named, OccursAs, PassesDepth, type_limit, depth_limit}
 use Rattle.tm_ground.specs.Occurs.{parts_of, asked_types, Occurs, is_asked, is_part}
 use Rattle.tm_ground.specs.Written.{written_in}
 use Rattle.tm_ground.proofs.ContainsLemmas.{contains-nothing, contains-cons, contains-first, contains-behind, contains-filter, contains-flat_map, contains-at}
@@ -37,12 +37,12 @@ any-true p (y ∷ ys) x h e = ⊎_elim (λ s. here (ap p s ∙ e)) (λ i. there 
 abbrev pub IsShallow : Resolved → List (List Bool) → List Closed → ℕ → Type 0
 IsShallow resolved tables named done = (k : ℕ) (c : Closed) → k < done → slice_get named k ≡ Some c → list_any (deep_within tables) (parts_of resolved c) ≡ false
 
-module _ (resolved : Resolved) (tables : List (List Bool)) (exact : AreDepths resolved 64 tables) where
+module _ (resolved : Resolved) (tables : List (List Bool)) (exact : AreDepths resolved depth_limit tables) where
   abbrev deep : Closed → Bool
-  deep = depth_passes resolved 64
+  deep = depth_passes resolved depth_limit
 
   deep-exact : (c : Closed) → deep_within tables c ≡ list_any deep (written_in c)
-  deep-exact c = list_any-agree _ deep (passes-exact resolved 64 tables exact 64 (omega arith)) (written_in c)
+  deep-exact c = list_any-agree _ deep (passes-exact resolved depth_limit tables exact depth_limit (omega arith)) (written_in c)
 
   -- some type that is written in types that occur is too deep
   pub found-deep : (cs : List Closed) → ((c : Closed) → Contains cs c → Occurs resolved c) → list_any (deep_within tables) cs ≡ true → PassesDepth resolved
@@ -60,7 +60,7 @@ module _ (resolved : Resolved) (tables : List (List Bool)) (exact : AreDepths re
         absurd (true≢false (sym (any-true (deep_within tables) cs c j here) ∙ h));
   }
 
-  module _ (named : List Closed) (whole : IsWhole 1024 (OccursAs is_named resolved) named) where
+  module _ (named : List Closed) (whole : IsWhole type_limit (OccursAs is_named resolved) named) where
     pub asked-deep : list_any (deep_within tables) (asked_types resolved) ≡ true → PassesDepth resolved
     asked-deep = found-deep (asked_types resolved) (λ c h. is_asked c h)
 

@@ -15,8 +15,11 @@ use Rattle.tm_base.specs.declared.ground.Ground.TheVariants as level
 use Rattle.tm_base.specs.declared.ground.Wrapper.{Wrapper}
 use Rattle.tm_base.specs.declared.ground.Wrapper.TheVariants as wrapper
 use Rattle.tm_base.specs.declared.world.World.{World}
+use Rattle.tm_base.specs.declared.limit.LimitKind.TheVariants.{TypeNodes}
+use Rattle.tm_base.specs.Limits.{limit_number}
 use Rattle.tm_base.specs.Answers.{NoSharedTexts, side_type}
 use Rattle.tm_base.specs.Reaches.{ChainIn, Enters, Reaches, argument_of, parts_within, pointees_within, row_parts, row_pointee}
+use Rattle.tm_base.specs.Spelled.{following_limit}
 use Rattle.tm_base.specs.Texts.{text_of}
 use Rattle.tm_base.specs.Whole.{AreDistinct}
 use Rattle.tm_base.specs.Worlds.{tables_of}
@@ -91,8 +94,8 @@ module _ (resolved : Resolved) (world : World) (b : BelongsToFile resolved world
   text = text_of (tables_of world)
 
   -- a type by its numbers has its closed type's text
-  pub text-stands : (c : Closed) (g : Ground) → Stands c g → node_count c ≤ 64 → text g ≡ closed_text resolved c
-  text-stands c g h l = rw (b.defs, b.regions) (text-within resolved world.bounds world.named world.refs 64 c g h l)
+  pub text-stands : (c : Closed) (g : Ground) → Stands c g → node_count c ≤ limit_number TypeNodes → text g ≡ closed_text resolved c
+  text-stands c g h l = rw (b.profile, b.defs, b.regions) (text-within resolved world.bounds world.named world.refs b.no_args following_limit c g h (omega (arith, l)))
 
   one-ref : (r s : ℕ) → r < length world.refs → s < length world.refs → text (ground_is.Ref (record { 0 = r })) ≡ text (ground_is.Ref (record { 0 = s })) → r ≡ s
   one-ref r s k l e =
@@ -104,7 +107,7 @@ module _ (resolved : Resolved) (world : World) (b : BelongsToFile resolved world
   mutual
     unfolding StandsFor node_count
 
-    one-ground : (c : Closed) (g h : Ground) → Stands c g → Stands c h → node_count c ≤ 64 → g ≡ h
+    one-ground : (c : Closed) (g h : Ground) → Stands c g → Stands c h → node_count c ≤ limit_number TypeNodes → g ≡ h
     one-ground (prim p) g h x y l = x ∙ sym y
     one-ground never g h x y l = x ∙ sym y
     one-ground (tuple no_elements) g h x y l = x ∙ sym y
@@ -124,7 +127,7 @@ module _ (resolved : Resolved) (world : World) (b : BelongsToFile resolved world
         let same = one-ref r.0 s.0 (get_or-from_get world.refs r.0 row at).0 (get_or-from_get world.refs s.0 other there).0 (ap text (sym e) ∙ first ∙ sym second ∙ ap text f) in
         e ∙ ap (λ n. ground_is.Ref (record { 0 = n })) same ∙ sym f
 
-    all-ground : (cs : Elements) (gs hs : List Ground) → EachStandsFor world.named world.refs cs gs → EachStandsFor world.named world.refs cs hs → node_total cs ≤ 64 → gs ≡ hs
+    all-ground : (cs : Elements) (gs hs : List Ground) → EachStandsFor world.named world.refs cs gs → EachStandsFor world.named world.refs cs hs → node_total cs ≤ limit_number TypeNodes → gs ≡ hs
     all-ground no_elements gs hs x y l = x ∙ sym y
     all-ground (element c cs) [] hs x y l = absurd x
     all-ground (element c cs) (g ∷ gs) [] x y l = absurd y

@@ -1,6 +1,7 @@
 -- A type with its numbers stands for the closed type, where rows are of the lists.
-use Rattle.std.proofs.Common.{◌≡◌, ℕ, zero, suc, Bool, refl, sym, subst, List, [], ◌∷◌, Some, slice_get}
+use Rattle.std.proofs.Common.{◌≡◌, ℕ, zero, suc, Bool, refl, sym, subst, List, [], ◌∷◌, length, All, Some, slice_get, arith}
 use Rattle.std.specs.List.{AllZip}
+use Rattle.std.proofs.lemmas.List.Elements.{All-cons}
 use Rattle.tm_base.specs.declared.definition.NamedRow.{NamedRow}
 use Rattle.tm_base.specs.declared.definition.RefRow.{RefRow}
 use Rattle.tm_base.specs.declared.definition.RegionId.{RegionId}
@@ -19,6 +20,13 @@ zip-get R (a ∷ xs) (b ∷ ys) zero x h e =
     let same : a ≡ x = cc in
     (b, refl, subst (λ z. R z b) same h.0)
 zip-get R (a ∷ xs) (b ∷ ys) (suc i) x h e = zip-get R xs ys i x h.1 e
+
+-- what holds of each pair makes a fact hold of each second item
+pub zip-second : {A B : Type 0} (R : A → B → Type 0) (P : B → Type 0) → ((a : A) (b : B) → R a b → P b) → (xs : List A) (ys : List B) → AllZip R xs ys → All P ys
+zip-second R P f [] [] h = λ k d l. absurd (omega (arith, l))
+zip-second R P f [] (y ∷ ys) h = absurd h
+zip-second R P f (x ∷ xs) [] h = absurd h
+zip-second R P f (x ∷ xs) (y ∷ ys) h = All-cons P y ys (f x y h.0) (zip-second R P f xs ys h.1)
 
 module _ (resolved : Resolved) (types refs : List Closed) (rows : List NamedRow) (ref_rows : List RefRow)
     (of_rows : AllZip (IsNamedRow types refs resolved) types rows) (of_refs : AllZip (IsRefRow types refs) refs ref_rows) where

@@ -14,6 +14,7 @@ use Rattle.tm_base.specs.declared.ground.Ground as ground_is
 use Rattle.tm_base.specs.declared.cell.RefId.{RefId}
 use Rattle.tm_base.specs.declared.ground.NamedId.{NamedId}
 use Rattle.tm_base.specs.declared.ground.Primitive.{Primitive}
+use Rattle.tm_base.specs.Spelled.{following_limit}
 use Rattle.tm_base.specs.Whole.{AreDistinct, written_types, is_type_in_form, are_types_in_form}
 use Rattle.tm_base.proofs.GroundLemmas.{written_types-Tuple, written_types-Array, written_types-Wrap}
 use Rattle.tm_names.specs.declared.resolved.OpenAsk.{OpenAsk}
@@ -22,7 +23,7 @@ use Rattle.tm_ground.specs.Belongs.{type_of_row}
 use Rattle.tm_ground.specs.Closed.{Closed, Elements, prim, never, tuple, array, nonzero, wrap, named, ref, no_elements, element, put_in}
 use Rattle.tm_ground.specs.Closing.{AreWhole}
 use Rattle.tm_names.specs.InForm.{IsInForm}
-use Rattle.tm_ground.specs.Limits.{is_named, is_ref, OccursAs, depth_passes, PassesDepth}
+use Rattle.tm_ground.specs.Limits.{is_named, is_ref, OccursAs, depth_passes, PassesDepth, depth_limit}
 use Rattle.tm_ground.specs.Numbered.{IsNumbered, EachNumbered}
 use Rattle.tm_ground.specs.Occurs.{listed, field_types, sides_of, asked_in, Occurs, is_asked, is_part}
 use Rattle.tm_ground.specs.Rows.{IsNamedRow, IsRefRow, IsAsk}
@@ -71,23 +72,23 @@ module _ (resolved : Resolved) (form : IsInForm resolved) (types refs : List Clo
     (rows : List NamedRow) (ref_rows : List RefRow) (asks : List Ask)
     (of_rows : AllZip (IsNamedRow types refs resolved) types rows) (of_refs : AllZip (IsRefRow types refs) refs ref_rows)
     (of_asks : AllZip (IsAsk types refs) resolved.asks asks) where
-  not-deep : (c : Closed) → Occurs resolved c → depth_passes resolved 64 c ≡ false
-  not-deep c o = by (depth_passes resolved 64 c) refl
+  not-deep : (c : Closed) → Occurs resolved c → depth_passes resolved depth_limit c ≡ false
+  not-deep c o = by (depth_passes resolved depth_limit c) refl
     where
-      by : (b : Bool) → depth_passes resolved 64 c ≡ b → b ≡ false
+      by : (b : Bool) → depth_passes resolved depth_limit c ≡ b → b ≡ false
       by true e = absurd (shallow (record { deepest = c; occurs = o; passes = e }))
       by false e = refl
 
   abbrev passes : Ground → Bool
-  passes = is_type_in_form resolved.defs rows ref_rows
+  passes = is_type_in_form resolved.profile resolved.defs rows ref_rows
 
   type-passes : (c : Closed) (g : Ground) → Occurs resolved c → IsNumbered types refs c g → passes g ≡ true
   type-passes c g o h =
       let formed = occurring-formed resolved form c o in
       let head = head-in_form types refs (length resolved.defs) (length resolved.regions) c g h formed.known in
       let typed = row-in_form resolved form types refs whole rows ref_rows of_rows of_refs in
-      let deep = whole-at resolved types refs rows of_rows typed (contains-from_get types) 64 c g o h (not-deep c o) in
-      and_from _ _ (and_from _ _ (rw (AllZip-long _ types rows of_rows, AllZip-long _ refs ref_rows of_refs) head) (ap not deep)) (ends-all types refs ref_rows of_refs 64 c g h formed.short)
+      let deep = whole-at resolved types refs rows of_rows typed (contains-from_get types) depth_limit c g o h (not-deep c o) in
+      and_from _ _ (and_from _ _ (rw (AllZip-long _ types rows of_rows, AllZip-long _ refs ref_rows of_refs) head) (ap not deep)) (ends-all resolved types refs rows ref_rows of_rows of_refs following_limit c g h (let short = formed.short in omega (arith, short)))
 
   abbrev pass_all : Ground → Bool
   pass_all g = list_all passes (written_types g)
@@ -158,19 +159,23 @@ module _ (resolved : Resolved) (form : IsInForm resolved) (types refs : List Clo
       let o = All-contains (OccursAs is_named resolved) types x whole.rows.all.each (contains-from_get types k x at) in
       type-passes x (ground_is.Named (record { 0 = k })) o.occurs (name-numbered x k o.of_kind at)
 
-  pub types-in_form : are_types_in_form resolved.defs rows ref_rows asks ≡ true
+  pub types-in_form : are_types_in_form resolved.profile resolved.defs rows ref_rows asks ≡ true
   unfolding are_types_in_form
   types-in_form =
       let names = list_all-map passes (λ k. ground_is.Named (record { 0 = k })) (range_with_len 0 (length rows)) ∙ all-range _ 0 (length rows) (λ k l. name-passes k (omega (arith, l))) in
+      let args = all-flat_map pass_all (λ (row : NamedRow). row.args) rows ∙ zip-all _ _ types rows of_rows (λ c row i r. ap (list_all pass_all) r.args) in
       let fields = all-flat_map pass_all (λ (row : NamedRow). flat_map (λ ts. ts) row.types) rows ∙ zip-all _ _ types rows of_rows row-passes in
       let pointees = list_all-map pass_all (λ (row : RefRow). row.pointee) ref_rows ∙ zip-all _ _ refs ref_rows of_refs ref-passes in
       let sides = asks-pass resolved.asks asks of_asks (λ d i. is_asked d i) in
+      let a = flat_map (λ (row : NamedRow). row.args) rows in
       let f = flat_map (λ (row : NamedRow). flat_map (λ ts. ts) row.types) rows in
       let p = map (λ (row : RefRow). row.pointee) ref_rows in
       let s = flat_map (λ (ask : Ask). ask.src ∷ ask.dst ∷ []) asks in
       let n = map (λ k. ground_is.Named (record { 0 = k })) (range_with_len 0 (length rows)) in
-      list_all-append passes n (flat_map written_types (f ++ p ++ s))
-      ∙ and_from _ _ names (all-flat_map passes written_types (f ++ p ++ s) ∙ list_all-append pass_all (f ++ p) s ∙ and_from _ _ (list_all-append pass_all f p ∙ and_from _ _ fields pointees) sides)
+      list_all-append passes n (flat_map written_types (a ++ f ++ p ++ s))
+      ∙ and_from _ _ names (all-flat_map passes written_types (a ++ f ++ p ++ s)
+      ∙ list_all-append pass_all (a ++ f ++ p) s
+      ∙ and_from _ _ (list_all-append pass_all (a ++ f) p ∙ and_from _ _ (list_all-append pass_all a f ∙ and_from _ _ args fields) pointees) sides)
 
   -- no reference row is twice
   pub ref-rows-distinct : AreDistinct ref_rows

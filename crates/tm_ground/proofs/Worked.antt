@@ -13,6 +13,7 @@ use Rattle.tm_base.specs.declared.definition.RegionId.{RegionId}
 use Rattle.tm_base.specs.declared.ground.Ground as ground_is
 use Rattle.tm_base.specs.declared.ground.Primitive.TheVariants as primitive
 use Rattle.tm_base.specs.declared.ground.Wrapper.TheVariants as wrapper
+use Rattle.tm_base.specs.declared.profile.Profile.TheVariants.{Le64}
 use Rattle.tm_names.specs.declared.resolved.Life.TheVariants as life
 use Rattle.tm_names.specs.declared.resolved.Open.{Prim, Tuple, Array, Wrap, Named, Ref}
 use Rattle.tm_names.specs.declared.resolved.Open.TheBlock.{shape-the_row-Open-1, hidden-the_row-Open-1}
@@ -31,6 +32,7 @@ region_a = record { 0 = 1 }
 
 abbrev file : Resolved
 file = record {
+  profile = Le64;
   defs = [];
   types = ((Ref (life.Param 0) false (Named node (life.Param 0 ∷ [])) ∷ Wrap wrapper.PhantomData (Tuple (Prim primitive.U8 ∷ [])) ∷ []) ∷ []) ∷ [];
   regions = [];
@@ -77,7 +79,7 @@ not_deeper = refl
 
 -- the first named row and the first reference row stand for the two types
 abbrev row : NamedRow
-row = record { def = node; regions = region_a ∷ []; types = [] }
+row = record { def = node; regions = region_a ∷ []; args = []; types = [] }
 
 abbrev ref_row : RefRow
 ref_row = record { mutable = false; region = region_a; pointee = ground_is.Named (record { 0 = 0 }) }

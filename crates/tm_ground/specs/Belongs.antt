@@ -1,4 +1,4 @@
--- When a world belongs to a file.
+-- When a world belongs to a file and a profile.
 use Rattle.std.specs.Prelude.{◌≡◌, ℕ, List, [], ◌∷◌, map, length, All, Contains, Some, slice_get, IsSorted}
 use Rattle.std.specs.Ordering.{nat_cmp}
 use Rattle.std.specs.Cmp.Lexicographic.{slice_cmp}
@@ -22,6 +22,10 @@ use Rattle.tm_ground.specs.Occurs.{field_types}
 -- the closed type that a named row is of
 abbrev pub type_of_row : NamedRow → Closed
 type_of_row row = named row.def row.regions
+
+-- a named row has no arguments
+abbrev pub HasNoArgs : NamedRow → Type 0
+HasNoArgs row = row.args ≡ []
 
 -- a type with numbers stands for a closed type, where these are the rows that numbers name
 module _ (rows : List NamedRow) (refs : List RefRow) where
@@ -71,12 +75,15 @@ module _ (resolved : Resolved) (world : World) where
   ref_texts = map (λ k. text_of (tables_of world) (Ref (record { 0 = k }))) (range_with_len 0 (length world.refs))
 
   pub record BelongsToFile : Type 0 where
+    pub profile : world.profile ≡ resolved.profile
     pub defs : world.defs ≡ resolved.defs
     pub regions : world.regions ≡ resolved.regions
     pub bounds : world.bounds ≡ resolved.bounds
     pub questions : AllZip IsQuestionOf resolved.asks world.questions
     -- the named rows are the named types that occur, in some order, each with its fields' types
     pub named : ListsAll (OccursAs is_named resolved) (map type_of_row world.named)
+    -- no definition has type parameters
+    pub no_args : All HasNoArgs world.named
     pub field_types : All HasItsTypes world.named
     -- the reference rows are the reference types that occur, in byte order of their texts
     pub ref_types : List Closed

@@ -10,7 +10,7 @@ use Rattle.tm_ground.specs.Closed.{Closed, Elements, prim, never, tuple, array, 
 
 -- what a file says of its types, before there are rows
 abbrev pub tables_of_file : Resolved → Tables
-tables_of_file resolved = record { defs = resolved.defs; regions = resolved.regions; bounds = resolved.bounds; named = []; refs = [] }
+tables_of_file resolved = record { profile = resolved.profile; defs = resolved.defs; regions = resolved.regions; bounds = resolved.bounds; named = []; refs = [] }
 
 module _ (resolved : Resolved) where
   -- a closed type as it is written, with its regions' names
@@ -22,7 +22,7 @@ module _ (resolved : Resolved) where
     closed_text (array c n) = codes "[" ++ closed_text c ++ codes "; " ++ decimal n ++ codes "]"
     closed_text (nonzero p) = applied (codes "NonZero") (prim_text p)
     closed_text (wrap w c) = applied (wrapper_text w) (closed_text c)
-    closed_text (named def regions) = def_text (tables_of_file resolved) regions (slice_get resolved.defs def.0)
+    closed_text (named def regions) = def_text (slice_get resolved.defs def.0) (map (region_text (tables_of_file resolved)) regions)
     closed_text (ref region mutable c) = codes "&" ++ region_text (tables_of_file resolved) region ++ (if mutable then codes " mut " else codes " ") ++ closed_text c
 
     pub closed_texts : Elements → List (List ℕ)

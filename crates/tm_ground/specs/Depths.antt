@@ -5,7 +5,7 @@ use Rattle.tm_base.specs.declared.definition.DefId.{DefId}
 use Rattle.tm_names.specs.declared.resolved.Open.{Open}
 use Rattle.tm_names.specs.declared.resolved.Resolved.{Resolved}
 use Rattle.tm_ground.specs.Closed.{Closed, named}
-use Rattle.tm_ground.specs.Limits.{depth_passes}
+use Rattle.tm_ground.specs.Limits.{depth_passes, depth_limit}
 use Rattle.tm_ground.specs.Occurs.{all_fields, parts_held}
 use Rattle.tm_ground.specs.Written.{written_in}
 
@@ -29,7 +29,7 @@ row_by tables n types = map (λ variants. list_any (passes_by tables n) (all_fie
 
 -- some type that is written in a type is deeper than a type may be
 abbrev pub deep_within : List (List Bool) → Closed → Bool
-deep_within tables c = list_any (passes_by tables 64) (written_in c)
+deep_within tables c = list_any (passes_by tables depth_limit) (written_in c)
 
 -- the first tables say what they should of the file's definitions
 pub record AreDepths (resolved : Resolved) (count : ℕ) (tables : List (List Bool)) : Type 0 where

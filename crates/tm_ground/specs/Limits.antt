@@ -1,7 +1,8 @@
--- The limits on the closed types of a file, and which of them a file passes. The numbers are this
--- project's.
+-- The limits on the closed types of a file, and which of them a file passes.
 use Rattle.std.specs.Prelude.{◌≡◌, ℕ, zero, suc, ◌+◌, Bool, true, false, IsTrue, List, length, All}
 use Rattle.std.specs.List.{list_any}
+use Rattle.tm_base.specs.declared.limit.LimitKind.TheVariants.{NamedTypes, References, Depth}
+use Rattle.tm_base.specs.Limits.{limit_number}
 use Rattle.tm_base.specs.Whole.{AreDistinct}
 use Rattle.tm_names.specs.declared.resolved.Resolved.{Resolved}
 use Rattle.tm_ground.specs.declared.fault.GroundErr.{GroundErr}
@@ -37,13 +38,13 @@ depth_passes resolved (suc n) c = list_any (depth_passes resolved n) (parts_by_v
 
 -- the limits, as far as their number goes
 abbrev pub type_limit : ℕ
-type_limit = 1024
+type_limit = limit_number NamedTypes
 
 abbrev pub ref_limit : ℕ
-ref_limit = 64
+ref_limit = limit_number References
 
 abbrev pub depth_limit : ℕ
-depth_limit = 64
+depth_limit = limit_number Depth
 
 -- more named types occur than may
 abbrev pub PassesTypes : Resolved → Type 0

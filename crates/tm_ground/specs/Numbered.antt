@@ -6,12 +6,13 @@ use Rattle.tm_base.specs.declared.ground.NamedId.{NamedId}
 use Rattle.tm_ground.specs.Closed.{Closed, Elements, prim, never, tuple, array, nonzero, wrap, named, ref, no_elements, element}
 use Rattle.tm_ground.specs.Growing.{IsWithin}
 use Rattle.tm_ground.specs.Written.{named_in, refs_in}
+use Rattle.tm_ground.specs.Limits.{type_limit, ref_limit}
 
 module _ (rows refs : List Closed) where
   -- the lists are short, and have the named types and the references that are written in a type
   pub record HasNumbers (c : Closed) : Type 0 where
-    pub few_rows : length rows ≤ 1024
-    pub few_refs : length refs ≤ 64
+    pub few_rows : length rows ≤ type_limit
+    pub few_refs : length refs ≤ ref_limit
     pub rows_within : IsWithin (named_in c) rows
     pub refs_within : IsWithin (refs_in c) refs
 

@@ -21,6 +21,7 @@ module _ (rows refs : List Closed) where
   -- the row of a named type
   pub record IsNamedRow (resolved : Resolved) (c : Closed) (row : NamedRow) : Type 0 where
     pub type : c ≡ type_of_row row
+    pub args : row.args ≡ []
     pub fields : AreFields (field_types resolved row.def row.regions) row.types
 
   -- the row of a reference type
@@ -37,6 +38,7 @@ module _ (rows refs : List Closed) where
 
 -- a world of the file whose named rows and reference rows are of these lists, in their order
 pub record IsWorldOf (resolved : Resolved) (rows refs : List Closed) (world : World) : Type 0 where
+  pub profile : world.profile ≡ resolved.profile
   pub defs : world.defs ≡ resolved.defs
   pub regions : world.regions ≡ resolved.regions
   pub bounds : world.bounds ≡ resolved.bounds

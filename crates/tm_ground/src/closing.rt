@@ -5,24 +5,22 @@ ghost use Rattle.tm_ground.specs.Depths.{deep_within, AreDepths};
 ghost use Rattle.tm_ground.specs.Closing.{FindsNamed, FindsRefs, IsWhole, TellsDepth};
 ghost use Rattle.tm_ground.specs.Growing.{Adding};
 ghost use Rattle.tm_ground.specs.Keys.{closed_types, named_types};
-ghost use Rattle.tm_ground.specs.Limits.{OccursAs, is_named};
+ghost use Rattle.tm_ground.specs.Limits.{OccursAs, is_named, type_limit, ref_limit, depth_limit};
 ghost use Rattle.tm_ground.specs.Occurs.{asked_in, fields_of, sides_of};
 ghost use Rattle.tm_ground.specs.Written.{named_in, refs_in};
 
 use crate::depth::{are_asks_deep, are_fields_deep, depth_tables};
 use crate::gathering::{add_named, add_refs, add_variants_named, add_variants_refs};
+use crate::limits::type_limit;
 use crate::named_set::NamedSet;
 use crate::stop::Stop;
 use std::alloc::Global;
 use tm_base::{DefId, List, Memory, RegionId};
 use tm_names::{Open, OpenAsk, Resolved};
 
-/// How many named types there may be.
-const TYPE_LIMIT: usize = 1024;
-
 /// Adds the named types that are written in the sides of a question.
 fn add_sides_named(alloc: Global, ask: &OpenAsk, found: &mut NamedSet) -> Result<(), Stop>
-    ensures { Adding 1024 (named_types found.old) (flat_map named_in (sides_of ask.now)) (named_types found.new) result }
+    ensures { Adding type_limit (named_types found.old) (flat_map named_in (sides_of ask.now)) (named_types found.new) result }
 {
     match add_named(alloc, &[], &ask.src, found) {
         Ok(()) => add_named(alloc, &[], &ask.dst, found),
@@ -32,7 +30,7 @@ fn add_sides_named(alloc: Global, ask: &OpenAsk, found: &mut NamedSet) -> Result
 
 /// Adds the named types that are written in the sides of questions.
 fn add_asked_named(alloc: Global, asks: &[OpenAsk], found: &mut NamedSet) -> Result<(), Stop>
-    ensures { Adding 1024 (named_types found.old) (flat_map named_in (asked_in asks.now)) (named_types found.new) result }
+    ensures { Adding type_limit (named_types found.old) (flat_map named_in (asked_in asks.now)) (named_types found.new) result }
 {
     for ask in asks {
         match add_sides_named(alloc, ask, found) {
@@ -51,7 +49,7 @@ fn add_fields_named(
     regions: &[RegionId],
     found: &mut NamedSet,
 ) -> Result<(), Stop>
-    ensures { Adding 1024 (named_types found.old) (flat_map named_in (fields_of resolved.now def regions.now)) (named_types found.new) result }
+    ensures { Adding type_limit (named_types found.old) (flat_map named_in (fields_of resolved.now def regions.now)) (named_types found.new) result }
 {
     match resolved.types.get(def.0 as usize) {
         Some(variants) => add_variants_named(alloc, regions, variants.as_slice(), found),
@@ -68,8 +66,7 @@ pub fn occurring_named(alloc: Global, resolved: &Resolved) -> Result<NamedSet, S
         Ok(()) => {}
         Err(stop) => return Err(stop),
     }
-    for place in 0..TYPE_LIMIT {
-        let _place = place;
+    for place in 0..type_limit() {
         let Ok(row) = found.get(alloc, place) else {
             return Err(Stop::Memory);
         };
@@ -87,7 +84,7 @@ pub fn occurring_named(alloc: Global, resolved: &Resolved) -> Result<NamedSet, S
 
 /// Adds the reference types that are written in the sides of a question.
 fn add_sides_refs(alloc: Global, ask: &OpenAsk, refs: &mut List<Open>) -> Result<(), Stop>
-    ensures { Adding 64 (closed_types refs.old) (flat_map refs_in (sides_of ask.now)) (closed_types refs.new) result }
+    ensures { Adding ref_limit (closed_types refs.old) (flat_map refs_in (sides_of ask.now)) (closed_types refs.new) result }
 {
     match add_refs(alloc, &[], &ask.src, refs) {
         Ok(()) => add_refs(alloc, &[], &ask.dst, refs),
@@ -97,7 +94,7 @@ fn add_sides_refs(alloc: Global, ask: &OpenAsk, refs: &mut List<Open>) -> Result
 
 /// Adds the reference types that are written in the sides of questions.
 fn add_asked_refs(alloc: Global, asks: &[OpenAsk], refs: &mut List<Open>) -> Result<(), Stop>
-    ensures { Adding 64 (closed_types refs.old) (flat_map refs_in (asked_in asks.now)) (closed_types refs.new) result }
+    ensures { Adding ref_limit (closed_types refs.old) (flat_map refs_in (asked_in asks.now)) (closed_types refs.new) result }
 {
     for ask in asks {
         match add_sides_refs(alloc, ask, refs) {
@@ -116,7 +113,7 @@ fn add_fields_refs(
     regions: &[RegionId],
     refs: &mut List<Open>,
 ) -> Result<(), Stop>
-    ensures { Adding 64 (closed_types refs.old) (flat_map refs_in (fields_of resolved.now def regions.now)) (closed_types refs.new) result }
+    ensures { Adding ref_limit (closed_types refs.old) (flat_map refs_in (fields_of resolved.now def regions.now)) (closed_types refs.new) result }
 {
     match resolved.types.get(def.0 as usize) {
         Some(variants) => add_variants_refs(alloc, regions, variants.as_slice(), refs),
@@ -130,7 +127,7 @@ pub fn occurring_refs(
     resolved: &Resolved,
     found: &NamedSet,
 ) -> Result<List<Open>, Stop>
-    requires { IsWhole 1024 (OccursAs is_named resolved.now) (named_types found.now) }
+    requires { IsWhole type_limit (OccursAs is_named resolved.now) (named_types found.now) }
     ensures { FindsRefs resolved.now result }
 {
     let mut refs = List::new(alloc);
@@ -138,8 +135,7 @@ pub fn occurring_refs(
         Ok(()) => {}
         Err(stop) => return Err(stop),
     }
-    for place in 0..TYPE_LIMIT {
-        let _place = place;
+    for place in 0..type_limit() {
         let Ok(row) = found.get(alloc, place) else {
             return Err(Stop::Memory);
         };
@@ -172,14 +168,14 @@ fn is_some_deep(
     resolved: &Resolved,
     found: &NamedSet,
 ) -> Result<bool, Memory>
-    requires exact { AreDepths resolved.now 64 tables.now }
-    requires whole { IsWhole 1024 (OccursAs is_named resolved.now) (named_types found.now) }
+    requires exact { AreDepths resolved.now depth_limit tables.now }
+    requires whole { IsWhole type_limit (OccursAs is_named resolved.now) (named_types found.now) }
     ensures { IfOk result (λ deep. TellsDepth resolved.now deep) }
 {
     if are_asks_deep(tables, resolved.asks.as_slice()) {
         return Ok(true);
     }
-    for place in 0..TYPE_LIMIT {
+    for place in 0..type_limit() {
         let Ok(row) = found.get(alloc, place) else {
             return Err(Memory);
         };
@@ -196,7 +192,7 @@ fn is_some_deep(
 
 /// Whether some type that occurs is deeper than a type may be, where these are the named ones that do.
 pub fn is_too_deep(alloc: Global, resolved: &Resolved, found: &NamedSet) -> Result<bool, Memory>
-    requires { IsWhole 1024 (OccursAs is_named resolved.now) (named_types found.now) }
+    requires { IsWhole type_limit (OccursAs is_named resolved.now) (named_types found.now) }
     ensures { IfOk result (λ deep. TellsDepth resolved.now deep) }
 {
     match depth_tables(alloc, resolved) {

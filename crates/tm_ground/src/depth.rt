@@ -4,14 +4,13 @@ ghost use Rattle.tm_base.specs.declared.definition.RegionId.{RegionId};
 ghost use Rattle.tm_ground.specs.Closed.{put_in};
 ghost use Rattle.tm_ground.specs.Depths.{deep_within, flag_at, passes_by, row_by, AreDepths};
 ghost use Rattle.tm_ground.specs.Occurs.{all_fields, asked_in};
+ghost use Rattle.tm_ground.specs.Limits.{depth_limit};
 
+use crate::limits::depth_limit;
 use crate::written::{Head, head_with, held, parts};
 use std::alloc::Global;
 use tm_base::{DefId, List, Memory};
 use tm_names::{Open, OpenAsk, Resolved};
-
-/// How deep by value a type may be.
-const DEPTH_LIMIT: usize = 64;
 
 /// What the table at a place says of a definition.
 fn flag(tables: &[List<bool>], place: usize, def: DefId) -> bool
@@ -84,10 +83,10 @@ fn make_row(
 /// For each number below the greatest depth, and each definition, whether its depth by value passes one
 /// more.
 pub fn depth_tables(alloc: Global, resolved: &Resolved) -> Result<List<List<bool>>, Memory>
-    ensures { IfOk result (λ tables. AreDepths resolved.now 64 tables) }
+    ensures { IfOk result (λ tables. AreDepths resolved.now depth_limit tables) }
 {
     let mut tables = List::new(alloc);
-    for number in 0..DEPTH_LIMIT {
+    for number in 0..depth_limit() {
         let Ok(row) = make_row(alloc, tables.as_slice(), number, resolved.types.as_slice()) else {
             return Err(Memory);
         };
@@ -103,7 +102,7 @@ pub fn depth_tables(alloc: Global, resolved: &Resolved) -> Result<List<List<bool
 fn is_deep(tables: &[List<bool>], written: &Open) -> bool
     ensures { (regions : List RegionId) → result ≡ deep_within tables.now (put_in regions written.now) }
 {
-    if passes(tables, DEPTH_LIMIT, written) {
+    if passes(tables, depth_limit(), written) {
         return true;
     }
     are_deep(tables, parts(written))

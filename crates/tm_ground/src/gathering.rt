@@ -4,6 +4,7 @@ ghost use Rattle.tm_ground.specs.Growing.{Adding};
 ghost use Rattle.tm_ground.specs.Occurs.{all_fields};
 ghost use Rattle.tm_ground.specs.Keys.{named_types, closed_types};
 ghost use Rattle.tm_ground.specs.Written.{own_named, own_ref, named_in, refs_in};
+ghost use Rattle.tm_ground.specs.Limits.{type_limit, ref_limit};
 
 use crate::named_set::NamedSet;
 use crate::refs::insert;
@@ -20,7 +21,7 @@ fn add_own_named(
     written: &Open,
     found: &mut NamedSet,
 ) -> Result<(), Stop>
-    ensures { Adding 1024 (named_types found.old) (own_named (put_in regions.now written.now)) (named_types found.new) result }
+    ensures { Adding type_limit (named_types found.old) (own_named (put_in regions.now written.now)) (named_types found.new) result }
 {
     match head_with(regions, written) {
         Head::Named(def) => found.insert(alloc, regions, def, lives(written)),
@@ -36,7 +37,7 @@ pub fn add_named(
     written: &Open,
     found: &mut NamedSet,
 ) -> Result<(), Stop>
-    ensures { Adding 1024 (named_types found.old) (named_in (put_in regions.now written.now)) (named_types found.new) result }
+    ensures { Adding type_limit (named_types found.old) (named_in (put_in regions.now written.now)) (named_types found.new) result }
 {
     match add_own_named(alloc, regions, written, found) {
         Ok(()) => add_all_named(alloc, regions, parts(written), found),
@@ -52,7 +53,7 @@ pub fn add_all_named(
     types: &[Open],
     found: &mut NamedSet,
 ) -> Result<(), Stop>
-    ensures { Adding 1024 (named_types found.old) (flat_map named_in (map (put_in regions.now) types.now)) (named_types found.new) result }
+    ensures { Adding type_limit (named_types found.old) (flat_map named_in (map (put_in regions.now) types.now)) (named_types found.new) result }
 {
     for item in types {
         match add_named(alloc, regions, item, found) {
@@ -70,7 +71,7 @@ pub fn add_variants_named(
     variants: &[List<Open>],
     found: &mut NamedSet,
 ) -> Result<(), Stop>
-    ensures { Adding 1024 (named_types found.old) (flat_map named_in (all_fields regions.now variants.now)) (named_types found.new) result }
+    ensures { Adding type_limit (named_types found.old) (flat_map named_in (all_fields regions.now variants.now)) (named_types found.new) result }
 {
     for types in variants {
         match add_all_named(alloc, regions, types.as_slice(), found) {
@@ -88,7 +89,7 @@ fn add_own_ref(
     written: &Open,
     refs: &mut List<Open>,
 ) -> Result<(), Stop>
-    ensures { Adding 64 (closed_types refs.old) (own_ref (put_in regions.now written.now)) (closed_types refs.new) result }
+    ensures { Adding ref_limit (closed_types refs.old) (own_ref (put_in regions.now written.now)) (closed_types refs.new) result }
 {
     match head_with(regions, written) {
         Head::Ref(_, _) => insert(alloc, refs, regions, written),
@@ -104,7 +105,7 @@ pub fn add_refs(
     written: &Open,
     refs: &mut List<Open>,
 ) -> Result<(), Stop>
-    ensures { Adding 64 (closed_types refs.old) (refs_in (put_in regions.now written.now)) (closed_types refs.new) result }
+    ensures { Adding ref_limit (closed_types refs.old) (refs_in (put_in regions.now written.now)) (closed_types refs.new) result }
 {
     match add_own_ref(alloc, regions, written, refs) {
         Ok(()) => add_all_refs(alloc, regions, parts(written), refs),
@@ -120,7 +121,7 @@ pub fn add_all_refs(
     types: &[Open],
     refs: &mut List<Open>,
 ) -> Result<(), Stop>
-    ensures { Adding 64 (closed_types refs.old) (flat_map refs_in (map (put_in regions.now) types.now)) (closed_types refs.new) result }
+    ensures { Adding ref_limit (closed_types refs.old) (flat_map refs_in (map (put_in regions.now) types.now)) (closed_types refs.new) result }
 {
     for item in types {
         match add_refs(alloc, regions, item, refs) {
@@ -138,7 +139,7 @@ pub fn add_variants_refs(
     variants: &[List<Open>],
     refs: &mut List<Open>,
 ) -> Result<(), Stop>
-    ensures { Adding 64 (closed_types refs.old) (flat_map refs_in (all_fields regions.now variants.now)) (closed_types refs.new) result }
+    ensures { Adding ref_limit (closed_types refs.old) (flat_map refs_in (all_fields regions.now variants.now)) (closed_types refs.new) result }
 {
     for types in variants {
         match add_all_refs(alloc, regions, types.as_slice(), refs) {

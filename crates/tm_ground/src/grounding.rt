@@ -13,8 +13,8 @@ use std::alloc::Global;
 use tm_base::World;
 use tm_names::Resolved;
 
-/// The world of a file: the definitions, the types that its questions lead to with their numbers, and
-/// the questions. A reference's number is its place in the byte order of the canonical texts.
+/// The world of a file and a profile: the definitions, the types that its questions lead to with their
+/// numbers, and the questions. A reference's number is its place in the byte order of the canonical texts.
 ///
 /// `TooManyTypes`: more than 1,024 named types occur. `TooManyRefs`: not so, and more than 64 reference
 /// types occur. `TooDeep`: neither, and some type that occurs is more than 64 types deep by value.

@@ -6,6 +6,7 @@ mod depth;
 mod fault;
 mod gathering;
 mod grounding;
+mod limits;
 mod named_set;
 mod numbering;
 mod ordering;

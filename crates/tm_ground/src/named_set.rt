@@ -2,16 +2,15 @@ ghost use Rattle.std.specs.Prelude.{◌≡◌, ◌∷◌, [], Some, map, length,
 ghost use Rattle.tm_ground.specs.Closed.{named, region_of};
 ghost use Rattle.tm_ground.specs.Growing.{Adding};
 ghost use Rattle.tm_ground.specs.Keys.{named_types, type_of_key};
+ghost use Rattle.tm_ground.specs.Limits.{type_limit};
 
+use crate::limits::type_limit;
 use crate::regions::region;
 use crate::stop::Stop;
 use indexmap::IndexSet;
 use std::alloc::Global;
 use tm_base::{DefId, List, Memory, RegionId};
 use tm_names::Life;
-
-/// How many named types there may be.
-const TYPE_LIMIT: usize = 1024;
 
 /// The number of a definition, and those of the regions for its parameters.
 #[derive(PartialEq, Eq, Hash, Debug, Drop)]
@@ -113,7 +112,7 @@ impl NamedSet {
         def: DefId,
         lives: &[Life],
     ) -> Result<(), Stop>
-        ensures { Adding 1024 (named_types self.old) (named def (map (region_of regions.now) lives.now) ∷ []) (named_types self.new) result }
+        ensures { Adding type_limit (named_types self.old) (named def (map (region_of regions.now) lives.now) ∷ []) (named_types self.new) result }
     {
         let Ok(key) = make_key(alloc, regions, def, lives) else {
             return Err(Stop::Memory);
@@ -122,7 +121,7 @@ impl NamedSet {
             Some(_) => return Ok(()),
             None => {}
         }
-        if self.keys.len() == TYPE_LIMIT {
+        if self.keys.len() == type_limit() {
             return Err(Stop::Full);
         }
         let Ok(_) = self.keys.insert(key) else {

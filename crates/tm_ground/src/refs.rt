@@ -2,16 +2,15 @@ ghost use Rattle.std.specs.Prelude.{◌≡◌, ◌∷◌, [], Some, Contains, If
 ghost use Rattle.tm_ground.specs.Closed.{put_in};
 ghost use Rattle.tm_ground.specs.Growing.{Adding};
 ghost use Rattle.tm_ground.specs.Keys.{closed_types};
+ghost use Rattle.tm_ground.specs.Limits.{ref_limit};
 
+use crate::limits::ref_limit;
 use crate::regions::fixed;
 use crate::same::is_same;
 use crate::stop::Stop;
 use std::alloc::Global;
 use tm_base::{List, RegionId};
 use tm_names::Open;
-
-/// How many reference types there may be.
-const REF_LIMIT: usize = 64;
 
 /// Where a type with its regions put in stands among these; `None` exactly where it doesn't.
 pub fn place_of(refs: &[Open], regions: &[RegionId], written: &Open) -> Option<usize>
@@ -33,13 +32,13 @@ pub fn insert(
     regions: &[RegionId],
     written: &Open,
 ) -> Result<(), Stop>
-    ensures { Adding 64 (closed_types refs.old) (put_in regions.now written.now ∷ []) (closed_types refs.new) result }
+    ensures { Adding ref_limit (closed_types refs.old) (put_in regions.now written.now ∷ []) (closed_types refs.new) result }
 {
     match place_of(refs.as_slice(), regions, written) {
         Some(_) => return Ok(()),
         None => {}
     }
-    if refs.len() == REF_LIMIT {
+    if refs.len() == ref_limit() {
         return Err(Stop::Full);
     }
     let Ok(closed) = fixed(alloc, regions, written) else {

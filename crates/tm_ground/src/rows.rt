@@ -57,6 +57,7 @@ fn named_row(
     Ok(NamedRow {
         def,
         regions,
+        args: List::new(alloc),
         types,
     })
 }

@@ -69,6 +69,7 @@ pub fn make_world(
     let questions = questions(alloc, resolved, found, refs)?;
     let refs = ref_rows(alloc, resolved, found, refs)?;
     Ok(World {
+        profile: resolved.profile,
         defs,
         regions,
         bounds,

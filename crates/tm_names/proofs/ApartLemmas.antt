@@ -7,6 +7,7 @@ use Rattle.std.proofs.lemmas.List.Kept.{AllPairs-cons}
 use Rattle.std.proofs.lemmas.Slice.Eq.{bytes_eq-Decides}
 use Rattle.tm_base.specs.declared.definition.Def.{Def}
 use Rattle.tm_base.specs.declared.limit.NameWhy.TheVariants.{Twice, Lifetime}
+use Rattle.tm_base.specs.declared.profile.Profile.{Profile}
 use Rattle.tm_lex.specs.Lexes.{Tokenizes}
 use Rattle.tm_lex.specs.declared.token.Token.{Token}
 use Rattle.tm_names.proofs.Members.{Member, contained, from_map}
@@ -32,7 +33,7 @@ static_is_word : is_word (codes "'static") ≡ true
 unfolding is_word_byte
 static_is_word = refl
 
-module _ (name : ℕ → List ℕ) where
+module _ (profile : Profile) (name : ℕ → List ℕ) where
   abbrev Differ : List ℕ → List ℕ → Type 0
   Differ x y = x ≢ y
 
@@ -56,7 +57,7 @@ module _ (name : ℕ → List ℕ) where
   def_names [] = refl
   def_names (d ∷ ds) = ap (λ names. name d.name ∷ names) (def_names ds)
 
-  module _ (file : Parsed) (sound : HasNoFault name file) where
+  module _ (file : Parsed) (sound : HasNoFault profile name file) where
     none_again : (places : List ℕ) → Member places (name_lists file) → NoneAgain places
     none_again places m before after place e t =
         sound.none Twice place (record {
@@ -75,7 +76,7 @@ module _ (name : ℕ → List ℕ) where
           reserved = ap (λ b. b || bytes_eq (name q) (codes "'_")) ((bytes_eq-Decides (name q) (codes "'static")).1 (sym same));
         }))
 
-    pub names_apart : Declares (λ place. is_own_name (name place) ≡ true) (λ place. is_word (name place) ≡ true) file → HasApartNames (resolved_of name file)
+    pub names_apart : Declares (λ place. is_own_name (name place) ≡ true) (λ place. is_word (name place) ≡ true) file → HasApartNames (resolved_of profile name file)
     names_apart declares = record {
       own_names = each_passes (λ def. is_own_name def.name) (map (def_of name) file.decls) own;
       names_distinct = record {
@@ -100,9 +101,9 @@ module _ (name : ℕ → List ℕ) where
             subst (λ word. is_word word ≡ true) same (of_member (λ place. is_word (name place) ≡ true) file.lifetimes place declares.lifetimes among)
 
 -- so it is with what a text's tokens spell
-pub spelled_apart : (text : List ℕ) (tokens : List Token) (file : Parsed) → IsUtf8 text → Tokenizes text tokens → SpellsFile (terminals_of text tokens) file
-    → HasNoFault (name_at text tokens) file → HasApartNames (resolved_of (name_at text tokens) file)
-spelled_apart text tokens file utf8 tokenized spelled sound =
-    names_apart (name_at text tokens) file sound
+pub spelled_apart : (profile : Profile) (text : List ℕ) (tokens : List Token) (file : Parsed) → IsUtf8 text → Tokenizes text tokens → SpellsFile (terminals_of text tokens) file
+    → HasNoFault profile (name_at text tokens) file → HasApartNames (resolved_of profile (name_at text tokens) file)
+spelled_apart profile text tokens file utf8 tokenized spelled sound =
+    names_apart profile (name_at text tokens) file sound
     (declared_kept (λ place. is_own_name (name_at text tokens place) ≡ true) (λ place. is_word (name_at text tokens place) ≡ true) file
     (terminals_of text tokens) spelled.after spelled.file (terminals_suit text tokens utf8 tokenized))

@@ -3,6 +3,7 @@ use Rattle.std.proofs.Common.{◌≡◌, ℕ, ◌<◌, ◌≤◌, refl, sym, ap,
 use Rattle.std.specs.Prelude.{Some, None, ◌==◌}
 use Rattle.tm_base.specs.declared.limit.NameWhy.{NameWhy}
 use Rattle.tm_base.specs.declared.limit.NameWhy.TheVariants.{Twice, Unknown, Arity, Lifetime, Discriminant, Infinite, BadRepr}
+use Rattle.tm_base.specs.declared.profile.Profile.{Profile}
 use Rattle.tm_names.proofs.FileLemmas.{listed_stands, standing_listed}
 use Rattle.tm_names.proofs.LeastLaws.{NoLater, earliest_is_least, no_earliest}
 use Rattle.tm_names.proofs.PartLemmas.{fault}
@@ -13,17 +14,17 @@ use Rattle.tm_names.specs.Least.{earliest}
 use Rattle.tm_names.specs.Ranks.{rank}
 use Rattle.tm_parse.specs.declared.parsed.Parsed.{Parsed}
 
-module _ (name : ℕ → List ℕ) (file : Parsed) where
-  pub nothing_stands : earliest None (file_faults name file) ≡ None → HasNoFault name file
-  nothing_stands e = record { none = λ why place h. no_earliest (file_faults name file) e (fault why place) (standing_listed name file why place h) }
+module _ (profile : Profile) (name : ℕ → List ℕ) (file : Parsed) where
+  pub nothing_stands : earliest None (file_faults profile name file) ≡ None → HasNoFault profile name file
+  nothing_stands e = record { none = λ why place h. no_earliest (file_faults profile name file) e (fault why place) (standing_listed profile name file why place h) }
 
-  pub first_stands : (f : NameFault) → earliest None (file_faults name file) ≡ Some f → IsFirstFault name file f.why f.place
+  pub first_stands : (f : NameFault) → earliest None (file_faults profile name file) ≡ Some f → IsFirstFault profile name file f.why f.place
   first_stands f e =
-      let least = earliest_is_least (file_faults name file) f e in
-      record { fault = listed_stands name file f least.among; first = λ other there h. least.least (fault other there) (standing_listed name file other there h) }
+      let least = earliest_is_least (file_faults profile name file) f e in
+      record { fault = listed_stands profile name file f least.among; first = λ other there h. least.least (fault other there) (standing_listed profile name file other there h) }
 
-  pub no_first : (why : NameWhy) (place : ℕ) → IsFirstFault name file why place → earliest None (file_faults name file) ≡ None → ⊥
-  no_first why place h e = no_earliest (file_faults name file) e (fault why place) (standing_listed name file why place h.fault)
+  pub no_first : (why : NameWhy) (place : ℕ) → IsFirstFault profile name file why place → earliest None (file_faults profile name file) ≡ None → ⊥
+  no_first why place h e = no_earliest (file_faults profile name file) e (fault why place) (standing_listed profile name file why place h.fault)
 
 -- a kind is known by its number
 kind_at : ℕ → NameWhy
@@ -54,8 +55,8 @@ same_fault f g a b =
     kinds p q r s a b = grind arith
 
 -- a file has one first fault
-pub one_first : (name : ℕ → List ℕ) (file : Parsed) (why : NameWhy) (place : ℕ) → IsFirstFault name file why place
-    → (f : NameFault) → earliest None (file_faults name file) ≡ Some f → (f.why ≡ why) × (f.place ≡ place)
-one_first name file why place h f e =
-    let least = first_stands name file f e in
+pub one_first : (profile : Profile) (name : ℕ → List ℕ) (file : Parsed) (why : NameWhy) (place : ℕ) → IsFirstFault profile name file why place
+    → (f : NameFault) → earliest None (file_faults profile name file) ≡ Some f → (f.why ≡ why) × (f.place ≡ place)
+one_first profile name file why place h f e =
+    let least = first_stands profile name file f e in
     same_fault f (fault why place) (least.first why place h.fault) (h.first f.why f.place least.fault)

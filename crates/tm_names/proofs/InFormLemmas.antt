@@ -4,6 +4,7 @@ use Rattle.std.specs.Prelude.{ℤ, pos, ◌+ℤ◌, AllPairs}
 use Rattle.std.proofs.lemmas.Bool.{and_from, eq-eqb}
 use Rattle.std.proofs.lemmas.List.{length-map}
 use Rattle.tm_base.specs.declared.definition.Def.{Def}
+use Rattle.tm_base.specs.declared.profile.Profile.{Profile}
 use Rattle.tm_base.specs.Whole.{AreValuesDistinct, are_defs_in_form, is_def_in_form}
 use Rattle.tm_names.proofs.DefFormLemmas.{def_in_form, values_distinct}
 use Rattle.tm_names.proofs.KnownLemmas.{bounds_known}
@@ -34,7 +35,7 @@ pub spelled_placed : (text : List ℕ) (tokens : List Token) (file : Parsed) →
 spelled_placed text tokens file h =
     places_kept (λ place. place < length tokens) file (terminals_of text tokens) h.after h.file (terminals_placed text tokens)
 
-module _ (name : ℕ → List ℕ) (file : Parsed) where
+module _ (profile : Profile) (name : ℕ → List ℕ) (file : Parsed) where
   -- each field has its type
   variants_typed : (params : List ℕ) (z : ℤ) (vs : List DeclVariant) → is_variant_typed (map (variant_of name) (valued_from z vs)) (map (variant_types name file.decls params) vs) ≡ true
   variants_typed params z [] = refl
@@ -47,24 +48,24 @@ module _ (name : ℕ → List ℕ) (file : Parsed) where
   defs_typed [] = refl
   defs_typed (d ∷ ds) = and_from _ _ (variants_typed d.params (pos 0) d.variants) (defs_typed ds)
 
-  module _ (sound : HasNoFault name file) (within : IsWithinLimits file) where
-    defs_in_form : are_defs_in_form (map (def_of name) file.decls) ≡ true
+  module _ (sound : HasNoFault profile name file) (within : IsWithinLimits file) where
+    defs_in_form : are_defs_in_form profile (map (def_of name) file.decls) ≡ true
     unfolding are_defs_in_form
-    defs_in_form = each_passes is_def_in_form (map (def_of name) file.decls) each
+    defs_in_form = each_passes (is_def_in_form profile) (map (def_of name) file.decls) each
       where
-        each : (def : Def) → Member def (map (def_of name) file.decls) → is_def_in_form def ≡ true
+        each : (def : Def) → Member def (map (def_of name) file.decls) → is_def_in_form profile def ≡ true
         each def m =
             let (d, among, same) = from_map (def_of name) def file.decls m in
-            subst (λ def. is_def_in_form def ≡ true) same (def_in_form name file sound within d among)
+            subst (λ def. is_def_in_form profile def ≡ true) same (def_in_form profile name file sound within d among)
 
     all_distinct : AreValuesDistinct (map (def_of name) file.decls)
     all_distinct = record {
       apart = λ i l def at.
           let (d, among, same) = from_map (def_of name) def file.decls (member_from_get def (map (def_of name) file.decls) i at) in
-          subst (λ (def : Def). AllPairs (λ v u. v.value ≢ u.value) def.variants) same (values_distinct name file sound within d among);
+          subst (λ (def : Def). AllPairs (λ v u. v.value ≢ u.value) def.variants) same (values_distinct profile name file sound within d among);
     }
 
-    pub resolved_in_form : IsInForm (resolved_of name file)
+    pub resolved_in_form : IsInForm (resolved_of profile name file)
     resolved_in_form = record {
       few_defs = let few = within.items.definitions in omega (arith, length-map file.decls (def_of name));
       few_regions = let few = within.items.lifetimes in omega (arith, length-map file.lifetimes name);
@@ -74,6 +75,6 @@ module _ (name : ℕ → List ℕ) (file : Parsed) where
       values_distinct = all_distinct;
       bounds_known = bounds_known name file.lifetimes file.bounds;
       defs_typed = defs_typed file.decls;
-      fields_in_form = fields_in_form name file sound within.types within.integers within.arrays;
-      asks_in_form = asks_in_form name file sound within.types within.integers within.arrays;
+      fields_in_form = fields_in_form profile name file sound within.types within.integers within.arrays;
+      asks_in_form = asks_in_form profile name file sound within.types within.integers within.arrays;
     }

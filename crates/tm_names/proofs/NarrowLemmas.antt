@@ -8,6 +8,8 @@ use Rattle.tm_base.specs.declared.definition.Kind.{Kind}
 use Rattle.tm_base.specs.declared.definition.Kind.TheVariants.{Struct, Union, Enum}
 use Rattle.tm_base.specs.declared.ground.Primitive.{Primitive}
 use Rattle.tm_base.specs.declared.ground.Primitive.TheVariants.{Bool as bool', Char, U8, U16, U32, U64, U128, Usize, I8, I16, I32, I64, I128, Isize, F32, F64}
+use Rattle.tm_base.specs.declared.profile.Profile.{Profile}
+use Rattle.tm_base.specs.declared.profile.Profile.TheVariants.{Le64, Be64, Le32}
 use Rattle.tm_base.specs.Integers.{fits_integer, is_tag_type}
 use Rattle.tm_base.specs.Whole.{is_alignment}
 use Rattle.tm_names.proofs.DefFormLemmas.{values_right}
@@ -32,37 +34,45 @@ wider : (n low high : ℕ) → low ≤ high → nat_lt n low ≡ true → nat_lt
 wider n low high h t = let below = ltb-true n low t in lt-ltb n high (omega (arith, h, below))
 
 -- what an integer of at most 64 bits holds
-narrow_in_type : (p : Primitive) → is_tag_type p ≡ true → (z : ℤ) → fits_integer p z ≡ true → is_value_narrow z ≡ true
-narrow_in_type bool' ok z h = absurd (false≢true ok)
-narrow_in_type Char ok z h = absurd (false≢true ok)
-narrow_in_type U8 ok (pos n) h = wider n _ _ (omega arith) h
-narrow_in_type U8 ok (negsuc n) h = absurd (false≢true h)
-narrow_in_type U16 ok (pos n) h = wider n _ _ (omega arith) h
-narrow_in_type U16 ok (negsuc n) h = absurd (false≢true h)
-narrow_in_type U32 ok (pos n) h = wider n _ _ (omega arith) h
-narrow_in_type U32 ok (negsuc n) h = absurd (false≢true h)
-narrow_in_type U64 ok (pos n) h = wider n _ _ (omega arith) h
-narrow_in_type U64 ok (negsuc n) h = absurd (false≢true h)
-narrow_in_type U128 ok z h = absurd (false≢true ok)
-narrow_in_type Usize ok (pos n) h = wider n _ _ (omega arith) h
-narrow_in_type Usize ok (negsuc n) h = absurd (false≢true h)
-narrow_in_type I8 ok (pos n) h = wider n _ _ (omega arith) h
-narrow_in_type I8 ok (negsuc n) h = wider n _ _ (omega arith) h
-narrow_in_type I16 ok (pos n) h = wider n _ _ (omega arith) h
-narrow_in_type I16 ok (negsuc n) h = wider n _ _ (omega arith) h
-narrow_in_type I32 ok (pos n) h = wider n _ _ (omega arith) h
-narrow_in_type I32 ok (negsuc n) h = wider n _ _ (omega arith) h
-narrow_in_type I64 ok (pos n) h = wider n _ _ (omega arith) h
-narrow_in_type I64 ok (negsuc n) h = wider n _ _ (omega arith) h
-narrow_in_type I128 ok z h = absurd (false≢true ok)
-narrow_in_type Isize ok (pos n) h = wider n _ _ (omega arith) h
-narrow_in_type Isize ok (negsuc n) h = wider n _ _ (omega arith) h
-narrow_in_type F32 ok z h = absurd (false≢true ok)
-narrow_in_type F64 ok z h = absurd (false≢true ok)
+narrow_in_type : (profile : Profile) (p : Primitive) → is_tag_type p ≡ true → (z : ℤ) → fits_integer profile p z ≡ true → is_value_narrow z ≡ true
+narrow_in_type profile bool' ok z h = absurd (false≢true ok)
+narrow_in_type profile Char ok z h = absurd (false≢true ok)
+narrow_in_type profile U8 ok (pos n) h = wider n _ _ (omega arith) h
+narrow_in_type profile U8 ok (negsuc n) h = absurd (false≢true h)
+narrow_in_type profile U16 ok (pos n) h = wider n _ _ (omega arith) h
+narrow_in_type profile U16 ok (negsuc n) h = absurd (false≢true h)
+narrow_in_type profile U32 ok (pos n) h = wider n _ _ (omega arith) h
+narrow_in_type profile U32 ok (negsuc n) h = absurd (false≢true h)
+narrow_in_type profile U64 ok (pos n) h = wider n _ _ (omega arith) h
+narrow_in_type profile U64 ok (negsuc n) h = absurd (false≢true h)
+narrow_in_type profile U128 ok z h = absurd (false≢true ok)
+narrow_in_type Le64 Usize ok (pos n) h = wider n _ _ (omega arith) h
+narrow_in_type Be64 Usize ok (pos n) h = wider n _ _ (omega arith) h
+narrow_in_type Le32 Usize ok (pos n) h = wider n _ _ (omega arith) h
+narrow_in_type Le64 Usize ok (negsuc n) h = absurd (false≢true h)
+narrow_in_type Be64 Usize ok (negsuc n) h = absurd (false≢true h)
+narrow_in_type Le32 Usize ok (negsuc n) h = absurd (false≢true h)
+narrow_in_type profile I8 ok (pos n) h = wider n _ _ (omega arith) h
+narrow_in_type profile I8 ok (negsuc n) h = wider n _ _ (omega arith) h
+narrow_in_type profile I16 ok (pos n) h = wider n _ _ (omega arith) h
+narrow_in_type profile I16 ok (negsuc n) h = wider n _ _ (omega arith) h
+narrow_in_type profile I32 ok (pos n) h = wider n _ _ (omega arith) h
+narrow_in_type profile I32 ok (negsuc n) h = wider n _ _ (omega arith) h
+narrow_in_type profile I64 ok (pos n) h = wider n _ _ (omega arith) h
+narrow_in_type profile I64 ok (negsuc n) h = wider n _ _ (omega arith) h
+narrow_in_type profile I128 ok z h = absurd (false≢true ok)
+narrow_in_type Le64 Isize ok (pos n) h = wider n _ _ (omega arith) h
+narrow_in_type Be64 Isize ok (pos n) h = wider n _ _ (omega arith) h
+narrow_in_type Le32 Isize ok (pos n) h = wider n _ _ (omega arith) h
+narrow_in_type Le64 Isize ok (negsuc n) h = wider n _ _ (omega arith) h
+narrow_in_type Be64 Isize ok (negsuc n) h = wider n _ _ (omega arith) h
+narrow_in_type Le32 Isize ok (negsuc n) h = wider n _ _ (omega arith) h
+narrow_in_type profile F32 ok z h = absurd (false≢true ok)
+narrow_in_type profile F64 ok z h = absurd (false≢true ok)
 
-narrow_in_range : (tag : Option Primitive) → TagOk tag → (z : ℤ) → is_in_range tag z ≡ true → is_value_narrow z ≡ true
-narrow_in_range None ok z h = narrow_in_type I64 refl z h
-narrow_in_range (Some p) ok z h = narrow_in_type p ok z h
+narrow_in_range : (profile : Profile) (tag : Option Primitive) → TagOk tag → (z : ℤ) → is_in_range profile tag z ≡ true → is_value_narrow z ≡ true
+narrow_in_range profile None ok z h = narrow_in_type profile I64 refl z h
+narrow_in_range profile (Some p) ok z h = narrow_in_type profile p ok z h
 
 -- a number that is one of those below a bound
 below_bound : (n bound : ℕ) (ks : List ℕ) → list_all (λ k. nat_lt (2 ^ k) bound) ks ≡ true → list_any (λ k. n == 2 ^ k) ks ≡ true → n < bound
@@ -111,16 +121,16 @@ placed_narrow : (reprs : List DeclRepr) → EachNarrow (map (λ repr. repr.item)
 placed_narrow [] h = All-nil (λ repr. IsItemNarrow repr.item)
 placed_narrow (r ∷ rs) h = All-cons (λ repr. IsItemNarrow repr.item) r rs h.0 (placed_narrow rs h.1)
 
-module _ (name : ℕ → List ℕ) (file : Parsed) (sound : HasNoFault name file) (within : IsWithinLimits file) where
+module _ (profile : Profile) (name : ℕ → List ℕ) (file : Parsed) (sound : HasNoFault profile name file) (within : IsWithinLimits file) where
   decl_narrow : (d : Decl) → Member d file.decls → IsNarrow d
   decl_narrow d among = record {
-    items = placed_narrow d.reprs (form_narrow d.kind d.variants (items_of d) (items_go_together name file sound d among));
+    items = placed_narrow d.reprs (form_narrow d.kind d.variants (items_of d) (items_go_together profile name file sound d among));
     params = let few = (of_member HasFewParts file.decls d within.parts among).parameters in omega (arith, few);
     values = each_passes (λ v. is_value_narrow v.value) (valued d.variants) each;
   }
     where
       each : (v : Valued) → Member v (valued d.variants) → is_value_narrow v.value ≡ true
-      each v m = narrow_in_range (tag_of d) (tag_is_ok (items_of d)) v.value (in_range (tag_of d) (valued d.variants) (values_right name file sound within d among) v m)
+      each v m = narrow_in_range profile (tag_of d) (tag_is_ok (items_of d)) v.value (in_range profile (tag_of d) (valued d.variants) (values_right profile name file sound within d among) v m)
 
   pub decls_narrow : All IsNarrow file.decls
   decls_narrow = all_of_members IsNarrow file.decls decl_narrow

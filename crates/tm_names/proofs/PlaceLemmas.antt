@@ -1,6 +1,7 @@
 -- Where the parts of a file are listed.
 use Rattle.std.proofs.Common.{ℕ, sym, subst, ⊎_elim, List, [], ◌∷◌, ◌++◌, map}
 use Rattle.std.specs.List.{flat_map}
+use Rattle.tm_base.specs.declared.profile.Profile.{Profile}
 use Rattle.tm_names.proofs.Members.{Member, behind, either, front, from_flat_map, from_map, into_flat_map}
 use Rattle.tm_names.specs.declared.least.NameFault.{NameFault}
 use Rattle.tm_names.specs.declared.value.Value.TheVariants.{AtLeastZero}
@@ -37,9 +38,9 @@ module _ {X : Type 0} (x : X) (u v w y z : List X) where
   in_row P a b c d e m =
       ⊎_elim a (λ n. ⊎_elim b (λ o. ⊎_elim c (λ p. ⊎_elim d e (either x y z p)) (either x w (y ++ z) o)) (either x v (w ++ (y ++ z)) n)) (either x u (v ++ (w ++ (y ++ z))) m)
 
-module _ (name : ℕ → List ℕ) (file : Parsed) (f : NameFault) where
+module _ (profile : Profile) (name : ℕ → List ℕ) (file : Parsed) (f : NameFault) where
   abbrev Listed : Type 0
-  Listed = Member f (file_faults name file)
+  Listed = Member f (file_faults profile name file)
 
   abbrev names_part : List NameFault
   names_part = repeats name (map (λ d. d.name) file.decls)
@@ -51,7 +52,7 @@ module _ (name : ℕ → List ℕ) (file : Parsed) (f : NameFault) where
   reserved_part = reserved name file.lifetimes
 
   abbrev decls_part : List NameFault
-  decls_part = flat_map (decl_faults name file.decls) file.decls
+  decls_part = flat_map (decl_faults profile name file.decls) file.decls
 
   abbrev outer_part : List NameFault
   outer_part = scope_faults name file.decls (outer_scope file)
@@ -66,8 +67,8 @@ module _ (name : ℕ → List ℕ) (file : Parsed) (f : NameFault) where
   abbrev past : Member f (lifetimes_part ++ (reserved_part ++ (decls_part ++ rest_part))) → Listed
   past m = behind f names_part (lifetimes_part ++ (reserved_part ++ (decls_part ++ rest_part))) m
 
-  pub at_decl : (d : Decl) → Member d file.decls → Member f (decl_faults name file.decls d) → Listed
-  at_decl d declared m = in_fourth f names_part lifetimes_part reserved_part decls_part rest_part (into_flat_map (decl_faults name file.decls) f d file.decls declared m)
+  pub at_decl : (d : Decl) → Member d file.decls → Member f (decl_faults profile name file.decls d) → Listed
+  at_decl d declared m = in_fourth f names_part lifetimes_part reserved_part decls_part rest_part (into_flat_map (decl_faults profile name file.decls) f d file.decls declared m)
 
   pub at_infinite : Member f infinite_part → Listed
   at_infinite m = in_fifth f names_part lifetimes_part reserved_part decls_part rest_part (behind f outer_part infinite_part m)
@@ -80,7 +81,7 @@ module _ (name : ℕ → List ℕ) (file : Parsed) (f : NameFault) where
   mentions_of d = scope_faults name file.decls (decl_scope d)
 
   abbrev values_of : Decl → List NameFault
-  values_of d = value_faults (tag_of d) [] (AtLeastZero 0) d.variants
+  values_of d = value_faults profile (tag_of d) [] (AtLeastZero 0) d.variants
 
   pub at_values : (d : Decl) → Member d file.decls → Member f (values_of d) → Listed
   at_values d declared m = at_decl d declared (in_fourth f (lists_of d) (reserved name d.params) (mentions_of d) (values_of d) (repr_faults d) m)

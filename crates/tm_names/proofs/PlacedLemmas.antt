@@ -5,6 +5,7 @@ use Rattle.std.specs.List.{flat_map}
 use Rattle.std.proofs.lemmas.List.Elements.{All-head}
 use Rattle.tm_base.specs.declared.limit.NameWhy.{NameWhy}
 use Rattle.tm_base.specs.declared.limit.NameWhy.TheVariants.{Twice, Unknown, Arity, Lifetime, Discriminant, Infinite, BadRepr}
+use Rattle.tm_base.specs.declared.profile.Profile.{Profile}
 use Rattle.tm_names.proofs.DefFormLemmas.{variant_among}
 use Rattle.tm_names.proofs.Members.{Member, behind, either, from_flat_map, from_map, front, member, member_from_get}
 use Rattle.tm_names.proofs.TypeFormLemmas.{of_member}
@@ -65,7 +66,7 @@ module _ (IsPlace : ℕ → Type 0) where
   name_placed None h place m = absurd m
   name_placed (Some p) h place m = ⊎_elim (λ e. subst IsPlace e h) (λ n. absurd n) m
 
-  module _ (name : ℕ → List ℕ) (file : Parsed) (placed : EachPlace IsPlace file) where
+  module _ (profile : Profile) (name : ℕ → List ℕ) (file : Parsed) (placed : EachPlace IsPlace file) where
     decl_placed : (d : Decl) → Member d file.decls → PlacesOfDefinition IsPlace d
     decl_placed d among = of_member (PlacesOfDefinition IsPlace) file.decls d placed.definitions among
 
@@ -154,7 +155,7 @@ module _ (IsPlace : ℕ → Type 0) where
     reserved_placed : (place : ℕ) → IsReserved name file place → IsPlace place
     reserved_placed place h = in_lifetimes h.places (member h.places (lifetime_lists file) h.listed) place (member place h.places h.among)
 
-    value_placed : (place : ℕ) → IsDiscriminant name file place → IsPlace place
+    value_placed : (place : ℕ) → IsDiscriminant profile name file place → IsPlace place
     value_placed place h =
         let within = variant_among (pos 0) h.decl.variants h.here (subst (Member h.here) (sym h.listed) (behind h.here h.before (h.here ∷ h.after) (inl refl))) in
         let named = (variant_placed h.decl (member h.decl file.decls h.declared) h.here.variant within).name in
@@ -165,7 +166,7 @@ module _ (IsPlace : ℕ → Type 0) where
         let reprs = (decl_placed h.decl (member h.decl file.decls h.declared)).reprs in
         subst IsPlace h.here (All-head (λ repr. IsPlace repr.token) h.first h.others (subst (All (λ repr. IsPlace repr.token)) h.reprs reprs))
 
-    pub fault_placed : (why : NameWhy) (place : ℕ) → IsNameFault name file why place → IsPlace place
+    pub fault_placed : (why : NameWhy) (place : ℕ) → IsNameFault profile name file why place → IsPlace place
     fault_placed Twice place h = twice_placed place h
     fault_placed Unknown place h = subst IsPlace h.here (mentioned_placed h.scope (Name h.mention) h.mentioned)
     fault_placed Arity place h = subst IsPlace h.here (mentioned_placed h.scope (Name h.mention) h.mentioned)

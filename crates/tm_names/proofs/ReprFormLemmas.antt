@@ -8,6 +8,7 @@ use Rattle.tm_base.specs.declared.definition.Kind.TheVariants.{Struct, Union, En
 use Rattle.tm_base.specs.declared.definition.Variant.{Variant}
 use Rattle.tm_base.specs.declared.ground.Primitive.{Primitive}
 use Rattle.tm_base.specs.declared.limit.NameWhy.TheVariants.{BadRepr}
+use Rattle.tm_base.specs.declared.profile.Profile.{Profile}
 use Rattle.tm_base.specs.Integers.{is_tag_type}
 use Rattle.tm_base.specs.Whole as whole
 use Rattle.tm_base.specs.Whole.{field_total, is_absent_or, is_alignment}
@@ -100,8 +101,8 @@ no_items Union vs = refl
 no_items Enum vs = refl
 
 -- where no fault stands, each definition's items go together
-pub items_go_together : (name : ℕ → List ℕ) (file : Parsed) → HasNoFault name file → (d : Decl) → Member d file.decls → is_repr_in_form d ≡ true
-items_go_together name file sound d among = go d.reprs refl
+pub items_go_together : (profile : Profile) (name : ℕ → List ℕ) (file : Parsed) → HasNoFault profile name file → (d : Decl) → Member d file.decls → is_repr_in_form d ≡ true
+items_go_together profile name file sound d among = go d.reprs refl
   where
     go : (reprs : List DeclRepr) → d.reprs ≡ reprs → is_repr_in_form d ≡ true
     go [] e = ap (λ reprs. is_form d.kind d.variants (map (λ repr. repr.item) reprs)) e ∙ no_items d.kind d.variants

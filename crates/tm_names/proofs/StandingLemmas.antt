@@ -3,6 +3,7 @@ use Rattle.std.proofs.Common.{◌≡◌, ℕ, refl, sym, subst, inl, inr, Bool, 
 use Rattle.std.specs.Prelude.{Option, Some, None, IsNone, not, ◌==◌, slice_get}
 use Rattle.std.proofs.lemmas.Bool.{false≢true}
 use Rattle.tm_base.specs.declared.limit.NameWhy.TheVariants as why
+use Rattle.tm_base.specs.declared.profile.Profile.{Profile}
 use Rattle.tm_names.proofs.Members.{Member, contained, from_flat_map}
 use Rattle.tm_names.proofs.PartLemmas.{from_repeats, from_where}
 use Rattle.tm_names.specs.declared.least.NameFault.{NameFault}
@@ -24,9 +25,9 @@ pub not_true : (b : Bool) → not b ≡ true → b ≡ false
 not_true true h = absurd (false≢true h)
 not_true false h = refl
 
-module _ (name : ℕ → List ℕ) (file : Parsed) where
+module _ (profile : Profile) (name : ℕ → List ℕ) (file : Parsed) where
   abbrev pub Stands : NameFault → Type 0
-  Stands f = IsNameFault name file f.why f.place
+  Stands f = IsNameFault profile name file f.why f.place
 
   pub repeats_stand : (places : List ℕ) → Member places (name_lists file) → (f : NameFault) → Member f (repeats name places) → Stands f
   repeats_stand places listed f m =

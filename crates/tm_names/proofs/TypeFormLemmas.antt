@@ -7,6 +7,7 @@ use Rattle.std.proofs.lemmas.List.{length-map}
 use Rattle.std.proofs.lemmas.List.Elements.{All-contains}
 use Rattle.std.proofs.lemmas.List.Folds.{list_all-map}
 use Rattle.tm_base.specs.declared.limit.NameWhy.TheVariants.{Unknown}
+use Rattle.tm_base.specs.declared.profile.Profile.{Profile}
 use Rattle.tm_names.proofs.KnownLemmas.{declared_known, found_within, number_within, param_known}
 use Rattle.tm_names.proofs.Members.{Member, behind, contained, from_flat_map, from_map, front, into_flat_map, into_map}
 use Rattle.tm_names.proofs.MentionedLemmas.{named_mentioned}
@@ -47,9 +48,9 @@ of_field Is file h d among v within field here =
     let fields = of_member (λ v. All (λ f. Is f.ty) v.fields) d.variants v (of_member (λ d. All (λ v. All (λ f. Is f.ty) v.fields) d.variants) file.decls d h.fields among) within in
     of_member (λ f. Is f.ty) v.fields field fields here
 
-module _ (name : ℕ → List ℕ) (file : Parsed) (sound : HasNoFault name file) where
+module _ (profile : Profile) (name : ℕ → List ℕ) (file : Parsed) (sound : HasNoFault profile name file) where
   abbrev resolved : Resolved
-  resolved = resolved_of name file
+  resolved = resolved_of profile name file
 
   -- a name that is mentioned means a definition
   meant_known : (scope : Scope) → Member scope (scopes_of file) → (m : NameMention) → Member (Name m) scope.mentions

@@ -12,6 +12,7 @@ use Rattle.std.proofs.lemmas.List.Kept.{AllPairs-cons}
 use Rattle.std.proofs.lemmas.List.Sums.{sum_by-cons}
 use Rattle.tm_base.specs.declared.definition.Variant.{Variant}
 use Rattle.tm_base.specs.declared.ground.Primitive.{Primitive}
+use Rattle.tm_base.specs.declared.profile.Profile.{Profile}
 use Rattle.tm_base.specs.Whole.{field_total, is_value_in_form}
 use Rattle.tm_names.proofs.Members.{Member, member}
 use Rattle.tm_names.proofs.TypeFormLemmas.{each_passes}
@@ -23,8 +24,8 @@ use Rattle.tm_parse.specs.Bounds.{fields_of}
 use Rattle.tm_parse.specs.declared.parsed.DeclVariant.{DeclVariant}
 
 -- no variant's discriminant is out of range or stands before
-abbrev pub AreRight : Option Primitive → List Valued → Type 0
-AreRight tag vs = (before : List Valued) (here : Valued) (after : List Valued) → vs ≡ before ++ (here ∷ after) → exact_wrong tag before here.value ≡ false
+abbrev pub AreRight : Profile → Option Primitive → List Valued → Type 0
+AreRight profile tag vs = (before : List Valued) (here : Valued) (after : List Valued) → vs ≡ before ++ (here ∷ after) → exact_wrong profile tag before here.value ≡ false
 
 -- what stands before a member, and behind it
 split : {X : Type 0} (x : X) (xs : List X) → Member x xs → (before : List X) × (after : List X) × (xs ≡ before ++ (x ∷ after))
@@ -35,24 +36,24 @@ split x (y ∷ ys) m =
 pub all_of_members : {X : Type 0} (P : X → Type 0) (xs : List X) → ((x : X) → Member x xs → P x) → All P xs
 all_of_members P xs each = All-weaker _ P (λ x c. each x (member x xs c)) xs (All-contains_itself xs)
 
-pub in_range : (tag : Option Primitive) (vs : List Valued) → AreRight tag vs → (v : Valued) → Member v vs → is_in_range tag v.value ≡ true
-in_range tag vs right v m =
+pub in_range : (profile : Profile) (tag : Option Primitive) (vs : List Valued) → AreRight profile tag vs → (v : Valued) → Member v vs → is_in_range profile tag v.value ≡ true
+in_range profile tag vs right v m =
     let (before, after, e) = split v vs m in
-    no_fault (is_in_range tag v.value) (or_parts _ _ (right before v after e)).0
+    no_fault (is_in_range profile tag v.value) (or_parts _ _ (right before v after e)).0
   where
     no_fault : (b : Bool) → not b ≡ false → b ≡ true
     no_fault true h = refl
     no_fault false h = sym h
 
-in_form : (tag : Option Primitive) (z : ℤ) → is_in_range tag z ≡ true → is_value_in_form tag z ≡ true
-in_form None z h = h
-in_form (Some p) z h = h
+in_form : (profile : Profile) (tag : Option Primitive) (z : ℤ) → is_in_range profile tag z ≡ true → is_value_in_form profile tag z ≡ true
+in_form profile None z h = h
+in_form profile (Some p) z h = h
 
 module _ (name : ℕ → List ℕ) where
-  pub values_in_form : (tag : Option Primitive) (vs : List Valued) → AreRight tag vs → list_all (λ v. is_value_in_form tag v.value) (map (variant_of name) vs) ≡ true
-  values_in_form tag vs right =
-      list_all-map (λ v. is_value_in_form tag v.value) (variant_of name) vs
-      ∙ each_passes (λ v. is_value_in_form tag v.value) vs (λ v m. in_form tag v.value (in_range tag vs right v m))
+  pub values_in_form : (profile : Profile) (tag : Option Primitive) (vs : List Valued) → AreRight profile tag vs → list_all (λ v. is_value_in_form profile tag v.value) (map (variant_of name) vs) ≡ true
+  values_in_form profile tag vs right =
+      list_all-map (λ v. is_value_in_form profile tag v.value) (variant_of name) vs
+      ∙ each_passes (λ v. is_value_in_form profile tag v.value) vs (λ v m. in_form profile tag v.value (in_range profile tag vs right v m))
 
   abbrev Differ : Variant → Variant → Type 0
   Differ v u = v.value ≢ u.value
@@ -73,8 +74,8 @@ module _ (name : ℕ → List ℕ) where
           let (before, after, e) = split u xs m in
           not_from_Decides (int_eq x.value u.value) (Decides-int_eq x.value u.value) (or_parts _ _ (fresh (x ∷ before) u after (ap (λ others. x ∷ others) e))).0
 
-  pub values_apart : (tag : Option Primitive) (vs : List Valued) → AreRight tag vs → AllPairs Differ (map (variant_of name) vs)
-  values_apart tag vs right = values_differ vs (λ before here after e. (or_parts _ _ (right before here after e)).1)
+  pub values_apart : (profile : Profile) (tag : Option Primitive) (vs : List Valued) → AreRight profile tag vs → AllPairs Differ (map (variant_of name) vs)
+  values_apart profile tag vs right = values_differ vs (λ before here after e. (or_parts _ _ (right before here after e)).1)
 
   -- as many variants, and as many fields in all of them
   pub as_many : (z : ℤ) (vs : List DeclVariant) → length (map (variant_of name) (valued_from z vs)) ≡ length vs

@@ -3,9 +3,10 @@ use Rattle.std.proofs.Common.{◌≡◌, ℕ, refl, Bool, true, false, List, [],
 use Rattle.std.specs.Prelude.{Option, Some, None, codes}
 use Rattle.tm_base.specs.declared.assume.Assume.{Assume}
 use Rattle.tm_base.specs.declared.definition.Kind.TheVariants.{Struct, Enum}
-use Rattle.tm_base.specs.declared.ground.Primitive.TheVariants.{U8}
+use Rattle.tm_base.specs.declared.ground.Primitive.TheVariants.{U8, Usize}
 use Rattle.tm_base.specs.declared.ground.Wrapper.TheVariants.{PhantomData, ManuallyDrop}
 use Rattle.tm_base.specs.declared.limit.NameWhy.TheVariants.{Twice, Unknown, Arity, Lifetime, Discriminant, Infinite, BadRepr}
+use Rattle.tm_base.specs.declared.profile.Profile.TheVariants.{Le64, Be64, Le32}
 use Rattle.tm_names.proofs.PartLemmas.{fault}
 use Rattle.tm_names.specs.FileFaults.{file_faults}
 use Rattle.tm_names.specs.Mentions.{mentions_of}
@@ -56,57 +57,66 @@ file lifetimes decls types = record { lifetimes = lifetimes; bounds = []; decls 
     asks (ty ∷ tys) = record { src = ty; dst = Prim U8; assume = nothing } ∷ asks tys
 
 -- `struct A { a: A }` holds itself, also in an array of length 0 and in a wrapper
-holds_itself : file_faults name (file [] (struct_at 0 [] (Named 0 [] ∷ []) ∷ []) []) ≡ fault Infinite 0 ∷ []
+holds_itself : file_faults Le64 name (file [] (struct_at 0 [] (Named 0 [] ∷ []) ∷ []) []) ≡ fault Infinite 0 ∷ []
 unfolding mentions_of hidden-the_row-Expr-0 shape-the_row-Expr-1 hidden-the_row-Expr-1 denote.Hole.Carrier.hidden
 holds_itself = refl
 
-in_an_array : file_faults name (file [] (struct_at 0 [] (Wrap ManuallyDrop (Array (Named 0 []) 0) ∷ []) ∷ []) []) ≡ fault Infinite 0 ∷ []
+in_an_array : file_faults Le64 name (file [] (struct_at 0 [] (Wrap ManuallyDrop (Array (Named 0 []) 0) ∷ []) ∷ []) []) ≡ fault Infinite 0 ∷ []
 unfolding mentions_of hidden-the_row-Expr-0 shape-the_row-Expr-1 hidden-the_row-Expr-1 denote.Hole.Carrier.hidden
 in_an_array = refl
 
 -- but neither behind a reference nor in a `PhantomData`
-behind_a_reference : file_faults name (file [] (struct_at 0 (2 ∷ []) (Ref 2 false (Named 0 (2 ∷ [])) ∷ Wrap PhantomData (Named 0 (2 ∷ [])) ∷ []) ∷ []) []) ≡ []
+behind_a_reference : file_faults Le64 name (file [] (struct_at 0 (2 ∷ []) (Ref 2 false (Named 0 (2 ∷ [])) ∷ Wrap PhantomData (Named 0 (2 ∷ [])) ∷ []) ∷ []) []) ≡ []
 unfolding mentions_of hidden-the_row-Expr-0 shape-the_row-Expr-1 hidden-the_row-Expr-1 denote.Hole.Carrier.hidden
 behind_a_reference = refl
 
 -- of two definitions with one name a use means the first
-twice : file_faults name (file [] (struct_at 0 [] [] ∷ struct_at 1 [] (Named 0 [] ∷ []) ∷ []) []) ≡ fault Twice 1 ∷ []
+twice : file_faults Le64 name (file [] (struct_at 0 [] [] ∷ struct_at 1 [] (Named 0 [] ∷ []) ∷ []) []) ≡ fault Twice 1 ∷ []
 unfolding mentions_of hidden-the_row-Expr-0 shape-the_row-Expr-1 hidden-the_row-Expr-1 denote.Hole.Carrier.hidden
 twice = refl
 
-unknown : file_faults name (file [] [] (Named 0 [] ∷ [])) ≡ fault Unknown 0 ∷ []
+unknown : file_faults Le64 name (file [] [] (Named 0 [] ∷ [])) ≡ fault Unknown 0 ∷ []
 unfolding mentions_of hidden-the_row-Expr-0 shape-the_row-Expr-1 hidden-the_row-Expr-1 denote.Hole.Carrier.hidden
 unknown = refl
 
 -- one lifetime too many, and one that isn't in sight
-arity : file_faults name (file [] (struct_at 0 [] [] ∷ []) (Named 1 (3 ∷ []) ∷ [])) ≡ fault Arity 1 ∷ []
+arity : file_faults Le64 name (file [] (struct_at 0 [] [] ∷ []) (Named 1 (3 ∷ []) ∷ [])) ≡ fault Arity 1 ∷ []
 unfolding mentions_of hidden-the_row-Expr-0 shape-the_row-Expr-1 hidden-the_row-Expr-1 denote.Hole.Carrier.hidden
 arity = refl
 
-out_of_sight : file_faults name (file [] [] (Ref 2 true (Prim U8) ∷ [])) ≡ fault Lifetime 2 ∷ []
+out_of_sight : file_faults Le64 name (file [] [] (Ref 2 true (Prim U8) ∷ [])) ≡ fault Lifetime 2 ∷ []
 unfolding mentions_of hidden-the_row-Expr-0 shape-the_row-Expr-1 hidden-the_row-Expr-1 denote.Hole.Carrier.hidden
 out_of_sight = refl
 
 -- a declared `'_` is a fault at its item, and in sight elsewhere
-reserved : file_faults name (file (4 ∷ []) [] (Ref 4 false (Prim U8) ∷ [])) ≡ fault Lifetime 4 ∷ []
+reserved : file_faults Le64 name (file (4 ∷ []) [] (Ref 4 false (Prim U8) ∷ [])) ≡ fault Lifetime 4 ∷ []
 unfolding mentions_of hidden-the_row-Expr-0 shape-the_row-Expr-1 hidden-the_row-Expr-1 denote.Hole.Carrier.hidden
 reserved = refl
 
 -- 255 fits, and 256 is implied behind it
-past_the_range : file_faults name (file [] (enum (Int U8 ∷ []) (variant 5 false (Some 255) [] ∷ variant 6 false None [] ∷ []) ∷ []) []) ≡ fault Discriminant 6 ∷ []
+past_the_range : file_faults Le64 name (file [] (enum (Int U8 ∷ []) (variant 5 false (Some 255) [] ∷ variant 6 false None [] ∷ []) ∷ []) []) ≡ fault Discriminant 6 ∷ []
 unfolding mentions_of hidden-the_row-Expr-0 shape-the_row-Expr-1 hidden-the_row-Expr-1 denote.Hole.Carrier.hidden
 past_the_range = refl
 
 -- -2^63 - 1 is out of range, and -2^63 behind it isn't
-below_the_range : file_faults name (file [] (enum [] (variant 5 true (Some 9223372036854775809) [] ∷ variant 6 false None [] ∷ []) ∷ []) []) ≡ fault Discriminant 5 ∷ []
+below_the_range : file_faults Le64 name (file [] (enum [] (variant 5 true (Some 9223372036854775809) [] ∷ variant 6 false None [] ∷ []) ∷ []) []) ≡ fault Discriminant 5 ∷ []
 unfolding mentions_of hidden-the_row-Expr-0 shape-the_row-Expr-1 hidden-the_row-Expr-1 denote.Hole.Carrier.hidden
 below_the_range = refl
 
+-- 2^32 is out of the range of `usize` where addresses have four bytes, and within it where they have eight
+past_an_address : file_faults Le32 name (file [] (enum (Int Usize ∷ []) (variant 5 false (Some 4294967296) [] ∷ []) ∷ []) []) ≡ fault Discriminant 5 ∷ []
+unfolding mentions_of hidden-the_row-Expr-0 shape-the_row-Expr-1 hidden-the_row-Expr-1 denote.Hole.Carrier.hidden
+past_an_address = refl
+
+within_an_address : file_faults Be64 name (file [] (enum (Int Usize ∷ []) (variant 5 false (Some 4294967296) [] ∷ []) ∷ []) []) ≡ []
+unfolding mentions_of hidden-the_row-Expr-0 shape-the_row-Expr-1 hidden-the_row-Expr-1 denote.Hole.Carrier.hidden
+within_an_address = refl
+
 -- `C` and an integer where no variant has a field, and where one has
-without_fields : file_faults name (file [] (enum (C ∷ Int U8 ∷ []) (variant 5 false None [] ∷ variant 6 false None [] ∷ []) ∷ []) []) ≡ fault BadRepr 9 ∷ []
+without_fields : file_faults Le64 name (file [] (enum (C ∷ Int U8 ∷ []) (variant 5 false None [] ∷ variant 6 false None [] ∷ []) ∷ []) []) ≡ fault BadRepr 9 ∷ []
 unfolding mentions_of hidden-the_row-Expr-0 shape-the_row-Expr-1 hidden-the_row-Expr-1 denote.Hole.Carrier.hidden
 without_fields = refl
 
-with_a_field : file_faults name (file [] (enum (C ∷ Int U8 ∷ []) (variant 5 false None (field (Tuple []) ∷ []) ∷ variant 6 false None [] ∷ []) ∷ []) []) ≡ []
+with_a_field : file_faults Le64 name (file [] (enum (C ∷ Int U8 ∷ []) (variant 5 false None (field (Tuple []) ∷ []) ∷ variant 6 false None [] ∷ []) ∷ []) []) ≡ []
 unfolding mentions_of hidden-the_row-Expr-0 shape-the_row-Expr-1 hidden-the_row-Expr-1 denote.Hole.Carrier.hidden
 with_a_field = refl

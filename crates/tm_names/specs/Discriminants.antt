@@ -3,6 +3,7 @@
 use Rattle.std.specs.Prelude.{ℕ, Bool, true, false, ℤ, pos, neg_ℤ, ◌+ℤ◌, Option, Some, None, List, [], ◌∷◌}
 use Rattle.tm_base.specs.declared.ground.Primitive.{Primitive}
 use Rattle.tm_base.specs.declared.ground.Primitive.TheVariants.{I64}
+use Rattle.tm_base.specs.declared.profile.Profile.{Profile}
 use Rattle.tm_base.specs.Integers.{fits_integer}
 use Rattle.tm_parse.specs.declared.parsed.DeclVariant.{DeclVariant}
 
@@ -32,7 +33,8 @@ valued_from implied (v ∷ vs) = record { variant = v; value = value_of implied 
 abbrev pub valued : List DeclVariant → List Valued
 valued = valued_from (pos 0)
 
--- the range of a discriminant: that of the integer representation, or of `i64` without one
-abbrev pub is_in_range : Option Primitive → ℤ → Bool
-is_in_range None value = fits_integer I64 value
-is_in_range (Some p) value = fits_integer p value
+-- the range of a discriminant: that of the integer representation, which for `usize` and `isize` differs
+-- between profiles, or of `i64` without one
+abbrev pub is_in_range : Profile → Option Primitive → ℤ → Bool
+is_in_range profile None value = fits_integer profile I64 value
+is_in_range profile (Some p) value = fits_integer profile p value

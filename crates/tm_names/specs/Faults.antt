@@ -1,9 +1,10 @@
--- The name faults of a file, each with the token at which it stands.
+-- The name faults of a file under a profile, each with the token at which it stands.
 use Rattle.std.specs.Prelude.{◌≡◌, ℕ, ◌<◌, ◌≤◌, ◌⊎◌, ◌==◌, ◌||◌, not, IsTrue, IsFalse, IsNone, Some, List, ◌∷◌, ◌++◌, length, map, flat_map, Contains, slice_get, option_to_list}
 use Rattle.std.specs.List.{list_any}
 use Rattle.std.specs.Ordering.{int_eq}
 use Rattle.tm_base.specs.declared.limit.NameWhy.{NameWhy}
 use Rattle.tm_base.specs.declared.limit.NameWhy.TheVariants.{Twice, Unknown, Arity, Lifetime, Discriminant, Infinite, BadRepr}
+use Rattle.tm_base.specs.declared.profile.Profile.{Profile}
 use Rattle.tm_names.specs.declared.mentions.Mention.{Mention}
 use Rattle.tm_names.specs.declared.mentions.Mention.TheVariants.{Name, Life}
 use Rattle.tm_names.specs.declared.mentions.NameMention.{NameMention}
@@ -83,17 +84,6 @@ module _ (name : ℕ → List ℕ) (file : Parsed) where
     pub among : Contains places place
     pub reserved : IsTrue (is_reserved name place)
 
-  -- the variant's discriminant is out of range, or an earlier variant's too
-  pub record IsDiscriminant (place : ℕ) : Type 0 where
-    pub decl : Decl
-    pub declared : Contains file.decls decl
-    pub before : List Valued
-    pub here : Valued
-    pub after : List Valued
-    pub listed : valued decl.variants ≡ before ++ (here ∷ after)
-    pub named : here.variant.name ≡ Some place
-    pub wrong : IsTrue (not (is_in_range (tag_of decl) here.value) || list_any (λ v. int_eq v.value here.value) before)
-
   -- the definition holds itself by value
   pub record IsInfinite (place : ℕ) : Type 0 where
     pub number : ℕ
@@ -112,15 +102,28 @@ module _ (name : ℕ → List ℕ) (file : Parsed) where
     pub here : first.token ≡ place
     pub wrong : IsFalse (is_repr_in_form decl)
 
+-- under a profile, which says how far `usize` and `isize` range
+module _ (profile : Profile) (name : ℕ → List ℕ) (file : Parsed) where
+  -- the variant's discriminant is out of range, or an earlier variant's too
+  pub record IsDiscriminant (place : ℕ) : Type 0 where
+    pub decl : Decl
+    pub declared : Contains file.decls decl
+    pub before : List Valued
+    pub here : Valued
+    pub after : List Valued
+    pub listed : valued decl.variants ≡ before ++ (here ∷ after)
+    pub named : here.variant.name ≡ Some place
+    pub wrong : IsTrue (not (is_in_range profile (tag_of decl) here.value) || list_any (λ v. int_eq v.value here.value) before)
+
   -- a fault of the kind stands at the token at the place
   abbrev pub IsNameFault : NameWhy → ℕ → Type 0
-  IsNameFault Twice place = IsTwice place
-  IsNameFault Unknown place = IsUnknown place
-  IsNameFault Arity place = IsArity place
-  IsNameFault Lifetime place = IsOutOfSight place ⊎ IsReserved place
+  IsNameFault Twice place = IsTwice name file place
+  IsNameFault Unknown place = IsUnknown name file place
+  IsNameFault Arity place = IsArity name file place
+  IsNameFault Lifetime place = IsOutOfSight name file place ⊎ IsReserved name file place
   IsNameFault Discriminant place = IsDiscriminant place
-  IsNameFault Infinite place = IsInfinite place
-  IsNameFault BadRepr place = IsBadRepr place
+  IsNameFault Infinite place = IsInfinite name file place
+  IsNameFault BadRepr place = IsBadRepr name file place
 
   -- a fault before which none stands: at an earlier token, or at the same one and of an earlier kind
   pub record IsFirstFault (why : NameWhy) (place : ℕ) : Type 0 where

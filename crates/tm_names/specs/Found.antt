@@ -1,10 +1,11 @@
--- The name faults of a file, listed part by part.
+-- The name faults of a file under a profile, listed part by part.
 use Rattle.std.specs.Prelude.{ℕ, ◌==◌, Bool, true, not, ◌||◌, Option, Some, None, List, [], ◌∷◌, ◌++◌, length, flat_map, slice_get}
 use Rattle.std.specs.List.{list_any}
 use Rattle.std.specs.Ordering.{int_eq}
 use Rattle.tm_base.specs.declared.ground.Primitive.{Primitive}
 use Rattle.tm_base.specs.declared.limit.NameWhy.{NameWhy}
 use Rattle.tm_base.specs.declared.limit.NameWhy.TheVariants.{Twice, Unknown, Arity, Lifetime, Discriminant, BadRepr}
+use Rattle.tm_base.specs.declared.profile.Profile.{Profile}
 use Rattle.tm_names.specs.declared.least.NameFault.{NameFault}
 use Rattle.tm_names.specs.declared.mentions.Mention.{Mention}
 use Rattle.tm_names.specs.declared.mentions.Mention.TheVariants.{Name, Life}
@@ -24,8 +25,8 @@ use Rattle.tm_parse.specs.declared.parsed.DeclRepr.{DeclRepr}
 use Rattle.tm_parse.specs.declared.parsed.DeclVariant.{DeclVariant}
 
 -- a discriminant that is out of range or stands before
-abbrev pub is_wrong : Option Primitive → List Value → Value → Bool
-is_wrong tag before value = not (is_in_range tag (int_of value)) || list_any (λ other. int_eq (int_of other) (int_of value)) before
+abbrev pub is_wrong : Profile → Option Primitive → List Value → Value → Bool
+is_wrong profile tag before value = not (is_in_range profile tag (int_of value)) || list_any (λ other. int_eq (int_of other) (int_of value)) before
 
 -- a fault at a name, where there is one
 abbrev pub fault_at : Bool → NameWhy → Option ℕ → List NameFault
@@ -33,11 +34,11 @@ fault_at wrong why None = []
 fault_at wrong why (Some place) = fault_where wrong why place
 
 -- the faults of an enum's discriminants, where these stand before and so much is implied
-abbrev pub value_faults : Option Primitive → List Value → Value → List DeclVariant → List NameFault
-value_faults tag before implied [] = []
-value_faults tag before implied (v ∷ vs) =
-    fault_at (is_wrong tag before (value_in implied v)) Discriminant v.name
-    ++ value_faults tag (before ++ value_in implied v ∷ []) (next_of (value_in implied v)) vs
+abbrev pub value_faults : Profile → Option Primitive → List Value → Value → List DeclVariant → List NameFault
+value_faults profile tag before implied [] = []
+value_faults profile tag before implied (v ∷ vs) =
+    fault_at (is_wrong profile tag before (value_in implied v)) Discriminant v.name
+    ++ value_faults profile tag (before ++ value_in implied v ∷ []) (next_of (value_in implied v)) vs
 
 -- the fault of a definition's representation stands at its first item
 abbrev pub first_repr : Bool → List DeclRepr → List NameFault
@@ -78,7 +79,11 @@ module _ (name : ℕ → List ℕ) where
     abbrev pub scope_faults : Scope → List NameFault
     scope_faults scope = flat_map (mention_faults scope.sight) scope.mentions
 
-    -- all faults of a definition but that it holds itself
-    abbrev pub decl_faults : Decl → List NameFault
-    decl_faults d = flat_map repeats (decl_lists d) ++ (reserved d.params ++ (scope_faults (decl_scope d)
-        ++ (value_faults (tag_of d) [] (AtLeastZero 0) d.variants ++ repr_faults d)))
+-- all faults of a definition but that it holds itself
+abbrev pub decl_faults : Profile → (ℕ → List ℕ) → List Decl → Decl → List NameFault
+decl_faults profile name decls d =
+    flat_map (repeats name) (decl_lists d)
+    ++ (reserved name d.params
+    ++ (scope_faults name decls (decl_scope d)
+    ++ (value_faults profile (tag_of d) [] (AtLeastZero 0) d.variants
+    ++ repr_faults d)))

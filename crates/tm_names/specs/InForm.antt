@@ -1,11 +1,13 @@
 -- What is kept by each file whose names are resolved: no count passes its limit, each number names what
 -- there is, and definitions are in form. So it is also with other questions in place of the file's, where
 -- these are in form.
-use Rattle.std.specs.Prelude.{ℕ, ◌<◌, ◌≤◌, nat_lt, nat_le, ◌==◌, Bool, true, false, ◌&&◌, ◌^◌, IsTrue, List, [], ◌∷◌, ◌++◌, length, flat_map}
+use Rattle.std.specs.Prelude.{ℕ, ◌+◌, ◌<◌, ◌≤◌, nat_lt, nat_le, ◌==◌, Bool, true, false, ◌&&◌, ◌^◌, IsTrue, List, [], ◌∷◌, ◌++◌, length, flat_map}
 use Rattle.std.specs.List.{list_all}
 use Rattle.tm_base.specs.declared.definition.Def.{Def}
 use Rattle.tm_base.specs.declared.definition.Variant.{Variant}
+use Rattle.tm_base.specs.declared.limit.LimitKind.TheVariants.{Definitions, Questions, Lifetimes, TypeNodes}
 use Rattle.tm_base.specs.Integers.{is_integer}
+use Rattle.tm_base.specs.Limits.{limit_number}
 use Rattle.tm_base.specs.Whole.{are_defs_in_form, is_bound_known, AreValuesDistinct}
 use Rattle.tm_names.specs.declared.resolved.Life.{Life}
 use Rattle.tm_names.specs.declared.resolved.Life.TheVariants.{Static, Declared, Param}
@@ -41,10 +43,10 @@ is_head_known defs regions (Named def lives) = nat_lt def.0 defs && list_all (is
 is_head_known defs regions (Ref' life mutable shape row) = is_life_known regions life
 is_head_known defs regions t = true
 
--- so it is of each type that is written in a type, and these are at most 64
+-- so it is of each type that is written in a type, and these aren't too many
 abbrev pub is_type_in_form : Resolved → Open → Bool
 is_type_in_form resolved t =
-    list_all (is_head_known (length resolved.defs) (length resolved.regions)) (written t) && nat_le (length (written t)) 64
+    list_all (is_head_known (length resolved.defs) (length resolved.regions)) (written t) && nat_le (length (written t)) (limit_number TypeNodes)
 
 -- a type for each field
 abbrev pub is_variant_typed : List Variant → List (List Open) → Bool
@@ -68,12 +70,12 @@ abbrev pub asked_types : Resolved → List Open
 asked_types resolved = flat_map (λ ask. ask.src ∷ ask.dst ∷ []) resolved.asks
 
 pub record IsInForm (resolved : Resolved) : Type 0 where
-  pub few_defs : length resolved.defs ≤ 256
-  pub few_regions : length resolved.regions ≤ 17
+  pub few_defs : length resolved.defs ≤ limit_number Definitions
+  pub few_regions : length resolved.regions ≤ limit_number Lifetimes + 1
   -- the first of them is `'static`
   pub some_region : 0 < length resolved.regions
-  pub few_asks : length resolved.asks ≤ 256
-  pub defs_in_form : IsTrue (are_defs_in_form resolved.defs)
+  pub few_asks : length resolved.asks ≤ limit_number Questions
+  pub defs_in_form : IsTrue (are_defs_in_form resolved.profile resolved.defs)
   pub values_distinct : AreValuesDistinct resolved.defs
   pub bounds_known : IsTrue (list_all (is_bound_known (length resolved.regions)) resolved.bounds)
   pub defs_typed : IsTrue (are_defs_typed resolved.defs resolved.types)

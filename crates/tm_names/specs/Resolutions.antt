@@ -8,6 +8,7 @@ use Rattle.tm_base.specs.declared.definition.Field.{Field}
 use Rattle.tm_base.specs.declared.definition.RegionId.{RegionId}
 use Rattle.tm_base.specs.declared.definition.Repr.{Repr}
 use Rattle.tm_base.specs.declared.definition.Variant.{Variant}
+use Rattle.tm_base.specs.declared.profile.Profile.{Profile}
 use Rattle.tm_names.specs.declared.resolved.Life.{Life}
 use Rattle.tm_names.specs.declared.resolved.Life.TheVariants.{Static, Declared, Param}
 use Rattle.tm_names.specs.declared.resolved.Open.{Open as Type', Prim, Never, Tuple, Array, NonZero, Wrap, Named, Ref}
@@ -112,12 +113,13 @@ module _ (name : ℕ → List ℕ) where
   abbrev pub regions_of : List ℕ → List (List ℕ)
   regions_of lifetimes = codes "'static" ∷ map name lifetimes
 
-  -- the whole file
-  abbrev pub resolved_of : Parsed → Resolved
-  resolved_of file = record {
-    defs = map def_of file.decls;
-    types = map (decl_types file.decls) file.decls;
-    regions = regions_of file.lifetimes;
-    bounds = map (bound_of file.lifetimes) file.bounds;
-    asks = map (ask_of file) file.questions;
-  }
+-- the whole file, for a profile
+abbrev pub resolved_of : Profile → (ℕ → List ℕ) → Parsed → Resolved
+resolved_of profile name file = record {
+  profile = profile;
+  defs = map (def_of name) file.decls;
+  types = map (decl_types name file.decls) file.decls;
+  regions = regions_of name file.lifetimes;
+  bounds = map (bound_of name file.lifetimes) file.bounds;
+  asks = map (ask_of name file) file.questions;
+}

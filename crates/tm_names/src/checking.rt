@@ -17,11 +17,12 @@ use crate::resolved::Resolved;
 use crate::resolving::resolved;
 use crate::source::Source;
 use std::alloc::Global;
+use tm_base::Profile;
 use tm_lex::Token;
 use tm_parse::Parsed;
 
-/// What the names of a file mean, where none of them is at fault. Each definition has a name of its own, which
-/// no type has that each file has, and so has each region.
+/// What the names of a file mean under a profile, where none of them is at fault. Each
+/// definition has a name of its own, which no type has that each file has, and so has each region.
 ///
 /// The file is what `tm_parse::parse` answers for the text and its tokens. `Fault(why, place)` comes
 /// exactly where the file has a fault: this one stands at the least token, counted from 0, and of two at
@@ -31,20 +32,26 @@ pub fn check(
     text: &str,
     tokens: &[Token],
     parsed: &Parsed,
+    profile: Profile,
 ) -> Result<Resolved, NameErr>
     requires tokenized { Tokenizes text.now tokens.now }
     requires spelled { SpellsFile (terminals_of text.now tokens.now) parsed.now }
-    ensures resolved { IfOk result (λ found. found ≡ resolved_of (name_at text.now tokens.now) parsed.now) }
-    ensures sound { IfOk result (λ _. HasNoFault (name_at text.now tokens.now) parsed.now) }
+    ensures resolved { IfOk result (λ found. found ≡ resolved_of profile (name_at text.now tokens.now) parsed.now) }
+    ensures profile { IfOk result (λ found. found.profile ≡ profile) }
+    ensures sound { IfOk result (λ _. HasNoFault profile (name_at text.now tokens.now) parsed.now) }
     ensures in_form { IfOk result IsInForm }
     ensures apart { IfOk result HasApartNames }
-    ensures fault { IfErr result (HasCause (name_at text.now tokens.now) parsed.now) }
+    ensures fault { IfErr result (HasCause profile (name_at text.now tokens.now) parsed.now) }
     ensures place { IfErr result (IsPlaceOf tokens.now) }
 
     // A file has one first fault at most, which is answered where memory isn't wanting.
-    ensures faults { (why : Kind) (place : ℕ) → IsFirstFault (name_at text.now tokens.now) parsed.now why place → MatchResult result (λ _. ⊥) (λ err. (err ≡ NameErr.Fault why place) ⊎ (err ≡ NameErr.Memory)) }
+    ensures faults { (why : Kind) (place : ℕ) → IsFirstFault profile (name_at text.now tokens.now) parsed.now why place → MatchResult result (λ _. ⊥) (λ err. (err ≡ NameErr.Fault why place) ⊎ (err ≡ NameErr.Memory)) }
 {
-    let source = Source { text, tokens };
+    let source = Source {
+        text,
+        tokens,
+        profile,
+    };
     let Ok(definitions) = indexed(alloc, &source, parsed.decls.as_slice()) else {
         return Err(NameErr::Memory);
     };

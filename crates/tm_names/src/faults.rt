@@ -33,7 +33,7 @@ fn note_decl(
     decl: &Decl,
 ) -> Result<Option<NameFault>, Memory>
     requires { IsIndexed (names_in source.now) definitions.now }
-    ensures { IfOk result (λ found. found ≡ earliest first (decl_faults (names_in source.now) definitions.now.decls.now decl.now)) }
+    ensures { IfOk result (λ found. found ≡ earliest first (decl_faults source.now.profile (names_in source.now) definitions.now.decls.now decl.now)) }
 {
     let items = items(alloc, decl)?;
     let mentions = mentions(alloc, decl)?;
@@ -42,7 +42,7 @@ fn note_decl(
     let first = note_reserved(first, source, params);
     let first = note_mentions(first, source, definitions, params, mentions.as_slice());
     let tag = tag(items.as_slice());
-    let first = note_values(alloc, first, tag, decl.variants.as_slice())?;
+    let first = note_values(alloc, first, source.profile, tag, decl.variants.as_slice())?;
     Ok(note_repr(first, decl, items.as_slice()))
 }
 
@@ -54,7 +54,7 @@ fn note_decls(
     definitions: &Definitions,
 ) -> Result<Option<NameFault>, Memory>
     requires { IsIndexed (names_in source.now) definitions.now }
-    ensures { IfOk result (λ found. found ≡ earliest first (flat_map (decl_faults (names_in source.now) definitions.now.decls.now) definitions.now.decls.now)) }
+    ensures { IfOk result (λ found. found ≡ earliest first (flat_map (decl_faults source.now.profile (names_in source.now) definitions.now.decls.now) definitions.now.decls.now)) }
 {
     let mut first = first;
     for decl in definitions.decls {
@@ -139,7 +139,7 @@ pub fn first_fault(
 ) -> Result<Option<NameFault>, Memory>
     requires indexed { IsIndexed (names_in source.now) definitions.now }
     requires same { definitions.now.decls.now ≡ parsed.now.decls }
-    ensures { IfOk result (λ found. found ≡ earliest None (file_faults (names_in source.now) parsed.now)) }
+    ensures { IfOk result (λ found. found ≡ earliest None (file_faults source.now.profile (names_in source.now) parsed.now)) }
 {
     let lifetimes = parsed.lifetimes.as_slice();
     let names = decl_names(alloc, definitions.decls)?;

@@ -12,7 +12,7 @@ use crate::counting::{next, value_in};
 use crate::least::{NameFault, note};
 use crate::value::Value;
 use std::alloc::Global;
-use tm_base::{List, Memory, NameWhy, Primitive};
+use tm_base::{List, Memory, NameWhy, Primitive, Profile};
 use tm_parse::DeclVariant;
 
 /// Whether a number, or what stands for it below zero, is below a bound.
@@ -36,8 +36,8 @@ fn is_small(value: Value, bound: u128) -> bool
 }
 
 /// Whether an integer type holds a value.
-fn fits(primitive: Primitive, value: Value) -> bool
-    ensures { result ≡ fits_integer primitive (int_of value) }
+fn fits(profile: Profile, primitive: Primitive, value: Value) -> bool
+    ensures { result ≡ fits_integer profile primitive (int_of value) }
 {
     match primitive {
         Primitive::Bool | Primitive::U8 => is_small(value, 0x100),
@@ -46,22 +46,28 @@ fn fits(primitive: Primitive, value: Value) -> bool
         Primitive::I16 => is_below(value, 0x8000),
         Primitive::Char | Primitive::F32 | Primitive::U32 => is_small(value, 0x1_0000_0000),
         Primitive::I32 => is_below(value, 0x8000_0000),
-        Primitive::U64 | Primitive::Usize | Primitive::F64 => {
-            is_small(value, 0x1_0000_0000_0000_0000)
-        }
-        Primitive::I64 | Primitive::Isize => is_below(value, 0x8000_0000_0000_0000),
+        Primitive::U64 | Primitive::F64 => is_small(value, 0x1_0000_0000_0000_0000),
+        Primitive::I64 => is_below(value, 0x8000_0000_0000_0000),
+        Primitive::Usize => match profile {
+            Profile::Le64 | Profile::Be64 => is_small(value, 0x1_0000_0000_0000_0000),
+            Profile::Le32 => is_small(value, 0x1_0000_0000),
+        },
+        Primitive::Isize => match profile {
+            Profile::Le64 | Profile::Be64 => is_below(value, 0x8000_0000_0000_0000),
+            Profile::Le32 => is_below(value, 0x8000_0000),
+        },
         Primitive::U128 => matches!(value, Value::AtLeastZero(_)),
         Primitive::I128 => is_below(value, 0x8000_0000_0000_0000_0000_0000_0000_0000),
     }
 }
 
 /// Whether a value is in the range of an enum's discriminants.
-fn is_in_range(tag: Option<Primitive>, value: Value) -> bool
-    ensures { result ≡ is_in_range tag (int_of value) }
+fn is_in_range(profile: Profile, tag: Option<Primitive>, value: Value) -> bool
+    ensures { result ≡ is_in_range profile tag (int_of value) }
 {
     match tag {
-        None => fits(Primitive::I64, value),
-        Some(primitive) => fits(primitive, value),
+        None => fits(profile, Primitive::I64, value),
+        Some(primitive) => fits(profile, primitive, value),
     }
 }
 
@@ -77,10 +83,10 @@ fn is_equal(value: Value, other: Value) -> bool
 }
 
 /// Whether a value is out of range or one of those before it.
-fn is_wrong(tag: Option<Primitive>, before: &[Value], value: Value) -> bool
-    ensures { result ≡ is_wrong tag before.now value }
+fn is_wrong(profile: Profile, tag: Option<Primitive>, before: &[Value], value: Value) -> bool
+    ensures { result ≡ is_wrong profile tag before.now value }
 {
-    if !is_in_range(tag, value) {
+    if !is_in_range(profile, tag, value) {
         return true;
     }
     for other in before {
@@ -110,17 +116,18 @@ fn note_at(
 pub fn note_values(
     alloc: Global,
     first: Option<NameFault>,
+    profile: Profile,
     tag: Option<Primitive>,
     variants: &[DeclVariant],
 ) -> Result<Option<NameFault>, Memory>
-    ensures { IfOk result (λ found. found ≡ earliest first (value_faults tag [] (value_is.AtLeastZero 0) variants.now)) }
+    ensures { IfOk result (λ found. found ≡ earliest first (value_faults profile tag [] (value_is.AtLeastZero 0) variants.now)) }
 {
     let mut first = first;
     let mut before = List::new(alloc);
     let mut implied = Value::AtLeastZero(0);
     for variant in variants {
         let value = value_in(implied, variant);
-        let wrong = is_wrong(tag, before.as_slice(), value);
+        let wrong = is_wrong(profile, tag, before.as_slice(), value);
         first = note_at(first, wrong, NameWhy::Discriminant, variant.name);
         add(&mut before, value)?;
         implied = next(value);

@@ -1,4 +1,4 @@
-use tm_base::{Assume, Bound, Boxed, Def, DefId, List, Primitive, Text, Wrapper};
+use tm_base::{Assume, Bound, Boxed, Def, DefId, List, Primitive, Profile, Text, Wrapper};
 
 /// A lifetime that is resolved.
 ///
@@ -37,13 +37,14 @@ pub struct OpenAsk {
     pub assume: Assume,
 }
 
-/// A file whose names are resolved.
+/// A file whose names are resolved for a profile.
 ///
 /// A [`DefId`] is a place in `defs`. `types` has one list for each definition, in it one for each variant,
 /// and in that one type for each field. `regions` has the text of each region: `'static` first, then the
 /// declared lifetimes in the file's order.
 #[derive(Debug, Drop)]
 pub struct Resolved {
+    pub profile: Profile,
     pub defs: List<Def>,
     pub types: List<List<List<Open>>>,
     pub regions: List<Text>,

@@ -271,10 +271,11 @@ pub fn resolved(
     requires same { definitions.now.decls.now ≡ parsed.now.decls }
     requires narrow { All IsNarrow definitions.now.decls.now }
     requires few { length parsed.now.lifetimes ≤ 16 }
-    ensures { IfOk result (λ found. found ≡ resolved_of (names_in source.now) parsed.now) }
+    ensures { IfOk result (λ found. found ≡ resolved_of source.now.profile (names_in source.now) parsed.now) }
 {
     let lifetimes = parsed.lifetimes.as_slice();
     Ok(Resolved {
+        profile: source.profile,
         defs: all_definitions(alloc, source, definitions.decls)?,
         types: all_types(alloc, source, definitions)?,
         regions: all_regions(alloc, source, lifetimes)?,

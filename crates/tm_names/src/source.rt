@@ -2,13 +2,15 @@ ghost use Rattle.std.specs.Prelude.{◌≡◌, ◌<◌, IfSome, length, slice_ra
 ghost use Rattle.tm_names.specs.Written.{first_among, is_among, is_reserved, is_same, is_static};
 ghost use Rattle.tm_names.specs.Source.{names_in};
 
+use tm_base::Profile;
 use tm_lex::Token;
 
-/// A text with its tokens.
+/// A text with its tokens, and the profile for which it is read.
 #[derive(Clone, Copy)]
 pub struct Source<'a> {
     pub text: &'a str,
     pub tokens: &'a [Token],
+    pub profile: Profile,
 }
 
 /// The bytes of a text from one place up to another, as far as there are any.

@@ -20,12 +20,12 @@ is_deep-are_deep-requires t c =
 pub is_deep-returns-then-passes : goal.is_deep-returns-then-passes
 is_deep-returns-then-passes t c = λ regions.
     let w = put_in regions c.args.written.now in
-    ap (λ b. b || list_any (deep_within c.args.tables.now) (parts_in w)) (sym c.if-passes.true ∙ c.passes.ensures regions) ∙ sym (deep-parts c.args.tables.now w)
+    ap (λ b. b || list_any (deep_within c.args.tables.now) (parts_in w)) (sym c.if-passes.true ∙ (rw c.depth_limit.ensures at (c.passes.ensures regions))) ∙ sym (deep-parts c.args.tables.now w)
 
 pub is_deep-returns : goal.is_deep-returns
 is_deep-returns t c = λ regions.
     let w = put_in regions c.args.written.now in
     c.are_deep.ensures regions
     ∙ ap (list_any (deep_within c.args.tables.now)) (c.parts.ensures regions)
-    ∙ ap (λ b. b || list_any (deep_within c.args.tables.now) (parts_in w)) (sym c.if-passes.false ∙ c.passes.ensures regions)
+    ∙ ap (λ b. b || list_any (deep_within c.args.tables.now) (parts_in w)) (sym c.if-passes.false ∙ (rw c.depth_limit.ensures at (c.passes.ensures regions)))
     ∙ sym (deep-parts c.args.tables.now w)

@@ -3,13 +3,14 @@ use Rattle.tm_ground.specs.Closing.{FindsRefs, TellsDepth}
 use Rattle.tm_ground.specs.Keys.{closed_types, named_types}
 use Rattle.tm_ground.proofs.BelongsLemmas.{belongs}
 use Rattle.tm_ground.proofs.PigeonLemmas.{whole-fits}
+use Rattle.tm_ground.specs.Limits.{type_limit, ref_limit}
 use Rattle.tm_ground.proofs.grounding.ground.Goals as goal
 
 pub returns-in-Err-Full-occurring_refs-clause-cause : goal.returns-in-Err-Full-occurring_refs-clause-cause
-returns-in-Err-Full-occurring_refs-clause-cause c = (whole-fits 1024 _ _ c.in-Ok.ensures, subst (λ stop. FindsRefs c.args.resolved.now (Err stop)) c.in-Err-Full-occurring_refs.field-0-is c.in-Err-Full-occurring_refs.ensures)
+returns-in-Err-Full-occurring_refs-clause-cause c = (whole-fits type_limit _ _ c.in-Ok.ensures, subst (λ stop. FindsRefs c.args.resolved.now (Err stop)) c.in-Err-Full-occurring_refs.field-0-is c.in-Err-Full-occurring_refs.ensures)
 
 pub returns-in-Ok-true-clause-cause : goal.returns-in-Ok-true-clause-cause
-returns-in-Ok-true-clause-cause c = (whole-fits 1024 _ _ c.in-Ok.ensures, whole-fits 64 _ _ c.in-Ok-occurring_refs.ensures, subst (TellsDepth c.args.resolved.now) c.in-Ok-true.field-0-test c.in-Ok-true.ensures)
+returns-in-Ok-true-clause-cause c = (whole-fits type_limit _ _ c.in-Ok.ensures, whole-fits ref_limit _ _ c.in-Ok-occurring_refs.ensures, subst (TellsDepth c.args.resolved.now) c.in-Ok-true.field-0-test c.in-Ok-true.ensures)
 
 pub returns-clause-world : goal.returns-clause-world
 returns-clause-world c =
@@ -17,7 +18,7 @@ returns-clause-world c =
 
 pub returns-clause-fits : goal.returns-clause-fits
 returns-clause-fits c = record {
-  types = whole-fits 1024 _ _ c.in-Ok.ensures;
-  refs = whole-fits 64 _ _ c.in-Ok-occurring_refs.ensures;
+  types = whole-fits type_limit _ _ c.in-Ok.ensures;
+  refs = whole-fits ref_limit _ _ c.in-Ok-occurring_refs.ensures;
   depth = subst (TellsDepth c.args.resolved.now) c.in-Ok-false.field-0-test c.in-Ok-false.ensures;
 }

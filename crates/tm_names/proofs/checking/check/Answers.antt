@@ -13,17 +13,17 @@ use Rattle.tm_names.proofs.checking.check.Goals as goal
 
 pub returns-in-Ok-Some-clause-fault : goal.returns-in-Ok-Some-clause-fault
 returns-in-Ok-Some-clause-fault c =
-    first_stands (name_at c.args.text.now c.args.tokens.now) c.args.parsed.now c.in-Ok-Some.fault (sym c.in-Ok-Some.ensures ∙ c.in-Ok-Some.field-0-is)
+    first_stands c.args.profile (name_at c.args.text.now c.args.tokens.now) c.args.parsed.now c.in-Ok-Some.fault (sym c.in-Ok-Some.ensures ∙ c.in-Ok-Some.field-0-is)
 
 pub returns-in-Ok-Some-clause-place : goal.returns-in-Ok-Some-clause-place
 returns-in-Ok-Some-clause-place c =
-    let first = first_stands (name_at c.args.text.now c.args.tokens.now) c.args.parsed.now c.in-Ok-Some.fault (sym c.in-Ok-Some.ensures ∙ c.in-Ok-Some.field-0-is) in
-    fault_placed (λ place. place < length c.args.tokens.now) (name_at c.args.text.now c.args.tokens.now) c.args.parsed.now
+    let first = first_stands c.args.profile (name_at c.args.text.now c.args.tokens.now) c.args.parsed.now c.in-Ok-Some.fault (sym c.in-Ok-Some.ensures ∙ c.in-Ok-Some.field-0-is) in
+    fault_placed (λ place. place < length c.args.tokens.now) c.args.profile (name_at c.args.text.now c.args.tokens.now) c.args.parsed.now
     (spelled_placed c.args.text.now c.args.tokens.now c.args.parsed.now c.requires.spelled) c.in-Ok-Some.fault.why c.in-Ok-Some.fault.place first.fault
 
 pub returns-in-Ok-Some-clause-faults : goal.returns-in-Ok-Some-clause-faults
 returns-in-Ok-Some-clause-faults c = λ why place h.
-    let same = one_first (name_at c.args.text.now c.args.tokens.now) c.args.parsed.now why place h c.in-Ok-Some.fault (sym c.in-Ok-Some.ensures ∙ c.in-Ok-Some.field-0-is) in
+    let same = one_first c.args.profile (name_at c.args.text.now c.args.tokens.now) c.args.parsed.now why place h c.in-Ok-Some.fault (sym c.in-Ok-Some.ensures ∙ c.in-Ok-Some.field-0-is) in
     inl (ap (λ kind. Fault kind c.in-Ok-Some.fault.place) same.0 ∙ ap (λ there. Fault why there) same.1)
 
 pub indexed-requires : goal.indexed-requires
@@ -39,26 +39,26 @@ resolved-requires-clause-few c =
 
 pub resolved-requires-clause-narrow : goal.resolved-requires-clause-narrow
 resolved-requires-clause-narrow c =
-    let sound = nothing_stands (name_at c.args.text.now c.args.tokens.now) c.args.parsed.now (sym c.in-Ok-None.ensures ∙ c.in-Ok-None.field-0-is) in
+    let sound = nothing_stands c.args.profile (name_at c.args.text.now c.args.tokens.now) c.args.parsed.now (sym c.in-Ok-None.ensures ∙ c.in-Ok-None.field-0-is) in
     let within = spelled_within c.args.text.now c.args.tokens.now c.args.parsed.now c.requires.spelled in
-    subst (λ decls. All IsNarrow decls) (sym (c.in-Ok.ensures.decls ∙ c.as_slice.ensures)) (decls_narrow (name_at c.args.text.now c.args.tokens.now) c.args.parsed.now sound within)
+    subst (λ decls. All IsNarrow decls) (sym (c.in-Ok.ensures.decls ∙ c.as_slice.ensures)) (decls_narrow c.args.profile (name_at c.args.text.now c.args.tokens.now) c.args.parsed.now sound within)
 
 pub returns-in-Ok-resolved-clause-sound : goal.returns-in-Ok-resolved-clause-sound
 returns-in-Ok-resolved-clause-sound c =
-    nothing_stands (name_at c.args.text.now c.args.tokens.now) c.args.parsed.now (sym c.in-Ok-None.ensures ∙ c.in-Ok-None.field-0-is)
+    nothing_stands c.args.profile (name_at c.args.text.now c.args.tokens.now) c.args.parsed.now (sym c.in-Ok-None.ensures ∙ c.in-Ok-None.field-0-is)
 
 pub returns-in-Ok-resolved-clause-faults : goal.returns-in-Ok-resolved-clause-faults
 returns-in-Ok-resolved-clause-faults c = λ why place h.
-    no_first (name_at c.args.text.now c.args.tokens.now) c.args.parsed.now why place h (sym c.in-Ok-None.ensures ∙ c.in-Ok-None.field-0-is)
+    no_first c.args.profile (name_at c.args.text.now c.args.tokens.now) c.args.parsed.now why place h (sym c.in-Ok-None.ensures ∙ c.in-Ok-None.field-0-is)
 
 pub returns-in-Ok-resolved-clause-in_form : goal.returns-in-Ok-resolved-clause-in_form
 returns-in-Ok-resolved-clause-in_form c =
-    let sound = nothing_stands (name_at c.args.text.now c.args.tokens.now) c.args.parsed.now (sym c.in-Ok-None.ensures ∙ c.in-Ok-None.field-0-is) in
+    let sound = nothing_stands c.args.profile (name_at c.args.text.now c.args.tokens.now) c.args.parsed.now (sym c.in-Ok-None.ensures ∙ c.in-Ok-None.field-0-is) in
     let within = spelled_within c.args.text.now c.args.tokens.now c.args.parsed.now c.requires.spelled in
-    subst IsInForm (sym c.in-Ok-resolved.ensures) (resolved_in_form (name_at c.args.text.now c.args.tokens.now) c.args.parsed.now sound within)
+    subst IsInForm (sym c.in-Ok-resolved.ensures) (resolved_in_form c.args.profile (name_at c.args.text.now c.args.tokens.now) c.args.parsed.now sound within)
 
 pub returns-in-Ok-resolved-clause-apart : goal.returns-in-Ok-resolved-clause-apart
 returns-in-Ok-resolved-clause-apart c =
-    let sound = nothing_stands (name_at c.args.text.now c.args.tokens.now) c.args.parsed.now (sym c.in-Ok-None.ensures ∙ c.in-Ok-None.field-0-is) in
+    let sound = nothing_stands c.args.profile (name_at c.args.text.now c.args.tokens.now) c.args.parsed.now (sym c.in-Ok-None.ensures ∙ c.in-Ok-None.field-0-is) in
     subst HasApartNames (sym c.in-Ok-resolved.ensures)
-    (spelled_apart c.args.text.now c.args.tokens.now c.args.parsed.now c.utf8.text c.requires.tokenized c.requires.spelled sound)
+    (spelled_apart c.args.profile c.args.text.now c.args.tokens.now c.args.parsed.now c.utf8.text c.requires.tokenized c.requires.spelled sound)

@@ -21,11 +21,11 @@ returns c =
     let reserved_ones = rw lifetimes at c.note_reserved-first.ensures in
     let defined = rw decls at c.in_ok-first.ensures in
     let infinite = infinite_faults name file.decls in
-    let whole : earliest c.in_ok-first-2.first infinite ≡ earliest None (file_faults name file) =
+    let whole : earliest c.in_ok-first-2.first infinite ≡ earliest None (file_faults c.args.source.now.profile name file) =
     step None c.note_repeats-first.result (earliest c.in_ok-first-2.first infinite) (repeats name (map (λ d. d.name) file.decls))
     _ named
     (chain c.note_repeats-first.result c.note_repeats-first-2.result c.note_reserved-first.result c.in_ok-first.first c.in_ok-first-2.first (earliest c.in_ok-first-2.first infinite)
-    (repeats name file.lifetimes) (reserved name file.lifetimes) (flat_map (decl_faults name file.decls) file.decls)
+    (repeats name file.lifetimes) (reserved name file.lifetimes) (flat_map (decl_faults c.args.source.now.profile name file.decls) file.decls)
     (scope_faults name file.decls (outer_scope file)) infinite
     declared reserved_ones defined (rw decls at c.in_ok-first-2.ensures) refl) in
     subst (λ found_ones. IfOk c.note_infinite.result (λ found. found ≡ found_ones)) whole (rw decls at c.note_infinite.ensures)

@@ -20,5 +20,5 @@ returns c =
     let d = c.args.decl.now in
     chain c.args.first c.in_ok-first.first c.note_reserved-first.result c.note_mentions-first.result c.in_ok-first-2.first c.note_repr.result
     (flat_map (repeats name) (decl_lists d)) (reserved name d.params) (scope_faults name c.args.definitions.now.decls.now (decl_scope d))
-    (value_faults (tag_of d) [] (AtLeastZero 0) d.variants) (repr_faults d)
+    (value_faults c.args.source.now.profile (tag_of d) [] (AtLeastZero 0) d.variants) (repr_faults d)
     listed reserved_ones mentioned values c.note_repr.ensures

@@ -9,7 +9,7 @@ use Rattle.tm_names.proofs.faults.note_decls.Goals as goal
 pub loop-decl-preserved : goal.loop-decl-preserved
 loop-decl-preserved c =
     let name = names_in c.args.source.now in
-    let faults = decl_faults name c.args.definitions.now.decls.now in
+    let faults = decl_faults c.args.source.now.profile name c.args.definitions.now.decls.now in
     turn faults c.loop-decl.first c.in_ok-first.first (earliest c.args.first (flat_map faults c.args.definitions.now.decls.now)) c.args.definitions.now.decls.now
     c.loop-decl.decl-index (c.loop-decl.decl-index + 1) c.decl-item.result
     c.loop-decl-test.true (omega arith) c.decl-item.is c.in_ok-first.ensures c.loop-decl.invariant

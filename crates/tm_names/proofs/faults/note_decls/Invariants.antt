@@ -7,5 +7,5 @@ use Rattle.tm_names.proofs.faults.note_decls.Given as goal
 
 abbrev pub invariant-loop-decl : goal.invariant-loop-decl
 invariant-loop-decl l =
-    earliest l.first (flat_map (decl_faults (names_in l.source) l.definitions.decls.now) (drop l.decl-index l.definitions.decls.now))
-    ≡ earliest l.fn.first (flat_map (decl_faults (names_in l.fn.source) l.fn.definitions.decls.now) l.fn.definitions.decls.now)
+    earliest l.first (flat_map (decl_faults l.source.profile (names_in l.source) l.definitions.decls.now) (drop l.decl-index l.definitions.decls.now))
+    ≡ earliest l.fn.first (flat_map (decl_faults l.fn.source.profile (names_in l.fn.source) l.fn.definitions.decls.now) l.fn.definitions.decls.now)

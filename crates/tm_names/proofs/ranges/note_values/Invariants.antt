@@ -6,4 +6,4 @@ use Rattle.tm_names.proofs.ranges.note_values.Given as goal
 
 abbrev pub invariant-loop-variant : goal.invariant-loop-variant
 invariant-loop-variant l =
-    earliest l.first (value_faults l.tag l.before l.implied (drop l.variant-index l.variants)) ≡ earliest l.fn.first (value_faults l.fn.tag [] (AtLeastZero 0) l.fn.variants)
+    earliest l.first (value_faults l.profile l.tag l.before l.implied (drop l.variant-index l.variants)) ≡ earliest l.fn.first (value_faults l.fn.profile l.fn.tag [] (AtLeastZero 0) l.fn.variants)
