@@ -2,6 +2,7 @@
 # instructions are counted.
 top=$(cd "$(dirname "${BASH_SOURCE[0]}")/.." && pwd)
 command -v valgrind >/dev/null || { echo "valgrind is wanted: apt-get install valgrind" >&2; exit 1; }
+unset TRANSMUTE_REPORT_UNPROVED
 "$top/bin/transmute_report" </dev/null >/dev/null || exit 1
 program=$top/crates/transmute_report/out/transmute_report
 work=$(mktemp -d)

@@ -14,6 +14,8 @@ if [ $# -lt 1 ]; then
     exit 2
 fi
 
+# rows are of the proved program
+unset TRANSMUTE_REPORT_UNPROVED
 work=$(mktemp -d)
 trap 'rm -rf "$work"' EXIT
 passed=0

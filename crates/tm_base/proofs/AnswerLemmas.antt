@@ -158,10 +158,10 @@ module _ (tables : Tables) (ask : Ask) where
       → IsLeastFault tables ask before fault → IsLeastFault tables ask before found → BothSame rule other fault found
   cell_rule_same before None rule other fault found p q least least' = absurd p
   cell_rule_same before (Some Uninit) rule other fault found (is, e) (is', e') least least' = (is ∙ sym is', e ∙ sym e')
-  cell_rule_same before (Some (Byte b)) rule other fault found (inl (is, goes), e) (inl (is', goes'), e') least least' = (is ∙ sym is', e ∙ sym e')
-  cell_rule_same before (Some (Byte b)) rule other fault found (inl (is, goes), e) (inr (is', stuck), e') least least' = absurd (stuck goes)
-  cell_rule_same before (Some (Byte b)) rule other fault found (inr (is, stuck), e) (inl (is', goes), e') least least' = absurd (stuck goes)
-  cell_rule_same before (Some (Byte b)) rule other fault found (inr (is, stuck), e) (inr (is', stuck'), e') least least' = (is ∙ sym is', e ∙ sym e')
+  cell_rule_same before (Some (Byte b)) rule other fault found (inl (is, goes, e)) (inl (is', goes', e')) least least' = (is ∙ sym is', e ∙ sym e')
+  cell_rule_same before (Some (Byte b)) rule other fault found (inl (is, goes, e)) (inr (is', stuck, e')) least least' = absurd (stuck goes)
+  cell_rule_same before (Some (Byte b)) rule other fault found (inr (is, stuck, e)) (inl (is', goes, e')) least least' = absurd (stuck goes)
+  cell_rule_same before (Some (Byte b)) rule other fault found (inr (is, stuck, e)) (inr (is', stuck', e')) least least' = (is ∙ sym is', e ∙ sym e')
   cell_rule_same before (Some (Ptr r k)) rule other fault found (inl (is, e, none)) (inl (is', e', none')) least least' = (is ∙ sym is', e ∙ sym e')
   cell_rule_same before (Some (Ptr r k)) rule other fault found (inl (is, e, none)) (inr (g, e', s', z', open_g, second)) least least' = absurd (none g.target.0 open_g)
   cell_rule_same before (Some (Ptr r k)) rule other fault found (inr (f, e, s, z, open_f, first)) (inl (is', e', none)) least least' = absurd (none f.target.0 open_f)

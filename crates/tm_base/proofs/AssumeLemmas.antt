@@ -1,17 +1,21 @@
 -- What may be taken may be taken under more assumptions. For `validity` it has to be known of each type
 -- of the world whether it has a value, since a cast of a type with values then wants one that fits.
-use Rattle.std.proofs.Common.{◌≡◌, ℕ, zero, suc, ⊎_elim, inl, inr, refl, Bool, true, false, slice_get}
+use Rattle.std.proofs.Common.{◌≡◌, ℕ, zero, suc, ◌⊎◌, ⊎_elim, inl, inr, refl, Bool, true, false, slice_get}
 use Rattle.tm_base.specs.declared.assume.Assume.{Assume}
 use Rattle.tm_base.specs.declared.definition.RefRow.{RefRow}
 use Rattle.tm_base.specs.declared.ground.Ground.{Ground}
 use Rattle.tm_base.specs.Assumptions.{Includes}
+use Rattle.tm_base.specs.Cells.{Word}
 use Rattle.tm_base.specs.Compatible.{CompatibleTo, Compatible, KeepsAll, MeetsLocally, MeetsOver}
 use Rattle.tm_base.specs.Expanded.{Expanded}
-use Rattle.tm_base.specs.Laws.{IsSettled}
 use Rattle.tm_base.specs.Tables.{Tables, expanded_in}
-use Rattle.tm_base.specs.Transmutes.{Transmutes, EveryWordFits, SomeWordFits}
+use Rattle.tm_base.specs.Transmutes.{Transmutes, IsUninhabited, IsSourceWord, EveryWordFits, SomeWordFits}
 use Rattle.tm_base.proofs.CompatibleLemmas.{OnRows-grows}
 use Rattle.tm_base.proofs.ValidLemmas.{Valid-grows}
+
+-- the type has no value, or one is known
+abbrev pub IsSettled : Expanded → Type 0
+IsSettled s = IsUninhabited s ⊎ ((w : Word) × IsSourceWord s w)
 
 module _ (A B : ℕ → ℕ → Type 0) (over : (x t : ℕ) → A x t → B x t) (more less : Assume) (includes : Includes more less) (s t : Expanded) where
   every_grows : EveryWordFits A less.safety s t → EveryWordFits B more.safety s t

@@ -9,6 +9,7 @@ use Rattle.tm_base.specs.declared.ground.Ground.TheOpen.{Ground-F}
 use Rattle.tm_base.specs.declared.ground.NamedId.{NamedId}
 use Rattle.tm_base.specs.declared.ground.Wrapper.{Wrapper}
 use Rattle.tm_base.specs.declared.ground.Wrapper.TheVariants as wrapper
+use Rattle.tm_base.specs.declared.profile.Profile.{Profile}
 use Rattle.tm_base.specs.Expanded.{Expanded, tuple, array, wrap, named, elements, fields_of, variants_of, defined, row_of, wrapped, level, expanded_within, expanded, depth_limit}
 use Rattle.tm_base.specs.Parts.{some_part, some_field, some_variant, some_within, is_too_deep, is_whole}
 
@@ -29,7 +30,7 @@ part_deep t = some_part is_too_deep t
 
 -- Two ways to write out the parts of a type make one type of it, where they agree on each part that the
 -- first writes out whole.
-module _ (f h : Ground → Expanded) (agree : (g : Ground) → IsDeepEnough (f g) → h g ≡ f g) where
+module _ (profile : Profile) (f h : Ground → Expanded) (agree : (g : Ground) → IsDeepEnough (f g) → h g ≡ f g) where
   elements-same : (gs : List Ground) → some_field is_too_deep (elements f gs) ≡ false → elements h gs ≡ elements f gs
   unfolding some_part
   elements-same [] e = refl
@@ -56,12 +57,12 @@ module _ (f h : Ground → Expanded) (agree : (g : Ground) → IsDeepEnough (f g
       let b = variants_of-same vs types (second_false (some_field is_too_deep (fields_of f v.fields gs)) (some_variant is_too_deep (variants_of f vs types)) e) in
       cc
 
-  defined-same : (id : NamedId) (types : List (List Ground)) (d : Option Def) → IsDeepEnough (defined f id types d) → defined h id types d ≡ defined f id types d
+  defined-same : (id : NamedId) (types : List (List Ground)) (d : Option Def) → IsDeepEnough (defined f profile id types d) → defined h profile id types d ≡ defined f profile id types d
   unfolding some_part
   defined-same id types None e = refl
-  defined-same id types (Some d) e = ap (named id d.kind d.repr) (variants_of-same d.variants types e)
+  defined-same id types (Some d) e = ap (named profile id d.kind d.repr) (variants_of-same d.variants types e)
 
-  row_of-same : (defs : List Def) (id : NamedId) (row : Option NamedRow) → IsDeepEnough (row_of f defs id row) → row_of h defs id row ≡ row_of f defs id row
+  row_of-same : (defs : List Def) (id : NamedId) (row : Option NamedRow) → IsDeepEnough (row_of f profile defs id row) → row_of h profile defs id row ≡ row_of f profile defs id row
   row_of-same defs id None e = refl
   row_of-same defs id (Some row) e = defined-same id row.types (slice_get defs row.def.0) e
 
@@ -75,7 +76,7 @@ module _ (f h : Ground → Expanded) (agree : (g : Ground) → IsDeepEnough (f g
   wrapped-same wrapper.Cell g e = ap (wrap wrapper.Cell) (agree g e)
   wrapped-same wrapper.UnsafeCell g e = ap (wrap wrapper.UnsafeCell) (agree g e)
 
-  level-same : (defs : List Def) (rows : List NamedRow) (x : Ground-F Ground) → IsDeepEnough (level f defs rows x) → level h defs rows x ≡ level f defs rows x
+  level-same : (defs : List Def) (rows : List NamedRow) (x : Ground-F Ground) → IsDeepEnough (level f profile defs rows x) → level h profile defs rows x ≡ level f profile defs rows x
   unfolding some_part
   level-same defs rows (Ground-F.Prim p) e = refl
   level-same defs rows Ground-F.Never e = refl
@@ -88,18 +89,18 @@ module _ (f h : Ground → Expanded) (agree : (g : Ground) → IsDeepEnough (f g
   level-same defs rows (Ground-F.Ref r) e = refl
 
 -- a greater depth gives the same type, where the lesser is enough
-expanded_within-stable : (n : ℕ) (defs : List Def) (rows : List NamedRow) (g : Ground) → IsDeepEnough (expanded_within n defs rows g) → expanded_within (suc n) defs rows g ≡ expanded_within n defs rows g
+expanded_within-stable : (profile : Profile) (n : ℕ) (defs : List Def) (rows : List NamedRow) (g : Ground) → IsDeepEnough (expanded_within profile n defs rows g) → expanded_within profile (suc n) defs rows g ≡ expanded_within profile n defs rows g
 unfolding expanded_within
-expanded_within-stable zero defs rows g e = cc
-expanded_within-stable (suc n) defs rows g e =
-    level-same (expanded_within n defs rows) (expanded_within (suc n) defs rows) (λ part. expanded_within-stable n defs rows part) defs rows (out-Ground g) e
+expanded_within-stable profile zero defs rows g e = cc
+expanded_within-stable profile (suc n) defs rows g e =
+    level-same profile (expanded_within profile n defs rows) (expanded_within profile (suc n) defs rows) (λ part. expanded_within-stable profile n defs rows part) defs rows (out-Ground g) e
 
 whole_deep : (b : Bool) → not b ≡ true → b ≡ false
 whole_deep true h = cc
 whole_deep false h = refl
 
 -- a whole type is one level over its parts
-pub expanded-level : (defs : List Def) (rows : List NamedRow) (g : Ground) → IsTrue (is_whole (expanded defs rows g)) → expanded defs rows g ≡ level (expanded defs rows) defs rows (out-Ground g)
+pub expanded-level : (profile : Profile) (defs : List Def) (rows : List NamedRow) (g : Ground) → IsTrue (is_whole (expanded profile defs rows g)) → expanded profile defs rows g ≡ level (expanded profile defs rows) profile defs rows (out-Ground g)
 unfolding expanded_within
-expanded-level defs rows g e =
-    sym (expanded_within-stable depth_limit defs rows g (whole_deep (some_within is_too_deep (expanded defs rows g)) e))
+expanded-level profile defs rows g e =
+    sym (expanded_within-stable profile depth_limit defs rows g (whole_deep (some_within is_too_deep (expanded profile defs rows g)) e))

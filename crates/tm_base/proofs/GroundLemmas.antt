@@ -1,11 +1,12 @@
 -- What the functions on types give at each kind of type that holds others.
-use Rattle.std.proofs.Common.{◌≡◌, ℕ, refl, ap, ◌∙◌, List, [], ◌∷◌, ◌++◌, append-nil}
+use Rattle.std.proofs.Common.{◌≡◌, ℕ, refl, ap, ◌∙◌, List, ◌∷◌, ◌++◌, append-nil}
 use Rattle.std.specs.List.{flat_map}
 use Rattle.tm_base.specs.declared.cell.RefId.{RefId}
 use Rattle.tm_base.specs.declared.ground.Ground.{Ground, Row_of-Ground, end_of-Ground, more_of-Ground, items-the_row-Ground, items_hidden-the_row-Ground-0, Tuple, Array, Wrap}
 use Rattle.tm_base.specs.declared.ground.Ground.TheBlock.{hidden-the_row-Ground-0, shape-the_row-Ground-1, hidden-the_row-Ground-1}
+use Rattle.tm_base.specs.declared.ground.NamedId.{NamedId}
 use Rattle.tm_base.specs.declared.ground.Wrapper.{Wrapper}
-use Rattle.tm_base.specs.Spelled.{Spelled, Elements, no_elements, element, tuple, array, wrap, spell, spell_all}
+use Rattle.tm_base.specs.Spelled.{Spelled, element, tuple, array, wrap, spell, spell_all, spelled_all}
 use Rattle.tm_base.specs.Whole.{written_types, row_types}
 
 row_types-row : {n : _} (row : Row_of-Ground n) → row_types row ≡ flat_map written_types (items-the_row-Ground n row)
@@ -26,26 +27,21 @@ pub written_types-Wrap : (w : Wrapper) (g : Ground) → written_types (Wrap w g)
 unfolding written_types shape-the_row-Ground-1 hidden-the_row-Ground-1 denote.Hole.Carrier.hidden
 written_types-Wrap w g = ap (λ others. Wrap w g ∷ others) (append-nil (written_types g))
 
--- elements, each spelled
-abbrev pub spelled_all : (Ground → Spelled) → List Ground → Elements
-spelled_all spelling [] = no_elements
-spelled_all spelling (g ∷ gs) = element (spelling g) (spelled_all spelling gs)
-
-module _ (follow : RefId → Spelled) where
-  spell_all-row : {n : _} (row : Row_of-Ground n) → spell_all follow row ≡ spelled_all (spell follow) (items-the_row-Ground n row)
+module _ (name : NamedId → Spelled) (reference : RefId → Spelled) where
+  spell_all-row : {n : _} (row : Row_of-Ground n) → spell_all name reference row ≡ spelled_all (spell name reference) (items-the_row-Ground n row)
   unfolding spell
   spell_all-row end_of-Ground = refl
-  spell_all-row (more_of-Ground g gs) = ap (λ others. element (spell follow g) others) (spell_all-row gs)
+  spell_all-row (more_of-Ground g gs) = ap (λ others. element (spell name reference g) others) (spell_all-row gs)
 
-  pub spell-Tuple : (gs : List Ground) → spell follow (Tuple gs) ≡ tuple (spelled_all (spell follow) gs)
+  pub spell-Tuple : (gs : List Ground) → spell name reference (Tuple gs) ≡ tuple (spelled_all (spell name reference) gs)
   unfolding spell
   spell-Tuple gs =
-      ap tuple (spell_all-row (hidden-the_row-Ground-0 gs) ∙ ap (spelled_all (spell follow)) (items_hidden-the_row-Ground-0 gs))
+      ap tuple (spell_all-row (hidden-the_row-Ground-0 gs) ∙ ap (spelled_all (spell name reference)) (items_hidden-the_row-Ground-0 gs))
 
-  pub spell-Array : (g : Ground) (n : ℕ) → spell follow (Array g n) ≡ array (spell follow g) n
+  pub spell-Array : (g : Ground) (n : ℕ) → spell name reference (Array g n) ≡ array (spell name reference g) n
   unfolding spell shape-the_row-Ground-1 hidden-the_row-Ground-1 denote.Hole.Carrier.hidden
   spell-Array g n = refl
 
-  pub spell-Wrap : (w : Wrapper) (g : Ground) → spell follow (Wrap w g) ≡ wrap w (spell follow g)
+  pub spell-Wrap : (w : Wrapper) (g : Ground) → spell name reference (Wrap w g) ≡ wrap w (spell name reference g)
   unfolding spell shape-the_row-Ground-1 hidden-the_row-Ground-1 denote.Hole.Carrier.hidden
   spell-Wrap w g = refl

@@ -4,18 +4,18 @@ use Rattle.std.specs.List.{Contains}
 use Rattle.tm_base.specs.declared.ground.Ground.{Ground}
 use Rattle.tm_base.specs.Cells.{Word, fit}
 use Rattle.tm_base.specs.Faults.{fault_of}
-use Rattle.tm_base.specs.Reaches.{LeadsIn, Enters, IsJudged}
+use Rattle.tm_base.specs.Reaches.{ChainIn, Enters, IsJudged}
 use Rattle.tm_base.specs.Tables.{Tables, expanded_in}
 
 -- what each step keeps, a way of any length keeps
-pub LeadsIn-keeps : {X : Type 0} (Step : X → X → Type 0) (P : X → Type 0) → ((a b : X) → P a → Step a b → P b) → (n : ℕ) (a b : X) → P a → LeadsIn Step n a b → P b
-unfolding LeadsIn
-LeadsIn-keeps Step P keeps zero a b p e = subst P e p
-LeadsIn-keeps Step P keeps (suc n) a b p (next, step, way) = LeadsIn-keeps Step P keeps n next b (keeps a next p step) way
+pub ChainIn-keeps : {X : Type 0} (Step : X → X → Type 0) (P : X → Type 0) → ((a b : X) → P a → Step a b → P b) → (n : ℕ) (a b : X) → P a → ChainIn Step n a b → P b
+unfolding ChainIn
+ChainIn-keeps Step P keeps zero a b p e = subst P e p
+ChainIn-keeps Step P keeps (suc n) a b p (next, step, way) = ChainIn-keeps Step P keeps n next b (keeps a next p step) way
 
 -- A type is judged where it is one of some types that none leads out of, and none of which is at fault.
 pub IsJudged-from : (tables : Tables) (P : Ground → Type 0) → ((g h : Ground) → P g → Enters tables g h → P h) → ((g : Ground) → P g → fault_of (expanded_in tables g) ≡ None) → (g : Ground) → P g → IsJudged tables g
-IsJudged-from tables P closed sound g p h (n, way) = sound h (LeadsIn-keeps (Enters tables) P closed n g h p way)
+IsJudged-from tables P closed sound g p h (n, way) = sound h (ChainIn-keeps (Enters tables) P closed n g h p way)
 
 pub Contains-none : {X : Type 0} (x : X) → Contains [] x → ⊥
 Contains-none x (k, below, e) = absurd (omega arith)

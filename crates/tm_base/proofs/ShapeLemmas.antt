@@ -7,6 +7,7 @@ use Rattle.tm_base.specs.Cells.{Word, Times}
 use Rattle.tm_base.specs.Shapes.{leaves_of, row_leaves, all_leaves, row_length, HasNoPrivate, RowHasNoPrivate, NonePrivate, HasNoAlternatives, RowHasNoAlternatives, NoneAlternative, HasSize}
 use Rattle.tm_base.specs.Transmutes.{holds}
 use Rattle.tm_base.specs.Trees.{TreeWord}
+use Rattle.tm_base.proofs.CellLemmas.{length-pointer_of}
 use Rattle.tm_base.proofs.TreeLemmas.{TreeWord-Seq, TreeWord-Alt, TreeWord-Repeat}
 
 -- ---- private parts
@@ -70,62 +71,62 @@ HasNoAlternatives-Repeat n t = (λ h. h.0, λ h. (h, tt))
 
 -- ---- leaves
 
-leaves-row : {n : _} (row : Row_of-Tree n) → row_leaves row ≡ all_leaves (items-the_row-Tree n row)
+leaves-row : (pointer : ℕ) {n : _} (row : Row_of-Tree n) → row_leaves pointer row ≡ all_leaves pointer (items-the_row-Tree n row)
 unfolding leaves_of
-leaves-row end_of-Tree = refl
-leaves-row (more_of-Tree t ts) = ap (λ n. leaves_of t + n) (leaves-row ts)
+leaves-row pointer end_of-Tree = refl
+leaves-row pointer (more_of-Tree t ts) = ap (λ n. leaves_of pointer t + n) (leaves-row pointer ts)
 
-pub leaves_of-Seq : (ts : List Tree) → leaves_of (Seq ts) ≡ all_leaves ts
+pub leaves_of-Seq : (pointer : ℕ) (ts : List Tree) → leaves_of pointer (Seq ts) ≡ all_leaves pointer ts
 unfolding leaves_of
-leaves_of-Seq ts = leaves-row (hidden-the_row-Tree-0 ts) ∙ ap all_leaves (items_hidden-the_row-Tree-0 ts)
+leaves_of-Seq pointer ts = leaves-row pointer (hidden-the_row-Tree-0 ts) ∙ ap (all_leaves pointer) (items_hidden-the_row-Tree-0 ts)
 
-pub leaves_of-Alt : (ts : List Tree) → leaves_of (Alt ts) ≡ all_leaves ts
+pub leaves_of-Alt : (pointer : ℕ) (ts : List Tree) → leaves_of pointer (Alt ts) ≡ all_leaves pointer ts
 unfolding leaves_of
-leaves_of-Alt ts = leaves-row (hidden-the_row-Tree-0 ts) ∙ ap all_leaves (items_hidden-the_row-Tree-0 ts)
+leaves_of-Alt pointer ts = leaves-row pointer (hidden-the_row-Tree-0 ts) ∙ ap (all_leaves pointer) (items_hidden-the_row-Tree-0 ts)
 
 times_one : (n m : ℕ) → n * (m + 0) ≡ n * m
 times_one n m = let e : m + 0 ≡ m = omega arith in ap (λ k. n * k) e
 
-pub leaves_of-Repeat : (n : ℕ) (t : Tree) → leaves_of (Repeat n t) ≡ n * leaves_of t
+pub leaves_of-Repeat : (pointer n : ℕ) (t : Tree) → leaves_of pointer (Repeat n t) ≡ n * leaves_of pointer t
 unfolding leaves_of shape-the_row-Tree-1 hidden-the_row-Tree-1 denote.Hole.Carrier.hidden
-leaves_of-Repeat n t = times_one n (leaves_of t)
+leaves_of-Repeat pointer n t = times_one n (leaves_of pointer t)
 
 -- ---- sizes of words
 
-pub HasSize-Never : (n : ℕ) → HasSize n Never
+pub HasSize-Never : (pointer n : ℕ) → HasSize pointer n Never
 unfolding TreeWord
-HasSize-Never n A w h = absurd h
+HasSize-Never pointer n A w h = absurd h
 
-pub HasSize-Range : (low high : ℕ) → HasSize 1 (Range low high)
+pub HasSize-Range : (pointer low high : ℕ) → HasSize pointer 1 (Range low high)
 unfolding TreeWord
-HasSize-Range low high A w (b, lo, hi, e) = ap length e
+HasSize-Range pointer low high A w (b, lo, hi, e) = ap length e
 
-pub HasSize-Pad : HasSize 1 Pad
+pub HasSize-Pad : (pointer : ℕ) → HasSize pointer 1 Pad
 unfolding TreeWord
-HasSize-Pad A w (c, free, e) = ap length e
+HasSize-Pad pointer A w (c, free, e) = ap length e
 
-pub HasSize-Ref : (t : RefId) → HasSize 8 (Ref t)
+pub HasSize-Ref : (pointer : ℕ) (t : RefId) → HasSize pointer pointer (Ref t)
 unfolding TreeWord
-HasSize-Ref t A w (x, a, e) = ap length e
+HasSize-Ref pointer t A w (x, a, e) = ap length e ∙ length-pointer_of pointer x
 
-pub HasSize-Seq-none : HasSize 0 (Seq [])
-HasSize-Seq-none A w h = ap length ((TreeWord-Seq (holds A) true [] w).0 h)
+pub HasSize-Seq-none : (pointer : ℕ) → HasSize pointer 0 (Seq [])
+HasSize-Seq-none pointer A w h = ap length ((TreeWord-Seq pointer (holds A) true [] w).0 h)
 
-pub HasSize-Seq-more : (m n : ℕ) (t : Tree) (ts : List Tree) → HasSize m t → HasSize n (Seq ts) → HasSize (m + n) (Seq (t ∷ ts))
-HasSize-Seq-more m n t ts first rest A w h =
-    let (u, v, e, p, q) = (TreeWord-Seq (holds A) true (t ∷ ts) w).0 h in
+pub HasSize-Seq-more : (pointer m n : ℕ) (t : Tree) (ts : List Tree) → HasSize pointer m t → HasSize pointer n (Seq ts) → HasSize pointer (m + n) (Seq (t ∷ ts))
+HasSize-Seq-more pointer m n t ts first rest A w h =
+    let (u, v, e, p, q) = (TreeWord-Seq pointer (holds A) true (t ∷ ts) w).0 h in
     let x = first A u p in
-    let y = rest A v ((TreeWord-Seq (holds A) true ts v).1 q) in
+    let y = rest A v ((TreeWord-Seq pointer (holds A) true ts v).1 q) in
     let z = ap length e in
     omega (arith, length-append u v)
 
-pub HasSize-Alt-none : (n : ℕ) → HasSize n (Alt [])
-HasSize-Alt-none n A w h = absurd ((TreeWord-Alt (holds A) true [] w).0 h)
+pub HasSize-Alt-none : (pointer n : ℕ) → HasSize pointer n (Alt [])
+HasSize-Alt-none pointer n A w h = absurd ((TreeWord-Alt pointer (holds A) true [] w).0 h)
 
-pub HasSize-Alt-more : (n : ℕ) (t : Tree) (ts : List Tree) → HasSize n t → HasSize n (Alt ts) → HasSize n (Alt (t ∷ ts))
-HasSize-Alt-more n t ts first rest A w h = elim ((TreeWord-Alt (holds A) true (t ∷ ts) w).0 h) [
+pub HasSize-Alt-more : (pointer n : ℕ) (t : Tree) (ts : List Tree) → HasSize pointer n t → HasSize pointer n (Alt ts) → HasSize pointer n (Alt (t ∷ ts))
+HasSize-Alt-more pointer n t ts first rest A w h = elim ((TreeWord-Alt pointer (holds A) true (t ∷ ts) w).0 h) [
   | inl p ↦ first A w p
-  | inr q ↦ rest A w ((TreeWord-Alt (holds A) true ts w).1 q)
+  | inr q ↦ rest A w ((TreeWord-Alt pointer (holds A) true ts w).1 q)
 ]
 
 length-Times : (P : Word → Type 0) (m n : ℕ) → ((w : Word) → P w → length w ≡ m) → (w : Word) → Times n P w → length w ≡ n * m
@@ -137,5 +138,5 @@ length-Times P m (suc n) f w (u, v, e, p, q) =
     let s : suc n * m ≡ m + n * m = grind arith in
     omega (arith, length-append u v)
 
-pub HasSize-Repeat : (m n : ℕ) (t : Tree) → HasSize m t → HasSize (n * m) (Repeat n t)
-HasSize-Repeat m n t each A w h = length-Times (TreeWord (holds A) true t) m n (each A) w ((TreeWord-Repeat (holds A) true n t w).0 h)
+pub HasSize-Repeat : (pointer m n : ℕ) (t : Tree) → HasSize pointer m t → HasSize pointer (n * m) (Repeat n t)
+HasSize-Repeat pointer m n t each A w h = length-Times (TreeWord pointer (holds A) true t) m n (each A) w ((TreeWord-Repeat pointer (holds A) true n t w).0 h)

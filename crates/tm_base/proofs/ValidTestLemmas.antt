@@ -13,10 +13,13 @@ use Rattle.tm_base.specs.declared.ground.Primitive.{Primitive}
 use Rattle.tm_base.specs.declared.ground.Primitive.TheVariants as primitive
 use Rattle.tm_base.specs.declared.ground.Wrapper.{Wrapper}
 use Rattle.tm_base.specs.declared.ground.Wrapper.TheVariants as wrapper
-use Rattle.tm_base.specs.Cells.{Word, IsByte, IsFree, Times, number_of, pointer_of}
+use Rattle.tm_base.specs.declared.profile.Profile.{Profile}
+use Rattle.tm_base.specs.declared.profile.Profile.TheVariants as profiles
+use Rattle.tm_base.specs.Cells.{Word, IsByte, IsFree, Times, pointer_of}
 use Rattle.tm_base.specs.Expanded.{Expanded, Fields, Variants, too_deep, prim, never, unit, tuple, array, nonzero, phantom, wrap, ref, named, no_fields, field, no_variants, variant}
 use Rattle.tm_base.specs.Layout.{layout_of, size_of, prim_size, place_at, tag_layout}
 use Rattle.tm_base.specs.Orders.{word_less}
+use Rattle.tm_base.specs.Profiles.{pointer_size, number_of}
 use Rattle.tm_base.specs.Transmutes.{holds}
 use Rattle.tm_base.specs.Valid.{Valid, StructValid, UnionValid, FieldsValid, SomeFieldValid, SomeVariantValid, PrimValid, WrapValid, IsTag, IsScalar, AreBytes, all_public, twos_complement}
 use Rattle.tm_base.specs.ValidTest.{is_byte, is_free, are_bytes, word_same, is_scalar, prim_test, times_test, wrap_test, first_ref, tag_test, field_test, variant_test, valid_test, struct_test, union_test, fields_test, some_field_test, some_variant_test}
@@ -71,10 +74,10 @@ is_scalar-decides n =
     Decides-or (nat_le n 0xD7FF) (nat_le 0xE000 n && nat_le n 0x10FFFF) (nat_le-decides n 0xD7FF)
     (Decides-and (nat_le 0xE000 n) (nat_le n 0x10FFFF) (nat_le-decides 0xE000 n) (nat_le-decides n 0x10FFFF))
 
-prim_test-decides : (p : Primitive) (w : Word) → Decides (prim_test p w) (PrimValid p w)
-prim_test-decides primitive.Bool w = Decides-and (are_bytes 1 w) (nat_le (number_of w) 1) (are_bytes-decides 1 w) (nat_le-decides (number_of w) 1)
-prim_test-decides primitive.Char w = Decides-and (are_bytes 4 w) (is_scalar (number_of w)) (are_bytes-decides 4 w) (is_scalar-decides (number_of w))
-prim_test-decides p w = are_bytes-decides (prim_size p) w
+prim_test-decides : (profile : Profile) (p : Primitive) (w : Word) → Decides (prim_test profile p w) (PrimValid profile p w)
+prim_test-decides profile primitive.Bool w = Decides-and (are_bytes 1 w) (nat_le (number_of profile w) 1) (are_bytes-decides 1 w) (nat_le-decides (number_of profile w) 1)
+prim_test-decides profile primitive.Char w = Decides-and (are_bytes 4 w) (is_scalar (number_of profile w)) (are_bytes-decides 4 w) (is_scalar-decides (number_of profile w))
+prim_test-decides profile p w = are_bytes-decides (prim_size profile p) w
 
 -- a word that is cut behind n cells
 cut_front : (n : ℕ) (u v : Word) → length u ≡ n → take n (u ++ v) ≡ u
@@ -213,16 +216,22 @@ module _ (test rest : Word → Bool) (P Q : Word → Type 0) (each : (u : Word) 
             ),
       )
 
-tag_test-decides : (n : ℕ) (value : ℤ) (w : Word) → Decides (tag_test n value w) (IsTag n value w)
-tag_test-decides n value w = Decides-and (are_bytes n w) (number_of w == twos_complement n value) (are_bytes-decides n w) (Decides-eqb (number_of w) (twos_complement n value))
+tag_test-decides : (profile : Profile) (n : ℕ) (value : ℤ) (w : Word) → Decides (tag_test profile n value w) (IsTag profile n value w)
+tag_test-decides profile n value w = Decides-and (are_bytes n w) (number_of profile w == twos_complement n value) (are_bytes-decides n w) (Decides-eqb (number_of profile w) (twos_complement n value))
+
+first_ref-pointer : (profile : Profile) (x : ℕ) → first_ref (pointer_of (pointer_size profile) x) ≡ x
+first_ref-pointer profiles.Le64 x = refl
+first_ref-pointer profiles.Be64 x = refl
+first_ref-pointer profiles.Le32 x = refl
 
 -- the reference that stands first decides which one it is
-ref_decides : (A : ℕ → ℕ → Bool) (t : ℕ) (w : Word) → Decides (A (first_ref w) t && word_same w (pointer_of (first_ref w))) ((x : ℕ) × IsTrue (A x t) × (w ≡ pointer_of x))
-ref_decides A t w =
-    let both = Decides-and (A (first_ref w) t) (word_same w (pointer_of (first_ref w))) (λ h. h, λ h. h) (word_same-decides w (pointer_of (first_ref w))) in (
+ref_decides : (profile : Profile) (A : ℕ → ℕ → Bool) (t : ℕ) (w : Word) → Decides (A (first_ref w) t && word_same w (pointer_of (pointer_size profile) (first_ref w))) ((x : ℕ) × IsTrue (A x t) × (w ≡ pointer_of (pointer_size profile) x))
+ref_decides profile A t w =
+    let size = pointer_size profile in
+    let both = Decides-and (A (first_ref w) t) (word_same w (pointer_of size (first_ref w))) (λ h. h, λ h. h) (word_same-decides w (pointer_of size (first_ref w))) in (
       λ h. (first_ref w, (both.0 h).0, (both.0 h).1),
       λ (x, a, e).
-          let same : first_ref w ≡ x = rw e refl in
+          let same : first_ref w ≡ x = rw e (first_ref-pointer profile x) in
           both.1 (rw same a, rw same e),
     )
 
@@ -232,24 +241,24 @@ module _ (A : ℕ → ℕ → Bool) (keep : Bool) where
 
     pub valid_test-decides : (t : Expanded) (w : Word) → Decides (valid_test A keep t w) (Valid (holds A) keep t w)
     valid_test-decides too_deep w = (λ h. cc, λ h. elim h [ ])
-    valid_test-decides (prim p) w = prim_test-decides p w
+    valid_test-decides (prim profile p) w = prim_test-decides profile p w
     valid_test-decides never w = (λ h. cc, λ h. elim h [ ])
     valid_test-decides unit w = word_same-decides w []
     valid_test-decides (tuple members) w = (λ h. cc, λ h. elim h [ ])
     valid_test-decides (array t n) w = times_test-decides n (size_of t) (valid_test A keep t) (Valid (holds A) keep t) (λ u. Valid-length (holds A) keep t u) (λ u. valid_test-decides t u) w
-    valid_test-decides (nonzero p) w = Decides-and (are_bytes (prim_size p) w) (nat_lt 0 (number_of w)) (are_bytes-decides (prim_size p) w) (Decides-ltb 0 (number_of w))
+    valid_test-decides (nonzero profile p) w = Decides-and (are_bytes (prim_size profile p) w) (nat_lt 0 (number_of profile w)) (are_bytes-decides (prim_size profile p) w) (Decides-ltb 0 (number_of profile w))
     valid_test-decides phantom w = word_same-decides w []
     valid_test-decides (wrap k t) w = wrap_test-decides k (size_of t) (valid_test A keep t) (Valid (holds A) keep t) (λ u. valid_test-decides t u) w
-    valid_test-decides (ref t) w = ref_decides A t.0 w
-    valid_test-decides (named id Struct repr vs) w =
-        Decides-and (length w == size_of (named id Struct repr vs)) (struct_test A keep repr.packed vs w)
-        (Decides-eqb (length w) (size_of (named id Struct repr vs))) (struct_test-decides repr.packed vs w)
-    valid_test-decides (named id Union repr vs) w =
-        Decides-and (length w == size_of (named id Union repr vs)) (union_test A keep vs w)
-        (Decides-eqb (length w) (size_of (named id Union repr vs))) (union_test-decides vs w)
-    valid_test-decides (named id Enum repr vs) w =
-        Decides-and (length w == size_of (named id Enum repr vs)) (some_variant_test A keep repr.tag _ _ vs w)
-        (Decides-eqb (length w) (size_of (named id Enum repr vs))) (some_variant_test-decides repr.tag _ _ vs w)
+    valid_test-decides (ref profile t) w = ref_decides profile A t.0 w
+    valid_test-decides (named profile id Struct repr vs) w =
+        Decides-and (length w == size_of (named profile id Struct repr vs)) (struct_test A keep repr.packed vs w)
+        (Decides-eqb (length w) (size_of (named profile id Struct repr vs))) (struct_test-decides repr.packed vs w)
+    valid_test-decides (named profile id Union repr vs) w =
+        Decides-and (length w == size_of (named profile id Union repr vs)) (union_test A keep vs w)
+        (Decides-eqb (length w) (size_of (named profile id Union repr vs))) (union_test-decides vs w)
+    valid_test-decides (named profile id Enum repr vs) w =
+        Decides-and (length w == size_of (named profile id Enum repr vs)) (some_variant_test A keep profile repr.tag _ _ vs w)
+        (Decides-eqb (length w) (size_of (named profile id Enum repr vs))) (some_variant_test-decides profile repr.tag _ _ vs w)
 
     struct_test-decides : (packed : Option ℕ) (vs : Variants) (w : Word) → Decides (struct_test A keep packed vs w) (StructValid (holds A) keep packed vs w)
     struct_test-decides packed no_variants w = (λ h. cc, λ h. elim h [ ])
@@ -279,15 +288,15 @@ module _ (A : ℕ → ℕ → Bool) (keep : Bool) where
         (size_of t) (λ u. Valid-length (holds A) keep t u) w)
         (some_field_test-decides rest w)
 
-    some_variant_test-decides : (tag : Option Primitive) (begin first : ℕ) (vs : Variants) (w : Word) → Decides (some_variant_test A keep tag begin first vs w) (SomeVariantValid (holds A) keep tag begin first vs w)
-    some_variant_test-decides tag begin first no_variants w = (λ h. cc, λ h. elim h [ ])
-    some_variant_test-decides tag begin first (variant value members rest) w =
-        Decides-or (variant_test (tag_test (tag_layout tag).size value) (fields_test A keep None first members) (tag_layout tag).size begin w) (some_variant_test A keep tag begin first rest w)
-        (variant_test-decides (tag_test (tag_layout tag).size value) (fields_test A keep None first members)
-        (IsTag (tag_layout tag).size value) (FieldsValid (holds A) keep None first members)
-        (λ u. tag_test-decides (tag_layout tag).size value u) (λ u. fields_test-decides None first members u)
-        (tag_layout tag).size begin (λ u h. h.0.0) w)
-        (some_variant_test-decides tag begin first rest w)
+    some_variant_test-decides : (profile : Profile) (tag : Option Primitive) (begin first : ℕ) (vs : Variants) (w : Word) → Decides (some_variant_test A keep profile tag begin first vs w) (SomeVariantValid (holds A) keep profile tag begin first vs w)
+    some_variant_test-decides profile tag begin first no_variants w = (λ h. cc, λ h. elim h [ ])
+    some_variant_test-decides profile tag begin first (variant value members rest) w =
+        Decides-or (variant_test (tag_test profile (tag_layout profile tag).size value) (fields_test A keep None first members) (tag_layout profile tag).size begin w) (some_variant_test A keep profile tag begin first rest w)
+        (variant_test-decides (tag_test profile (tag_layout profile tag).size value) (fields_test A keep None first members)
+        (IsTag profile (tag_layout profile tag).size value) (FieldsValid (holds A) keep None first members)
+        (λ u. tag_test-decides profile (tag_layout profile tag).size value u) (λ u. fields_test-decides None first members u)
+        (tag_layout profile tag).size begin (λ u h. h.0.0) w)
+        (some_variant_test-decides profile tag begin first rest w)
 
   -- the test of validity is exact
   pub valid_test-exact : (t : Expanded) (w : Word) → IsTrue (valid_test A keep t w) ↔ Valid (holds A) keep t w

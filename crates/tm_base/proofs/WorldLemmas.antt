@@ -59,10 +59,13 @@ written-itself p (Ref r) h = left_true (p (Ref r)) true h
 module _ (world : World) where
   -- the test that each type of the world passes
   abbrev pub passes : Ground → Bool
-  passes = is_type_in_form world.defs world.named world.refs
+  passes = is_type_in_form world.profile world.defs world.named world.refs
 
   abbrev names : List Ground
   names = map (λ k. Named (record { 0 = k })) (range_with_len 0 (length world.named))
+
+  abbrev given : List Ground
+  given = flat_map (λ row. row.args) world.named
 
   abbrev fields : List Ground
   fields = flat_map (λ row. flat_map (λ types. types) row.types) world.named
@@ -80,9 +83,9 @@ module _ (world : World) where
   names-pass : list_all passes names ≡ true
   names-pass = left_true (list_all passes names) _ (sym (list_all-append passes names _) ∙ all-pass)
 
-  written-pass : list_all (λ g. list_all passes (written_types g)) (fields ++ pointees ++ asked) ≡ true
+  written-pass : list_all (λ g. list_all passes (written_types g)) (given ++ fields ++ pointees ++ asked) ≡ true
   written-pass =
-      sym (list_all-flat_map passes written_types (fields ++ pointees ++ asked))
+      sym (list_all-flat_map passes written_types (given ++ fields ++ pointees ++ asked))
       ∙ right_true (list_all passes names) _ (sym (list_all-append passes names _) ∙ all-pass)
 
   -- each named type of a world is in form
@@ -96,23 +99,38 @@ module _ (world : World) where
   abbrev all_pass : Ground → Bool
   all_pass g = list_all passes (written_types g)
 
-  before_asked : list_all all_pass (fields ++ pointees) ≡ true
-  before_asked = left_true (list_all all_pass (fields ++ pointees)) (list_all all_pass asked) (sym (list_all-append all_pass (fields ++ pointees) asked) ∙ written-pass)
+  abbrev in_rows : List Ground
+  in_rows = given ++ fields
+
+  before_asked : list_all all_pass (in_rows ++ pointees) ≡ true
+  before_asked = left_true (list_all all_pass (in_rows ++ pointees)) (list_all all_pass asked) (sym (list_all-append all_pass (in_rows ++ pointees) asked) ∙ written-pass)
+
+  in_rows-pass : list_all all_pass in_rows ≡ true
+  in_rows-pass = left_true (list_all all_pass in_rows) (list_all all_pass pointees) (sym (list_all-append all_pass in_rows pointees) ∙ before_asked)
+
+  given-pass : list_all all_pass given ≡ true
+  given-pass = left_true (list_all all_pass given) (list_all all_pass fields) (sym (list_all-append all_pass given fields) ∙ in_rows-pass)
 
   fields-pass : list_all all_pass fields ≡ true
-  fields-pass = left_true (list_all all_pass fields) (list_all all_pass pointees) (sym (list_all-append all_pass fields pointees) ∙ before_asked)
+  fields-pass = right_true (list_all all_pass given) (list_all all_pass fields) (sym (list_all-append all_pass given fields) ∙ in_rows-pass)
 
   pointees-pass : list_all all_pass pointees ≡ true
-  pointees-pass = right_true (list_all all_pass fields) (list_all all_pass pointees) (sym (list_all-append all_pass fields pointees) ∙ before_asked)
+  pointees-pass = right_true (list_all all_pass in_rows) (list_all all_pass pointees) (sym (list_all-append all_pass in_rows pointees) ∙ before_asked)
 
   asked-pass : list_all all_pass asked ≡ true
-  asked-pass = right_true (list_all all_pass (fields ++ pointees)) (list_all all_pass asked) (sym (list_all-append all_pass (fields ++ pointees) asked) ∙ written-pass)
+  asked-pass = right_true (list_all all_pass (in_rows ++ pointees)) (list_all all_pass asked) (sym (list_all-append all_pass (in_rows ++ pointees) asked) ∙ written-pass)
 
   -- each pointee of a world is in form
   pub pointee-in_form : (r : ℕ) (row : RefRow) → slice_get world.refs r ≡ Some row → IsTrue (passes row.pointee)
   pointee-in_form r row e =
       written-itself passes row.pointee
       (list_all-at (λ one. all_pass one.pointee) world.refs r row (sym (list_all-map all_pass (λ one. one.pointee) world.refs) ∙ pointees-pass) e)
+
+  -- each argument of a named type is in form
+  pub argument-in_form : (k place : ℕ) (row : NamedRow) (g : Ground) → slice_get world.named k ≡ Some row → slice_get row.args place ≡ Some g → IsTrue (passes g)
+  argument-in_form k place row g at_row at_place =
+      let in_row = list_all-at (λ one. list_all all_pass one.args) world.named k row (sym (list_all-flat_map all_pass (λ one. one.args) world.named) ∙ given-pass) at_row in
+      written-itself passes g (list_all-at all_pass row.args place g in_row at_place)
 
   -- each field's type of a named type is in form
   pub field-in_form : (k v f : ℕ) (row : NamedRow) (types : List Ground) (g : Ground)
@@ -133,6 +151,6 @@ module _ (world : World) where
       )
 
   -- a type that passes is whole
-  pub passes-whole : (g : Ground) → IsTrue (passes g) → IsTrue (is_whole (expanded world.defs world.named g))
-  passes-whole g h = right_true (is_head_in_form (length world.named) (length world.refs) (out-Ground g)) (is_whole (expanded world.defs world.named g))
-      (left_true (is_head_in_form (length world.named) (length world.refs) (out-Ground g) && is_whole (expanded world.defs world.named g)) (ends (spelled world.refs g)) h)
+  pub passes-whole : (g : Ground) → IsTrue (passes g) → IsTrue (is_whole (expanded world.profile world.defs world.named g))
+  passes-whole g h = right_true (is_head_in_form (length world.named) (length world.refs) (out-Ground g)) (is_whole (expanded world.profile world.defs world.named g))
+      (left_true (is_head_in_form (length world.named) (length world.refs) (out-Ground g) && is_whole (expanded world.profile world.defs world.named g)) (ends (spelled world.named world.refs g)) h)

@@ -1,7 +1,7 @@
 -- Cells and words: what is known of the bytes of a value, from its first byte on.
 -- Initialised and uninitialised bytes are those of the documentation of `core::mem::MaybeUninit`;
 -- that a byte may be one of a reference, and of which, is this project's.
-use Rattle.std.specs.Prelude.{ℕ, ◌≡◌, ◌+◌, ◌-◌, ◌*◌, ◌<◌, ◌^◌, ◌⊎◌, List, [], ◌∷◌, ◌++◌, length, take, map, replicate, zero, suc}
+use Rattle.std.specs.Prelude.{ℕ, ◌≡◌, ◌+◌, ◌-◌, ◌*◌, ◌<◌, ◌^◌, ◌⊎◌, ◌==◌, Bool, ◌||◌, List, [], ◌∷◌, ◌++◌, length, take, map, replicate, zero, suc}
 use Rattle.std.specs.List.{range_with_len}
 use Rattle.tm_base.specs.declared.cell.Cell.{Cell}
 use Rattle.tm_base.specs.declared.cell.Cell.TheVariants.{Byte, Uninit, Ptr}
@@ -27,18 +27,22 @@ byte_of (Byte b) = b
 byte_of Uninit = 0
 byte_of (Ptr r k) = 0
 
--- the number that some bytes hold. Byte order stands here alone: the least byte comes first
-abbrev pub number_of : Word → ℕ
-number_of [] = 0
-number_of (c ∷ cs) = byte_of c + 256 * number_of cs
+-- the number that some bytes hold, the least byte first
+abbrev pub little_endian : Word → ℕ
+little_endian [] = 0
+little_endian (c ∷ cs) = byte_of c + 256 * little_endian cs
 
--- how many bytes a reference has
-abbrev pub pointer_size : ℕ
-pointer_size = 8
+-- all cells of a value of the reference type x, where a reference has so many bytes
+abbrev pub pointer_of : ℕ → ℕ → Word
+pointer_of size x = map (λ k. Ptr (record { 0 = x }) k) (range_with_len 0 size)
 
--- all cells of a value of the reference type x
-abbrev pub pointer_of : ℕ → Word
-pointer_of x = map (λ k. Ptr (record { 0 = x }) k) (range_with_len 0 pointer_size)
+-- A word whose references are whole: each stands with all its cells, from the first to the last, and between
+-- them stand bytes that are no reference's.
+pub data HasWholeReferences (size : ℕ) : Word → Type 0 where
+  nothing_left : (w : Word) → w ≡ [] → HasWholeReferences size w
+  byte_first : (b : ℕ) (w rest : Word) → w ≡ Byte b ∷ rest → HasWholeReferences size rest → HasWholeReferences size w
+  uninit_first : (w rest : Word) → w ≡ Uninit ∷ rest → HasWholeReferences size rest → HasWholeReferences size w
+  reference_first : (x : ℕ) (w rest : Word) → w ≡ pointer_of size x ++ rest → HasWholeReferences size rest → HasWholeReferences size w
 
 -- A relation of source references to target references says which value a reference may hold. Where
 -- a target reference t may also hold itself, as a place that no source fills yet, the value is of the
@@ -48,6 +52,10 @@ own t = 2 ^ 32 + t
 
 abbrev pub OrOwn : (ℕ → ℕ → Type 0) → ℕ → ℕ → Type 0
 OrOwn A x t = A x t ⊎ (x ≡ own t)
+
+-- The same of a test. So what holds for every test of references holds where they may hold themselves.
+abbrev pub or_own : (ℕ → ℕ → Bool) → ℕ → ℕ → Bool
+or_own test x t = test x t || (x == own t)
 
 -- What m bytes hold where w was written: its first m cells, and uninitialised bytes up to m.
 -- The documentation of `core::mem::TransmuteFrom`: reading one field of a `repr(C)` union after

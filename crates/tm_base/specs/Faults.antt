@@ -1,24 +1,25 @@
 -- Which types have no guaranteed layout, and why: the Rust Reference, "Type layout", and std's page on
--- `Option`, "Representation". The order of the causes is this project's, and so are the last two.
+-- `Option`, "Representation". That `packed` holds no `align` is the Reference's own rule, in "The alignment
+-- modifiers". The order of the causes is this project's, and so is the last one.
 use Rattle.std.specs.Prelude.{ℕ, nat_lt, nat_le, Bool, true, false, ◌&&◌, ◌||◌, not, if◌then◌else◌, Option, Some, None, is_some, is_none, List, [], ◌∷◌, ◌+◌}
 use Rattle.tm_base.specs.declared.answer.Why.{Why}
 use Rattle.tm_base.specs.declared.answer.Why.TheVariants.{NoRepr, Tuple, OptionNotListed, CEnumRange, TransparentFields, PackedHoldsAlign, TooLarge}
 use Rattle.tm_base.specs.declared.definition.Kind.{Kind}
 use Rattle.tm_base.specs.declared.definition.Kind.TheVariants.{Struct, Union, Enum}
 use Rattle.tm_base.specs.declared.definition.Repr.{Repr}
-use Rattle.tm_base.specs.Expanded.{Expanded, Fields, Variants, tuple, array, nonzero, wrap, ref, named, no_fields, field, no_variants, variant}
+use Rattle.tm_base.specs.Expanded.{Expanded, Fields, Variants, tuple, nonzero, wrap, ref, named, no_fields, field, no_variants, variant}
 use Rattle.tm_base.specs.Integers.{fits_signed}
 use Rattle.tm_base.specs.Layout.{Layout, is_trivial, only, variant_layouts}
-use Rattle.tm_base.specs.Parts.{some_part, is_option}
+use Rattle.tm_base.specs.Parts.{some_part, some_within, is_option}
 use Rattle.tm_base.specs.Weight.{weight_limit, weight_of}
 
 -- No value has all its bytes 0: a reference, a `NonZero`, or a `repr(transparent)` struct round one of
 -- these. `Option<T>` is listed exactly where T is such a type.
 unfoldable mutual
   pub is_nullable : Expanded → Bool
-  is_nullable (ref r) = true
-  is_nullable (nonzero p) = true
-  is_nullable (named id Struct repr variants) = repr.transparent && variant_nullable variants
+  is_nullable (ref profile r) = true
+  is_nullable (nonzero profile p) = true
+  is_nullable (named profile id Struct repr variants) = repr.transparent && variant_nullable variants
   is_nullable t = false
 
   pub field_nullable : Fields → Bool
@@ -52,17 +53,17 @@ sized_count (l ∷ ls) = (if is_trivial l then 0 else 1) + sized_count ls
 
 -- a transparent struct has two fields or more that aren't of size 0 and alignment 1
 abbrev pub has_two_sized : Expanded → Bool
-has_two_sized (named id Struct repr variants) = repr.transparent && nat_le 2 (sized_count (only (variant_layouts variants)))
+has_two_sized (named profile id Struct repr variants) = repr.transparent && nat_le 2 (sized_count (only (variant_layouts variants)))
 has_two_sized t = false
 
 -- `align` is written on the type
 abbrev pub has_align : Expanded → Bool
-has_align (named id kind repr _) = is_some repr.align
+has_align (named profile id kind repr _) = is_some repr.align
 has_align t = false
 
 -- `packed` is written on the type
 abbrev pub is_packed : Expanded → Bool
-is_packed (named id kind repr _) = is_some repr.packed
+is_packed (named profile id kind repr _) = is_some repr.packed
 is_packed t = false
 
 -- a cause, where a test says so
@@ -78,7 +79,7 @@ or_else (Some why) other = Some why
 abbrev pub own_fault : Expanded → Option Why
 own_fault (tuple members) = Some Tuple
 own_fault (wrap w t) = when (is_option w && not (is_nullable t)) OptionNotListed
-own_fault (named id kind repr variants) = or_else (when (lacks_repr kind repr) NoRepr) (when (lacks_range kind repr variants) CEnumRange)
+own_fault (named profile id kind repr variants) = or_else (when (lacks_repr kind repr) NoRepr) (when (lacks_range kind repr variants) CEnumRange)
 own_fault t = None
 
 -- the first of the causes that are asked of a type only where its parts have a layout
@@ -88,31 +89,15 @@ layout_fault t =
     (or_else (when (is_packed t && some_part has_align t) PackedHoldsAlign)
     (when (nat_lt weight_limit (weight_of t)) TooLarge))
 
--- the first cause of a type, where it's known whether a part by value is or holds a type at fault
-abbrev pub fault_over : Bool → Expanded → Option Why
-fault_over below t = or_else (own_fault t) (if below then None else layout_fault t)
+-- one of the causes holds of the type by itself, whatever its parts are
+abbrev pub has_cause : Expanded → Bool
+has_cause t = is_some (own_fault t) || is_some (layout_fault t)
 
--- the type is at fault, or a part by value is or holds a type at fault
-abbrev pub at_fault_over : Bool → Expanded → Bool
-at_fault_over below t = is_some (fault_over below t) || below
-
--- some part by value is, or holds by value, a type at fault
-unfoldable mutual
-  pub part_at_fault : Expanded → Bool
-  part_at_fault (tuple members) = field_at_fault members
-  part_at_fault (array t n) = at_fault_over (part_at_fault t) t
-  part_at_fault (wrap w t) = at_fault_over (part_at_fault t) t
-  part_at_fault (named id kind repr variants) = variant_at_fault variants
-  part_at_fault t = false
-
-  pub field_at_fault : Fields → Bool
-  field_at_fault no_fields = false
-  field_at_fault (field public t rest) = at_fault_over (part_at_fault t) t || field_at_fault rest
-
-  pub variant_at_fault : Variants → Bool
-  variant_at_fault no_variants = false
-  variant_at_fault (variant value members rest) = field_at_fault members || variant_at_fault rest
-
--- the first cause for which a type is at fault
+-- The first cause for which a type is at fault. The last three are asked only where no part by value is or
+-- holds a type at fault.
 unfoldable pub fault_of : Expanded → Option Why
-fault_of t = fault_over (part_at_fault t) t
+fault_of t = or_else (own_fault t) (if some_part has_cause t then None else layout_fault t)
+
+-- the type is at fault, or holds by value, at any depth, a type at fault
+abbrev pub has_no_layout : Expanded → Bool
+has_no_layout = some_within has_cause

@@ -1,7 +1,8 @@
 -- Integer types and the whole numbers that they hold.
-use Rattle.std.specs.Prelude.{ℕ, ◌-◌, ◌*◌, ◌^◌, nat_lt, nat_le, Bool, true, false, ◌&&◌, if◌then◌else◌, ℤ, pos, negsuc}
+use Rattle.std.specs.Prelude.{ℕ, ◌-◌, ◌*◌, ◌^◌, nat_lt, Bool, true, false, if◌then◌else◌, ℤ, pos, negsuc}
 use Rattle.tm_base.specs.declared.ground.Primitive.{Primitive}
-use Rattle.tm_base.specs.declared.ground.Primitive.TheVariants.{Bool as bool', Char, I8, I16, I32, I64, I128, Isize, F32, F64}
+use Rattle.tm_base.specs.declared.ground.Primitive.TheVariants.{Bool as bool', Char, U128, I8, I16, I32, I64, I128, Isize, F32, F64}
+use Rattle.tm_base.specs.declared.profile.Profile.{Profile}
 use Rattle.tm_base.specs.Layout.{prim_size}
 
 -- the integer types that hold negative numbers
@@ -33,9 +34,12 @@ fits_unsigned n (pos k) = nat_lt k (256 ^ n)
 fits_unsigned n (negsuc k) = false
 
 -- the integer type holds the number
-abbrev pub fits_integer : Primitive → ℤ → Bool
-fits_integer p value = if is_signed p then fits_signed (prim_size p) value else fits_unsigned (prim_size p) value
+abbrev pub fits_integer : Profile → Primitive → ℤ → Bool
+fits_integer profile p value =
+    if is_signed p then fits_signed (prim_size profile p) value else fits_unsigned (prim_size profile p) value
 
--- an integer type that an enum may have as its representation
+-- An integer type that an enum may have as its representation: one of at most 64 bits, under each profile.
 abbrev pub is_tag_type : Primitive → Bool
-is_tag_type p = is_integer p && nat_le (prim_size p) 8
+is_tag_type U128 = false
+is_tag_type I128 = false
+is_tag_type p = is_integer p

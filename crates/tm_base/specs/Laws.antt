@@ -1,18 +1,23 @@
 -- The laws of these definitions, which the functions of `laws` have as their contracts.
-use Rattle.std.specs.Prelude.{◌≡◌, ℕ, suc, ◌*◌, ◌<◌, ◌≤◌, ◌⊎◌, ◌↔◌, ◌+◌, Bool, false, IsTrue, Option, List, [], ◌∷◌, length}
+use Rattle.std.specs.Prelude.{◌≡◌, ℕ, suc, ◌*◌, ◌<◌, ◌≤◌, ◌↔◌, ◌+◌, Bool, false, IsTrue, Option, is_some, List, [], ◌∷◌, length}
 use Rattle.tm_base.specs.declared.answer.Answer.{Answer}
 use Rattle.tm_base.specs.declared.ask.Ask.{Ask}
 use Rattle.tm_base.specs.declared.assume.Assume.{Assume}
-use Rattle.tm_base.specs.declared.ground.Ground.{Ground}
 use Rattle.tm_base.specs.Answers.{IsAnswer, NoSharedTexts}
-use Rattle.tm_base.specs.Assumptions.{Includes}
-use Rattle.tm_base.specs.Cells.{Word}
-use Rattle.tm_base.specs.Compatible.{CompatibleTo, Compatible}
+use Rattle.tm_base.specs.declared.cell.Cell.{Cell}
+use Rattle.tm_base.specs.declared.cell.Cell.TheVariants.{Byte}
+use Rattle.tm_base.specs.declared.cell.RefId.{RefId}
+use Rattle.tm_base.specs.declared.tree.Tree.{Tree, Never, Range, Pad, Ref, Seq, Alt, Repeat, Private}
+use Rattle.tm_base.specs.Cells.{Word, IsFree, OrOwn, or_own, pointer_of, Times}
+use Rattle.tm_base.specs.Compatible.{CompatibleTo}
 use Rattle.tm_base.specs.Expanded.{Expanded}
 use Rattle.tm_base.specs.Layout.{Layout, round_up, places, struct_layout, size_of}
+use Rattle.tm_base.specs.Faults.{fault_of, has_no_layout}
 use Rattle.tm_base.specs.Orders.{word_less}
-use Rattle.tm_base.specs.Tables.{Tables, expanded_in}
-use Rattle.tm_base.specs.Transmutes.{Transmutes, IsUninhabited, IsSourceWord, holds}
+use Rattle.tm_base.specs.Parts.{some_within}
+use Rattle.tm_base.specs.Tables.{Tables}
+use Rattle.tm_base.specs.Transmutes.{holds}
+use Rattle.tm_base.specs.Trees.{TreeWord, InTurn, OneOf}
 use Rattle.tm_base.specs.Valid.{Valid}
 use Rattle.tm_base.specs.ValidTest.{valid_test}
 
@@ -57,18 +62,28 @@ DepthsAgree = (tables : Tables) (assume : Assume) (n r t : ℕ) → CompatibleTo
 abbrev pub WordsCompare : Type 0
 WordsCompare = (v w : Word) → word_less v w ≡ false → word_less w v ≡ false → v ≡ w
 
--- the type has no value, or one is known
-abbrev pub IsSettled : Expanded → Type 0
-IsSettled s = IsUninhabited s ⊎ ((w : Word) × IsSourceWord s w)
-
--- What may be taken may be taken under more assumptions, where it is known of each type whether it has
--- a value: under `validity` a cast of a type with values wants one that fits.
-abbrev pub MoreMayBeAssumed : Type 0
-MoreMayBeAssumed =
-    (tables : Tables) (more less : Assume) → Includes more less → ((g : Ground) → IsSettled (expanded_in tables g)) → (g h : Ground)
-    → Transmutes (Compatible tables less) less (expanded_in tables g) (expanded_in tables h)
-    → Transmutes (Compatible tables more) more (expanded_in tables g) (expanded_in tables h)
-
 -- a question has one answer at most
 abbrev pub AnswersAreUnique : Type 0
 AnswersAreUnique = (tables : Tables) (ask : Ask) → NoSharedTexts tables ask → (a b : Answer) → IsAnswer tables ask a → IsAnswer tables ask b → a ≡ b
+
+-- a target reference may hold itself by the test exactly where it may by the relation
+abbrev pub OwnIsTested : Type 0
+OwnIsTested = (test : ℕ → ℕ → Bool) (x t : ℕ) → holds (or_own test) x t ↔ OrOwn (holds test) x t
+
+-- What the words of each kind of tree are.
+pub record TreesRead (pointer : ℕ) (A : ℕ → ℕ → Type 0) (keep : Bool) : Type 0 where
+  pub never : (w : Word) → TreeWord pointer A keep Never w → ⊥
+  pub range : (low high : ℕ) (w : Word) → TreeWord pointer A keep (Range low high) w ↔ ((b : ℕ) × (low ≤ b) × (b ≤ high) × (w ≡ Byte b ∷ []))
+  pub pad : (w : Word) → TreeWord pointer A keep Pad w ↔ ((c : Cell) × IsFree c × (w ≡ c ∷ []))
+  pub reference : (t : RefId) (w : Word) → TreeWord pointer A keep (Ref t) w ↔ ((x : ℕ) × A x t.0 × (w ≡ pointer_of pointer x))
+  pub sequence : (ts : List Tree) (w : Word) → TreeWord pointer A keep (Seq ts) w ↔ InTurn pointer A keep ts w
+  pub alternative : (ts : List Tree) (w : Word) → TreeWord pointer A keep (Alt ts) w ↔ OneOf pointer A keep ts w
+  pub repetition : (n : ℕ) (t : Tree) (w : Word) → TreeWord pointer A keep (Repeat n t) w ↔ Times n (TreeWord pointer A keep t) w
+  pub private : (t : Tree) (w : Word) → TreeWord pointer A keep (Private t) w ↔ (IsTrue keep × TreeWord pointer A keep t w)
+
+abbrev pub TreesAreRead : Type 0
+TreesAreRead = (pointer : ℕ) (test : ℕ → ℕ → Bool) (keep : Bool) → TreesRead pointer (holds test) keep
+
+-- of the types at fault: a type has no layout exactly where it is at fault or holds by value one that is
+abbrev pub FaultsAreFound : Type 0
+FaultsAreFound = (t : Expanded) → has_no_layout t ≡ some_within (λ part. is_some (fault_of part)) t

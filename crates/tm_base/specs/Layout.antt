@@ -1,14 +1,15 @@
 -- Sizes, alignments and places, in bytes. The Rust Reference, "Type layout": "Size and Alignment",
 -- "Primitive Data Layout", "The C Representation", "Primitive representations", "The alignment
 -- modifiers" and "The transparent Representation". Where the Reference leaves a choice to the target,
--- the profile's is taken: each primitive is aligned to its size, and a reference has 8 bytes.
+-- this project's profiles take it: each primitive is aligned to its size, as a reference is.
 use Rattle.std.specs.Prelude.{ℕ, ◌+◌, ◌-◌, ◌*◌, ◌%◌, max, min, Bool, ◌&&◌, ◌==◌, if◌then◌else◌, Option, Some, None, List, [], ◌∷◌, ◌++◌}
 use Rattle.tm_base.specs.declared.definition.Kind.{Kind}
 use Rattle.tm_base.specs.declared.definition.Kind.TheVariants.{Struct, Union, Enum}
 use Rattle.tm_base.specs.declared.definition.Repr.{Repr}
 use Rattle.tm_base.specs.declared.ground.Primitive.{Primitive}
 use Rattle.tm_base.specs.declared.ground.Primitive.TheVariants.{Bool as bool', Char, U8, U16, U32, U64, U128, Usize, I8, I16, I32, I64, I128, Isize, F32, F64}
-use Rattle.tm_base.specs.Cells.{pointer_size}
+use Rattle.tm_base.specs.declared.profile.Profile.{Profile}
+use Rattle.tm_base.specs.Profiles.{pointer_size}
 use Rattle.tm_base.specs.Expanded.{Expanded, Fields, Variants, too_deep, prim, never, unit, tuple, array, nonzero, phantom, wrap, ref, named, no_fields, field, no_variants, variant}
 
 -- the size and the alignment of a type
@@ -16,26 +17,27 @@ pub record Layout : Type 0 where
   pub size : ℕ
   pub align : ℕ
 
-abbrev pub prim_size : Primitive → ℕ
-prim_size bool' = 1
-prim_size U8 = 1
-prim_size I8 = 1
-prim_size U16 = 2
-prim_size I16 = 2
-prim_size U32 = 4
-prim_size I32 = 4
-prim_size Char = 4
-prim_size F32 = 4
-prim_size U64 = 8
-prim_size I64 = 8
-prim_size F64 = 8
-prim_size Usize = pointer_size
-prim_size Isize = pointer_size
-prim_size U128 = 16
-prim_size I128 = 16
+-- the size of a primitive
+abbrev pub prim_size : Profile → Primitive → ℕ
+prim_size profile bool' = 1
+prim_size profile U8 = 1
+prim_size profile I8 = 1
+prim_size profile U16 = 2
+prim_size profile I16 = 2
+prim_size profile U32 = 4
+prim_size profile I32 = 4
+prim_size profile Char = 4
+prim_size profile F32 = 4
+prim_size profile U64 = 8
+prim_size profile I64 = 8
+prim_size profile F64 = 8
+prim_size profile Usize = pointer_size profile
+prim_size profile Isize = pointer_size profile
+prim_size profile U128 = 16
+prim_size profile I128 = 16
 
-abbrev pub prim_layout : Primitive → Layout
-prim_layout p = record { size = prim_size p; align = prim_size p }
+abbrev pub prim_layout : Profile → Primitive → Layout
+prim_layout profile p = record { size = prim_size profile p; align = prim_size profile p }
 
 abbrev pub empty_layout : Layout
 empty_layout = record { size = 0; align = 1 }
@@ -99,9 +101,9 @@ transparent_layout [] = empty_layout
 transparent_layout (l ∷ ls) = if is_trivial l then transparent_layout ls else l
 
 -- an enum's tag: of the integer type that is written, else of 4 bytes
-abbrev pub tag_layout : Option Primitive → Layout
-tag_layout None = record { size = 4; align = 4 }
-tag_layout (Some p) = prim_layout p
+abbrev pub tag_layout : Profile → Option Primitive → Layout
+tag_layout profile None = record { size = 4; align = 4 }
+tag_layout profile (Some p) = prim_layout profile p
 
 -- the fields of each variant as a `repr(C)` struct, behind those that stand before them
 abbrev pub structs : List Layout → List (List Layout) → List Layout
@@ -110,37 +112,37 @@ structs before (fields ∷ others) = struct_layout None None (before ++ fields) 
 
 -- an enum with `repr(C)` is a struct of the tag and a union of structs, one for each variant; one
 -- with an integer alone is a union of structs each of which begins with the tag
-abbrev pub enum_layout : Repr → List (List Layout) → Layout
-enum_layout r variants =
+abbrev pub enum_layout : Profile → Repr → List (List Layout) → Layout
+enum_layout profile r variants =
     if r.c
-    then struct_layout None None (tag_layout r.tag ∷ union_layout None None (structs [] variants) ∷ [])
-    else union_layout None None (structs (tag_layout r.tag ∷ []) variants)
+    then struct_layout None None (tag_layout profile r.tag ∷ union_layout None None (structs [] variants) ∷ [])
+    else union_layout None None (structs (tag_layout profile r.tag ∷ []) variants)
 
--- the fields of a struct or a union, which is one variant
-abbrev pub only : List (List Layout) → List Layout
+-- what stands for the fields of a struct or a union, which is one variant
+abbrev pub only : {X : Type 0} → List (List X) → List X
 only [] = []
 only (fields ∷ others) = fields
 
-abbrev pub named_layout : Kind → Repr → List (List Layout) → Layout
-named_layout Struct r variants =
+abbrev pub named_layout : Profile → Kind → Repr → List (List Layout) → Layout
+named_layout profile Struct r variants =
     if r.transparent then transparent_layout (only variants) else struct_layout r.packed r.align (only variants)
-named_layout Union r variants = union_layout r.packed r.align (only variants)
-named_layout Enum r variants = enum_layout r variants
+named_layout profile Union r variants = union_layout r.packed r.align (only variants)
+named_layout profile Enum r variants = enum_layout profile r variants
 
 -- The size and the alignment of a type. A tuple has none that is guaranteed; it gets those of `()`.
 unfoldable mutual
   pub layout_of : Expanded → Layout
   layout_of too_deep = empty_layout
-  layout_of (prim p) = prim_layout p
+  layout_of (prim profile p) = prim_layout profile p
   layout_of never = empty_layout
   layout_of unit = empty_layout
   layout_of (tuple members) = empty_layout
   layout_of (array t n) = record { size = n * (layout_of t).size; align = (layout_of t).align }
-  layout_of (nonzero p) = prim_layout p
+  layout_of (nonzero profile p) = prim_layout profile p
   layout_of phantom = empty_layout
   layout_of (wrap w t) = layout_of t
-  layout_of (ref r) = record { size = pointer_size; align = pointer_size }
-  layout_of (named id kind repr variants) = named_layout kind repr (variant_layouts variants)
+  layout_of (ref profile r) = record { size = pointer_size profile; align = pointer_size profile }
+  layout_of (named profile id kind repr variants) = named_layout profile kind repr (variant_layouts variants)
 
   pub field_layouts : Fields → List Layout
   field_layouts no_fields = []

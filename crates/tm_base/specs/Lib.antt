@@ -1,5 +1,6 @@
 pub mod formers
 pub mod Cells
+pub mod Profiles
 pub mod Expanded
 pub mod Layout
 pub mod Integers
@@ -18,9 +19,11 @@ pub mod Compatible
 pub mod Viable
 pub mod Places
 pub mod Rules
+pub mod Limits
 pub mod Spelled
 pub mod Texts
 pub mod Answers
+pub mod Asked
 pub mod Whole
 pub mod Worlds
 pub mod Trees

@@ -16,7 +16,7 @@ module _ (test : Expanded → Bool) where
     some_part (tuple members) = some_field members
     some_part (array t n) = test t || some_part t
     some_part (wrap w t) = test t || some_part t
-    some_part (named id kind repr variants) = some_variant variants
+    some_part (named profile id kind repr variants) = some_variant variants
     some_part t = false
 
     pub some_field : Fields → Bool
@@ -93,10 +93,10 @@ has_several Enum variants = nat_le 2 (variant_count variants)
 
 -- a type whose words are of several kinds by its own form
 abbrev pub has_alternatives : Expanded → Bool
-has_alternatives (prim p) = is_char p
-has_alternatives (nonzero p) = true
+has_alternatives (prim profile p) = is_char p
+has_alternatives (nonzero profile p) = true
 has_alternatives (wrap w t) = is_option w || is_maybe_uninit w
-has_alternatives (named id kind repr variants) = has_several kind variants
+has_alternatives (named profile id kind repr variants) = has_several kind variants
 has_alternatives t = false
 
 -- neither is nor holds by value a `char`, a `NonZero`, an `Option`, a `MaybeUninit`, a union of two

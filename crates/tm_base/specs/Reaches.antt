@@ -12,12 +12,12 @@ use Rattle.tm_base.specs.Tables.{Tables, expanded_in}
 
 -- a way of so many steps, and of any number
 module _ {X : Type 0} (Step : X → X → Type 0) where
-  unfoldable pub LeadsIn : ℕ → X → X → Type 0
-  LeadsIn zero a b = a ≡ b
-  LeadsIn (suc n) a b = (next : X) × Step a next × LeadsIn n next b
+  unfoldable pub ChainIn : ℕ → X → X → Type 0
+  ChainIn zero a b = a ≡ b
+  ChainIn (suc n) a b = (next : X) × Step a next × ChainIn n next b
 
-  abbrev pub Leads : X → X → Type 0
-  Leads a b = (n : ℕ) × LeadsIn n a b
+  abbrev pub Chain : X → X → Type 0
+  Chain a b = (n : ℕ) × ChainIn n a b
 
 -- the part that a wrapper holds: none under `PhantomData`
 abbrev pub argument_of : Wrapper → Ground → List Ground
@@ -61,7 +61,7 @@ Enters tables g h = Contains (parts_of tables g ++ pointees_of tables g) h
 
 -- A type reaches itself, its parts by value, the pointees of its references, and what these reach.
 abbrev pub Reaches : Tables → Ground → Ground → Type 0
-Reaches tables = Leads (Enters tables)
+Reaches tables = Chain (Enters tables)
 
 -- a type is at fault, for its first cause
 abbrev pub IsAtFault : Tables → Ground → Why → Type 0

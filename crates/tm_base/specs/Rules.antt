@@ -76,7 +76,8 @@ module _ (tables : Tables) (ask : Ask) where
     -- the rule of a cell that no word of the target goes on with
     abbrev pub IsCellRule : Option Cell → Rule → Option RefFault → Type 0
     IsCellRule (Some (Byte b)) rule fault =
-        (((rule ≡ ByteValue) × SomeByteGoesOn) ⊎ ((rule ≡ BytesForReference) × (¬ SomeByteGoesOn))) × (fault ≡ None)
+        ((rule ≡ ByteValue) × SomeByteGoesOn × (fault ≡ None))
+        ⊎ ((rule ≡ BytesForReference) × (¬ SomeByteGoesOn) × (fault ≡ None))
     IsCellRule (Some Uninit) rule fault = (rule ≡ NeedsInit) × (fault ≡ None)
     IsCellRule (Some (Ptr r k)) rule fault =
         ((rule ≡ ReferenceForBytes) × (fault ≡ None) × ((t : ℕ) → ¬ IsOpen t))

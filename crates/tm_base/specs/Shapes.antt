@@ -1,29 +1,31 @@
 -- What is asked of the shape of a tree, and of the size of its words.
 use Rattle.std.specs.Prelude.{◌≡◌, ℕ, ◌+◌, ◌*◌, ◌≤◌, Bool, true, List, [], ◌∷◌, length}
 use Rattle.tm_base.specs.declared.tree.Tree.{Tree, Row_of-Tree, end_of-Tree, more_of-Tree, Never, Range, Pad, Ref, Seq', Alt', Repeat', Private'}
-use Rattle.tm_base.specs.Cells.{Word, pointer_size}
+use Rattle.tm_base.specs.Cells.{Word}
 use Rattle.tm_base.specs.Transmutes.{holds}
 use Rattle.tm_base.specs.Trees.{TreeWord}
 
--- how many leaves a tree has, where a leaf is one cell and a repetition has its part's at each turn
-unfoldable mutual
-  pub leaves_of : Tree → ℕ
-  leaves_of Never = 0
-  leaves_of (Range low high) = 1
-  leaves_of Pad = 1
-  leaves_of (Ref t) = pointer_size
-  leaves_of (Seq' shape row) = row_leaves row
-  leaves_of (Alt' shape row) = row_leaves row
-  leaves_of (Repeat' n shape row) = n * row_leaves row
-  leaves_of (Private' shape row) = row_leaves row
+-- How many leaves a tree has, where a leaf is one cell, a reference has `pointer` of them, and a
+-- repetition has its part's at each turn.
+module _ (pointer : ℕ) where
+  unfoldable mutual
+    pub leaves_of : Tree → ℕ
+    leaves_of Never = 0
+    leaves_of (Range low high) = 1
+    leaves_of Pad = 1
+    leaves_of (Ref t) = pointer
+    leaves_of (Seq' shape row) = row_leaves row
+    leaves_of (Alt' shape row) = row_leaves row
+    leaves_of (Repeat' n shape row) = n * row_leaves row
+    leaves_of (Private' shape row) = row_leaves row
 
-  pub row_leaves : {m : _} → Row_of-Tree m → ℕ
-  row_leaves end_of-Tree = 0
-  row_leaves (more_of-Tree t ts) = leaves_of t + row_leaves ts
+    pub row_leaves : {m : _} → Row_of-Tree m → ℕ
+    row_leaves end_of-Tree = 0
+    row_leaves (more_of-Tree t ts) = leaves_of t + row_leaves ts
 
-abbrev pub all_leaves : List Tree → ℕ
-all_leaves [] = 0
-all_leaves (t ∷ ts) = leaves_of t + all_leaves ts
+  abbrev pub all_leaves : List Tree → ℕ
+  all_leaves [] = 0
+  all_leaves (t ∷ ts) = leaves_of t + all_leaves ts
 
 -- no part of the tree is private
 unfoldable mutual
@@ -71,5 +73,5 @@ NoneAlternative [] = Unit {0}
 NoneAlternative (t ∷ ts) = HasNoAlternatives t × NoneAlternative ts
 
 -- whatever its references may hold, each word of the tree, its private parts' among them, has so many cells
-abbrev pub HasSize : ℕ → Tree → Type 0
-HasSize size t = (A : ℕ → ℕ → Bool) (w : Word) → TreeWord (holds A) true t w → length w ≡ size
+abbrev pub HasSize : ℕ → ℕ → Tree → Type 0
+HasSize pointer size t = (A : ℕ → ℕ → Bool) (w : Word) → TreeWord pointer (holds A) true t w → length w ≡ size

@@ -1,15 +1,14 @@
 -- Canonical texts of types, as bytes. Regions are written with their declared names or `'static`. This
 -- project's form, after Rust's own.
-use Rattle.std.specs.Prelude.{ℕ, zero, suc, if◌then◌else◌, List, [], ◌∷◌, ◌++◌, map, Option, Some, None, slice_get, unwrap_or, codes, decimal}
+use Rattle.std.specs.Prelude.{ℕ, if◌then◌else◌, List, [], ◌∷◌, ◌++◌, map, flat_map, Option, Some, None, slice_get, unwrap_or, codes, decimal}
 use Rattle.tm_base.specs.declared.definition.Def.{Def}
-use Rattle.tm_base.specs.declared.definition.NamedRow.{NamedRow}
 use Rattle.tm_base.specs.declared.definition.RegionId.{RegionId}
 use Rattle.tm_base.specs.declared.ground.Ground.{Ground}
 use Rattle.tm_base.specs.declared.ground.Primitive.{Primitive}
 use Rattle.tm_base.specs.declared.ground.Primitive.TheVariants.{Bool as bool', Char, U8, U16, U32, U64, U128, Usize, I8, I16, I32, I64, I128, Isize, F32, F64}
 use Rattle.tm_base.specs.declared.ground.Wrapper.{Wrapper}
 use Rattle.tm_base.specs.declared.ground.Wrapper.TheVariants.{Option as option, MaybeUninit, ManuallyDrop, Wrapping, Cell, UnsafeCell, PhantomData}
-use Rattle.tm_base.specs.Spelled.{Spelled, Elements, endless, prim, never, unit, tuple, array, named, nonzero, wrap, ref, no_elements, element, spelled}
+use Rattle.tm_base.specs.Spelled.{Spelled, Elements, endless, prim, never, unit, tuple, array, named, nonzero, wrap, ref, no_elements, element, spelled_within, following_limit}
 use Rattle.tm_base.specs.Tables.{Tables}
 
 -- the words of the primitives
@@ -41,16 +40,14 @@ wrapper_text Cell = codes "Cell"
 wrapper_text UnsafeCell = codes "UnsafeCell"
 wrapper_text PhantomData = codes "PhantomData"
 
+-- each text behind a comma and a space
+abbrev pub behind_commas : List (List ℕ) → List ℕ
+behind_commas = flat_map (λ text. codes ", " ++ text)
+
 -- texts with a comma and a space between them
 abbrev pub separated : List (List ℕ) → List ℕ
 separated [] = []
-separated (text ∷ []) = text
-separated (text ∷ other ∷ others) = text ++ codes ", " ++ separated (other ∷ others)
-
--- what stands before the text with a number
-abbrev pub comma_before : ℕ → List ℕ
-comma_before zero = []
-comma_before (suc n) = codes ", "
+separated (text ∷ texts) = text ++ behind_commas texts
 
 -- a generic type with an argument
 abbrev pub applied : List ℕ → List ℕ → List ℕ
@@ -61,25 +58,16 @@ abbrev pub tuple_text : List (List ℕ) → List ℕ
 tuple_text (text ∷ []) = codes "(" ++ text ++ codes ",)"
 tuple_text texts = codes "(" ++ separated texts ++ codes ")"
 
+-- a definition's name, with what it is given where it is given something
+abbrev pub def_text : Option Def → List (List ℕ) → List ℕ
+def_text None given = []
+def_text (Some def) [] = def.name
+def_text (Some def) (text ∷ texts) = applied def.name (separated (text ∷ texts))
+
 module _ (tables : Tables) where
   -- a region's name, with its quote
   abbrev pub region_text : RegionId → List ℕ
   region_text region = unwrap_or (slice_get tables.regions region.0) []
-
-  -- a name, with its regions where it has some
-  abbrev pub with_regions : List ℕ → List RegionId → List ℕ
-  with_regions name [] = name
-  with_regions name (region ∷ regions) = applied name (separated (map region_text (region ∷ regions)))
-
-  -- a definition's name with regions
-  abbrev pub def_text : List RegionId → Option Def → List ℕ
-  def_text regions None = []
-  def_text regions (Some def) = with_regions def.name regions
-
-  -- a named type, by its definition and its regions
-  abbrev pub row_text : Option NamedRow → List ℕ
-  row_text None = []
-  row_text (Some row) = def_text row.regions (slice_get tables.defs row.def.0)
 
   unfoldable mutual
     pub spelled_text : Spelled → List ℕ
@@ -89,7 +77,8 @@ module _ (tables : Tables) where
     spelled_text unit = codes "()"
     spelled_text (tuple members) = tuple_text (element_texts members)
     spelled_text (array t n) = codes "[" ++ spelled_text t ++ codes "; " ++ decimal n ++ codes "]"
-    spelled_text (named id) = row_text (slice_get tables.named id.0)
+    -- regions first, then types
+    spelled_text (named def regions args) = def_text (slice_get tables.defs def.0) (map region_text regions ++ element_texts args)
     spelled_text (nonzero p) = applied (codes "NonZero") (prim_text p)
     spelled_text (wrap w t) = applied (wrapper_text w) (spelled_text t)
     spelled_text (ref mutable region t) = codes "&" ++ region_text region ++ (if mutable then codes " mut " else codes " ") ++ spelled_text t
@@ -98,6 +87,10 @@ module _ (tables : Tables) where
     element_texts no_elements = []
     element_texts (element t rest) = spelled_text t ∷ element_texts rest
 
+  -- the text of a type in which so many names and references are followed behind one another
+  abbrev pub text_within : ℕ → Ground → List ℕ
+  text_within n g = spelled_text (spelled_within n tables.named tables.refs g)
+
   -- the canonical text of a type
   abbrev pub text_of : Ground → List ℕ
-  text_of g = spelled_text (spelled tables.refs g)
+  text_of = text_within following_limit

@@ -1,19 +1,19 @@
--- The words of a tree: sequence, alternative and repetition, as for regular expressions. A says which
--- values a reference may hold, and `keep` that private parts keep their words.
+-- The words of a tree: sequence, alternative and repetition, as for regular expressions. A reference has
+-- `pointer` bytes. A says which values it may hold, and `keep` that private parts keep their words.
 use Rattle.std.specs.Prelude.{◌≡◌, ℕ, ◌≤◌, ◌⊎◌, Bool, IsTrue, List, [], ◌∷◌, ◌++◌}
 use Rattle.tm_base.specs.declared.cell.Cell.{Cell}
 use Rattle.tm_base.specs.declared.cell.Cell.TheVariants.{Byte}
 use Rattle.tm_base.specs.declared.tree.Tree.{Tree, Row_of-Tree, end_of-Tree, more_of-Tree, Never, Range, Pad, Ref, Seq', Alt', Repeat', Private'}
 use Rattle.tm_base.specs.Cells.{Word, IsFree, pointer_of, Times}
 
-module _ (A : ℕ → ℕ → Type 0) (keep : Bool) where
+module _ (pointer : ℕ) (A : ℕ → ℕ → Type 0) (keep : Bool) where
   -- Over the form in which a tree holds other trees: the equations below are the ones to read.
   unfoldable mutual
     pub TreeWord : Tree → Word → Type 0
     TreeWord Never w = ⊥
     TreeWord (Range low high) w = (b : ℕ) × (low ≤ b) × (b ≤ high) × (w ≡ Byte b ∷ [])
     TreeWord Pad w = (c : Cell) × IsFree c × (w ≡ c ∷ [])
-    TreeWord (Ref t) w = (x : ℕ) × A x t.0 × (w ≡ pointer_of x)
+    TreeWord (Ref t) w = (x : ℕ) × A x t.0 × (w ≡ pointer_of pointer x)
     TreeWord (Seq' shape row) w = RowInTurn row w
     TreeWord (Alt' shape row) w = RowOneOf row w
     TreeWord (Repeat' n shape row) w = RowTimes n row w

@@ -8,11 +8,14 @@ use Rattle.tm_base.specs.declared.ground.Primitive.{Primitive}
 use Rattle.tm_base.specs.declared.ground.Primitive.TheVariants.{Bool as bool', Char}
 use Rattle.tm_base.specs.declared.ground.Wrapper.{Wrapper}
 use Rattle.tm_base.specs.declared.ground.Wrapper.TheVariants.{Option as option, MaybeUninit}
-use Rattle.tm_base.specs.Cells.{Word, number_of, pointer_of}
+use Rattle.tm_base.specs.declared.profile.Profile.{Profile}
+use Rattle.tm_base.specs.Cells.{Word, pointer_of}
 use Rattle.tm_base.specs.Expanded.{Expanded, Fields, Variants, too_deep, prim, never, unit, tuple, array, nonzero, phantom, wrap, ref, named, no_fields, field, no_variants, variant}
 use Rattle.tm_base.specs.Layout.{prim_size, place_at, tag_layout, layout_of, size_of}
 use Rattle.tm_base.specs.Orders.{word_less}
-use Rattle.tm_base.specs.Valid.{all_public, fields_place, first_place, twos_complement}
+use Rattle.tm_base.specs.Places.{fields_place, first_place}
+use Rattle.tm_base.specs.Profiles.{pointer_size, number_of}
+use Rattle.tm_base.specs.Valid.{all_public, twos_complement}
 
 -- as `IsByte`
 abbrev pub is_byte : Cell → Bool
@@ -39,10 +42,10 @@ abbrev pub is_scalar : ℕ → Bool
 is_scalar n = nat_le n 0xD7FF || (nat_le 0xE000 n && nat_le n 0x10FFFF)
 
 -- as `PrimValid`
-abbrev pub prim_test : Primitive → Word → Bool
-prim_test bool' w = are_bytes 1 w && nat_le (number_of w) 1
-prim_test Char w = are_bytes 4 w && is_scalar (number_of w)
-prim_test p w = are_bytes (prim_size p) w
+abbrev pub prim_test : Profile → Primitive → Word → Bool
+prim_test profile bool' w = are_bytes 1 w && nat_le (number_of profile w) 1
+prim_test profile Char w = are_bytes 4 w && is_scalar (number_of profile w)
+prim_test profile p w = are_bytes (prim_size profile p) w
 
 -- n words of s cells each, one after another
 abbrev pub times_test : ℕ → ℕ → (Word → Bool) → Word → Bool
@@ -63,8 +66,8 @@ first_ref (Uninit ∷ w) = 0
 first_ref (Ptr r k ∷ w) = r.0
 
 -- as `IsTag`
-abbrev pub tag_test : ℕ → ℤ → Word → Bool
-tag_test n value w = are_bytes n w && (number_of w == twos_complement n value)
+abbrev pub tag_test : Profile → ℕ → ℤ → Word → Bool
+tag_test profile n value w = are_bytes n w && (number_of profile w == twos_complement n value)
 
 -- one of n bytes behind a gap, and what is left
 abbrev pub field_test : (Word → Bool) → (Word → Bool) → ℕ → ℕ → ℕ → Word → Bool
@@ -82,18 +85,18 @@ module _ (A : ℕ → ℕ → Bool) (keep : Bool) where
   unfoldable mutual
     pub valid_test : Expanded → Word → Bool
     valid_test too_deep w = false
-    valid_test (prim p) w = prim_test p w
+    valid_test (prim profile p) w = prim_test profile p w
     valid_test never w = false
     valid_test unit w = word_same w []
     valid_test (tuple members) w = false
     valid_test (array t n) w = times_test n (size_of t) (valid_test t) w
-    valid_test (nonzero p) w = are_bytes (prim_size p) w && nat_lt 0 (number_of w)
+    valid_test (nonzero profile p) w = are_bytes (prim_size profile p) w && nat_lt 0 (number_of profile w)
     valid_test phantom w = word_same w []
     valid_test (wrap k t) w = wrap_test k (size_of t) (valid_test t) w
-    valid_test (ref t) w = A (first_ref w) t.0 && word_same w (pointer_of (first_ref w))
-    valid_test (named id Struct repr variants) w = (length w == size_of (named id Struct repr variants)) && struct_test repr.packed variants w
-    valid_test (named id Union repr variants) w = (length w == size_of (named id Union repr variants)) && union_test variants w
-    valid_test (named id Enum repr variants) w = (length w == size_of (named id Enum repr variants)) && some_variant_test repr.tag (fields_place repr variants) (first_place repr) variants w
+    valid_test (ref profile t) w = A (first_ref w) t.0 && word_same w (pointer_of (pointer_size profile) (first_ref w))
+    valid_test (named profile id Struct repr variants) w = (length w == size_of (named profile id Struct repr variants)) && struct_test repr.packed variants w
+    valid_test (named profile id Union repr variants) w = (length w == size_of (named profile id Union repr variants)) && union_test variants w
+    valid_test (named profile id Enum repr variants) w = (length w == size_of (named profile id Enum repr variants)) && some_variant_test profile repr.tag (fields_place profile repr variants) (first_place profile repr) variants w
 
     pub struct_test : Option ℕ → Variants → Word → Bool
     struct_test packed no_variants w = false
@@ -112,8 +115,8 @@ module _ (A : ℕ → ℕ → Bool) (keep : Bool) where
     some_field_test (field public t rest) w =
         (valid_test t (take (size_of t) w) && list_all is_free (drop (size_of t) w)) || some_field_test rest w
 
-    pub some_variant_test : Option Primitive → ℕ → ℕ → Variants → Word → Bool
-    some_variant_test tag begin first no_variants w = false
-    some_variant_test tag begin first (variant value members rest) w =
-        variant_test (tag_test (tag_layout tag).size value) (fields_test None first members) (tag_layout tag).size begin w
-        || some_variant_test tag begin first rest w
+    pub some_variant_test : Profile → Option Primitive → ℕ → ℕ → Variants → Word → Bool
+    some_variant_test profile tag begin first no_variants w = false
+    some_variant_test profile tag begin first (variant value members rest) w =
+        variant_test (tag_test profile (tag_layout profile tag).size value) (fields_test None first members) (tag_layout profile tag).size begin w
+        || some_variant_test profile tag begin first rest w

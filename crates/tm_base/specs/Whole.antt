@@ -15,12 +15,15 @@ use Rattle.tm_base.specs.declared.ground.Ground.{Ground, out-Ground, Row_of-Grou
 use Rattle.tm_base.specs.declared.ground.Ground.TheOpen.{Ground-F}
 use Rattle.tm_base.specs.declared.ground.Primitive.{Primitive}
 use Rattle.tm_base.specs.declared.ground.Primitive.TheVariants.{I64}
+use Rattle.tm_base.specs.declared.limit.LimitKind.TheVariants.{Fields, Variants}
+use Rattle.tm_base.specs.declared.profile.Profile.{Profile}
 use Rattle.tm_base.specs.Expanded.{expanded}
 use Rattle.tm_base.specs.Integers.{is_integer, is_tag_type, fits_integer}
+use Rattle.tm_base.specs.Limits.{limit_number}
 use Rattle.tm_base.specs.Parts.{is_whole}
 use Rattle.tm_base.specs.Spelled.{ends, spelled}
 
--- the type and all types that are written in it: elements and arguments, those of these, and so on
+-- the type and all types that are written in it: elements, what wrappers hold, those of these, and so on
 unfoldable mutual
   pub written_types : Ground → List Ground
   written_types (Tuple' shape row) = Tuple' shape row ∷ row_types row
@@ -32,12 +35,14 @@ unfoldable mutual
   row_types end_of-Ground = []
   row_types (more_of-Ground g gs) = written_types g ++ row_types gs
 
--- all types of a world: its named types, and what is written as a field, a pointee and in a question
+-- All types of a world: its named types, and what is written as an argument, a field and a pointee and in
+-- a question.
 abbrev pub all_types : List NamedRow → List RefRow → List Ask → List Ground
 all_types named refs questions =
     map (λ k. Named (record { 0 = k })) (range_with_len 0 (length named))
     ++ flat_map written_types (
-    flat_map (λ row. flat_map (λ types. types) row.types) named
+    flat_map (λ row. row.args) named
+    ++ flat_map (λ row. flat_map (λ types. types) row.types) named
     ++ map (λ row. row.pointee) refs
     ++ flat_map (λ ask. ask.src ∷ ask.dst ∷ []) questions)
 
@@ -51,19 +56,19 @@ is_head_in_form named refs _ = true
 
 -- What is asked of a type that is handed in with these tables: so it is of each type written in it, and
 -- no part by value is deeper than the limit.
-unfoldable pub is_type_over : List Def → List NamedRow → List RefRow → Ground → Bool
-is_type_over defs named refs g =
-    list_all (λ h. is_head_in_form (length named) (length refs) (out-Ground h)) (written_types g) && is_whole (expanded defs named g)
+unfoldable pub is_type_over : Profile → List Def → List NamedRow → List RefRow → Ground → Bool
+is_type_over profile defs named refs g =
+    list_all (λ h. is_head_in_form (length named) (length refs) (out-Ground h)) (written_types g) && is_whole (expanded profile defs named g)
 
 -- What holds of each type of a world: besides, followed through elements, arguments and pointees it
 -- doesn't come back to itself. That no part is deeper than the limit says that none holds itself.
-abbrev pub is_type_in_form : List Def → List NamedRow → List RefRow → Ground → Bool
-is_type_in_form defs named refs g =
-    is_head_in_form (length named) (length refs) (out-Ground g) && is_whole (expanded defs named g) && ends (spelled refs g)
+abbrev pub is_type_in_form : Profile → List Def → List NamedRow → List RefRow → Ground → Bool
+is_type_in_form profile defs named refs g =
+    is_head_in_form (length named) (length refs) (out-Ground g) && is_whole (expanded profile defs named g) && ends (spelled named refs g)
 
 -- each type of a world
-unfoldable pub are_types_in_form : List Def → List NamedRow → List RefRow → List Ask → Bool
-are_types_in_form defs named refs questions = list_all (is_type_in_form defs named refs) (all_types named refs questions)
+unfoldable pub are_types_in_form : Profile → List Def → List NamedRow → List RefRow → List Ask → Bool
+are_types_in_form profile defs named refs questions = list_all (is_type_in_form profile defs named refs) (all_types named refs questions)
 
 -- two numbers below some number
 abbrev pub is_bound_known : ℕ → Bound → Bool
@@ -126,9 +131,9 @@ is_repr_in_form Union repr variants =
     is_none repr.tag && (is_none repr.packed || is_none repr.align) && not repr.transparent
 
 -- a discriminant is one of the integer representation, or an `i64` without one
-abbrev pub is_value_in_form : Option Primitive → ℤ → Bool
-is_value_in_form None value = fits_integer I64 value
-is_value_in_form (Some p) value = fits_integer p value
+abbrev pub is_value_in_form : Profile → Option Primitive → ℤ → Bool
+is_value_in_form profile None value = fits_integer profile I64 value
+is_value_in_form profile (Some p) value = fits_integer profile p value
 
 -- a struct and a union are one variant, and a union has a field
 abbrev pub are_variants_in_form : Kind → List Variant → Bool
@@ -137,17 +142,17 @@ are_variants_in_form Union variants = (length variants == 1) && nat_lt 0 (field_
 are_variants_in_form Enum variants = true
 
 -- a definition: representation, alignments, variants, discriminants and counts
-abbrev pub is_def_in_form : Def → Bool
-is_def_in_form def =
+abbrev pub is_def_in_form : Profile → Def → Bool
+is_def_in_form profile def =
     is_repr_in_form def.kind def.repr def.variants
     && is_absent_or is_alignment def.repr.packed && is_absent_or is_alignment def.repr.align
     && are_variants_in_form def.kind def.variants
-    && list_all (λ v. is_value_in_form def.repr.tag v.value) def.variants
-    && nat_le (length def.variants) 256 && nat_le (field_total def.variants) 256
+    && list_all (λ v. is_value_in_form profile def.repr.tag v.value) def.variants
+    && nat_le (length def.variants) (limit_number Variants) && nat_le (field_total def.variants) (limit_number Fields)
 
 -- each definition of a world
-unfoldable pub are_defs_in_form : List Def → Bool
-are_defs_in_form = list_all is_def_in_form
+unfoldable pub are_defs_in_form : Profile → List Def → Bool
+are_defs_in_form profile = list_all (is_def_in_form profile)
 
 -- no item stands twice
 pub record AreDistinct {X : Type 0} (xs : List X) : Type 0 where

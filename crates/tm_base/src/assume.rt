@@ -2,15 +2,15 @@ ghost use Rattle.std.specs.Prelude.{◌≡◌, ◌&&◌, ◌||◌, ◌↔◌, no
 ghost use Rattle.tm_base.specs.Assumptions.{Includes};
 
 /// What a question takes for granted, as `core::mem::Assume` has it.
-///
-/// `alignment`: the target's references may ask for a greater alignment. `lifetimes`: they may live
-/// longer. `safety`: private types of the target are met. `validity`: the source's value is one that
-/// is valid for the target, where some is.
 #[derive(Clone, Copy, PartialEq, Eq, Debug)]
 pub struct Assume {
+    /// A reference is aligned as strictly as the target's pointee asks.
     pub alignment: bool,
+    /// A reference lives as long as the target's.
     pub lifetimes: bool,
+    /// What the target's private fields ask of their bytes beyond validity is met.
     pub safety: bool,
+    /// The value is one that is valid for the target, where the source has such a value.
     pub validity: bool,
 }
 
@@ -21,6 +21,38 @@ impl Assume {
         lifetimes: false,
         safety: false,
         validity: false,
+    };
+
+    /// Alignment alone.
+    pub const ALIGNMENT: Assume = Assume {
+        alignment: true,
+        lifetimes: false,
+        safety: false,
+        validity: false,
+    };
+
+    /// Lifetimes alone.
+    pub const LIFETIMES: Assume = Assume {
+        alignment: false,
+        lifetimes: true,
+        safety: false,
+        validity: false,
+    };
+
+    /// Safety alone.
+    pub const SAFETY: Assume = Assume {
+        alignment: false,
+        lifetimes: false,
+        safety: true,
+        validity: false,
+    };
+
+    /// Validity alone.
+    pub const VALIDITY: Assume = Assume {
+        alignment: false,
+        lifetimes: false,
+        safety: false,
+        validity: true,
     };
 
     /// The flags of either.
@@ -61,32 +93,5 @@ impl Assume {
             && (self.lifetimes || !other.lifetimes)
             && (self.safety || !other.safety)
             && (self.validity || !other.validity)
-    }
-}
-
-#[cfg(test)]
-mod tests {
-    use super::*;
-
-    const VALIDITY: Assume = Assume {
-        alignment: false,
-        lifetimes: false,
-        safety: false,
-        validity: true,
-    };
-
-    #[test]
-    fn joins_and_takes_away(rt: HostRuntime) {
-        let both = Assume {
-            alignment: true,
-            lifetimes: false,
-            safety: false,
-            validity: true,
-        };
-        let alignment = both.but_not(VALIDITY);
-        assert!(rt; alignment.alignment && !alignment.validity);
-        assert_eq!(rt; alignment.and(VALIDITY), both);
-        assert!(rt; both.has(VALIDITY) && both.has(Assume::NOTHING));
-        assert!(rt; !VALIDITY.has(both));
     }
 }

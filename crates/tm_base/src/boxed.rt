@@ -23,10 +23,8 @@ impl<T: Drop> Boxed<T> {
     pub fn new(alloc: Global, value: T) -> Result<Boxed<T>, Memory>
         ensures { IfOk result (λ boxed. boxed ≡ value) }
     {
-        match Box::new(alloc, value) {
-            Ok(inner) => Ok(Boxed { inner }),
-            Err(_) => Err(Memory),
-        }
+        let inner = Box::new(alloc, value)?;
+        Ok(Boxed { inner })
     }
 }
 

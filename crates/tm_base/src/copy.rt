@@ -40,11 +40,7 @@ fn copy_all(alloc: Global, types: &[Ground]) -> Result<List<Ground>, Memory>
 {
     let mut copies = List::new(alloc);
     for item in types {
-        let copy = item.copy(alloc)?;
-        match copies.push(copy) {
-            Ok(()) => {}
-            Err(_) => return Err(Memory),
-        }
+        copies.add(item.copy(alloc)?)?;
     }
     Ok(copies)
 }
@@ -70,10 +66,7 @@ impl Variant {
         let name = self.name.copy(alloc)?;
         let mut fields = List::new(alloc);
         for field in self.fields.as_slice() {
-            match fields.push(field.copy(alloc)?) {
-                Ok(()) => {}
-                Err(_) => return Err(Memory),
-            }
+            fields.add(field.copy(alloc)?)?;
         }
         Ok(Variant {
             name,
@@ -91,10 +84,7 @@ impl Def {
         let name = self.name.copy(alloc)?;
         let mut variants = List::new(alloc);
         for variant in self.variants.as_slice() {
-            match variants.push(variant.copy(alloc)?) {
-                Ok(()) => {}
-                Err(_) => return Err(Memory),
-            }
+            variants.add(variant.copy(alloc)?)?;
         }
         Ok(Def {
             name,
@@ -102,112 +92,5 @@ impl Def {
             repr: self.repr,
             variants,
         })
-    }
-}
-
-#[cfg(test)]
-mod tests {
-    use super::*;
-    use crate::definition::{Kind, Repr};
-    use crate::ground::{Primitive, Wrapper};
-    use crate::text::Text;
-
-    /// `(Option<[u8; 4]>,)`.
-    fn sample(alloc: Global) -> Result<Ground, Memory> {
-        let array = Ground::Array(Boxed::new(alloc, Ground::Prim(Primitive::U8))?, 4);
-        let option = Ground::Wrap(Wrapper::Option, Boxed::new(alloc, array)?);
-        let mut elements = List::new(alloc);
-        match elements.push(option) {
-            Ok(()) => Ok(Ground::Tuple(elements)),
-            Err(_) => Err(Memory),
-        }
-    }
-
-    fn is_sample(ground: &Ground) -> bool {
-        let Ground::Tuple(elements) = ground else {
-            return false;
-        };
-        let Some(Ground::Wrap(Wrapper::Option, array)) = elements.get(0) else {
-            return false;
-        };
-        match array.get() {
-            Ground::Array(element, length) => {
-                *length == 4 && matches!(element.get(), Ground::Prim(Primitive::U8))
-            }
-            _ => false,
-        }
-    }
-
-    #[test]
-    fn copies_a_type(rt: HostRuntime) {
-        let alloc = rt.alloc();
-        let Ok(ground) = sample(alloc) else {
-            panic!(rt; "the sample wants memory");
-        };
-        let Ok(copy) = ground.copy(alloc) else {
-            panic!(rt; "the copy wants memory");
-        };
-        assert!(rt; is_sample(&ground));
-        assert!(rt; is_sample(&copy));
-    }
-
-    /// `#[repr(C)] struct S { pub a }`, with the type of `a` left out.
-    fn sample_def(alloc: Global) -> Result<Def, Memory> {
-        let mut fields = List::new(alloc);
-        let mut variants = List::new(alloc);
-        let mut name = Text::new(alloc);
-        let mut field_name = Text::new(alloc);
-        name.push_str("S")?;
-        field_name.push_str("a")?;
-        let field = Field {
-            name: field_name,
-            public: true,
-        };
-        match fields.push(field) {
-            Ok(()) => {}
-            Err(_) => return Err(Memory),
-        }
-        let variant = Variant {
-            name: Text::new(alloc),
-            value: 0,
-            fields,
-        };
-        match variants.push(variant) {
-            Ok(()) => {}
-            Err(_) => return Err(Memory),
-        }
-        let repr = Repr {
-            c: true,
-            transparent: false,
-            tag: None,
-            packed: None,
-            align: None,
-        };
-        Ok(Def {
-            name,
-            kind: Kind::Struct,
-            repr,
-            variants,
-        })
-    }
-
-    #[test]
-    fn copies_a_definition(rt: HostRuntime) {
-        let alloc = rt.alloc();
-        let Ok(def) = sample_def(alloc) else {
-            panic!(rt; "the sample wants memory");
-        };
-        let Ok(copy) = def.copy(alloc) else {
-            panic!(rt; "the copy wants memory");
-        };
-        assert!(rt; copy.name.as_str() == "S");
-        assert!(rt; copy.repr.c && copy.kind == Kind::Struct);
-        match copy.variants.get(0) {
-            Some(variant) => match variant.fields.get(0) {
-                Some(field) => assert!(rt; field.name.as_str() == "a" && field.public),
-                None => panic!(rt; "no field"),
-            },
-            None => panic!(rt; "no variant"),
-        }
     }
 }

@@ -1,7 +1,7 @@
 //! Laws of the definitions that contracts speak in. Each is the contract of a function that does
 //! nothing, so that it is proved with the crate.
 
-ghost use Rattle.tm_base.specs.Laws.{RoundsUp, FieldsStandApart, WordsHaveTheirSize, ValidityGrows, TestIsExact, DepthsAgree, WordsCompare, MoreMayBeAssumed, AnswersAreUnique};
+ghost use Rattle.tm_base.specs.Laws.{RoundsUp, FieldsStandApart, WordsHaveTheirSize, ValidityGrows, TestIsExact, DepthsAgree, WordsCompare, AnswersAreUnique, OwnIsTested, TreesAreRead, FaultsAreFound};
 
 /// Rounding up gives the least multiple that isn't below a number.
 pub fn rounding_up_is_least()
@@ -38,12 +38,22 @@ pub fn words_compare()
     ensures { WordsCompare }
 {}
 
-/// What may be taken may be taken under more assumptions.
-pub fn more_may_be_assumed()
-    ensures { MoreMayBeAssumed }
-{}
-
 /// A question has one answer at most.
 pub fn answers_are_unique()
     ensures { AnswersAreUnique }
+{}
+
+/// A target reference may hold itself by a test exactly where it may by the relation of that test.
+pub fn own_is_tested()
+    ensures { OwnIsTested }
+{}
+
+/// What the words of each kind of tree are.
+pub fn trees_are_read()
+    ensures { TreesAreRead }
+{}
+
+/// A type has no layout exactly where it is at fault or holds by value a type at fault.
+pub fn faults_are_found()
+    ensures { FaultsAreFound }
 {}

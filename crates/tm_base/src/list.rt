@@ -1,6 +1,7 @@
 ghost use Rattle.std.specs.Prelude.{◌≡◌, ◌≤◌, ◌++◌, ◌∷◌, [], ◌↔◌, IsNone, OnOk, IfErr, OnErr, length, slice_get};
 ghost use Rattle.std.specs.Option.{option_copied};
 
+use crate::memory::Memory;
 use std::alloc::Global;
 use std::marker::Model;
 
@@ -42,6 +43,18 @@ impl<T> List<T> {
             Ok(()) => Ok(()),
             Err(failed) => Err(failed.value),
         }
+    }
+
+    /// Adds the item at the end. Where memory is wanting, the item is dropped and the list is as it
+    /// was.
+    pub fn add(&mut self, item: T) -> Result<(), Memory>
+    where
+        T: Drop,
+        ensures added { OnOk result (self.new ≡ self.old ++ item ∷ []) }
+        ensures kept { OnErr result (self.new ≡ self.old) }
+    {
+        self.items.push(item)?;
+        Ok(())
     }
 
     /// How many items there are.

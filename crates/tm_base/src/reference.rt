@@ -2,8 +2,8 @@ ghost use Rattle.std.specs.Prelude.{◌≡◌, ◌==◌, ℕ, Bool};
 
 use crate::cell::RefId;
 
-/// A test of a source reference and a target reference: may a value of the one be taken as one of the
-/// other?
+/// A test of a source reference and a target reference: may a value of the one be taken as one of
+/// the other?
 pub trait RefTest {
     ghost test: { Self → ℕ → ℕ → Bool };
 
@@ -21,20 +21,5 @@ impl RefTest for Equal {
 
     fn holds(&self, source: RefId, target: RefId) -> bool {
         source.0 == target.0
-    }
-}
-
-#[cfg(test)]
-mod tests {
-    use super::*;
-
-    fn asks<T: RefTest>(test: &T, source: u32, target: u32) -> bool {
-        test.holds(RefId(source), RefId(target))
-    }
-
-    #[test]
-    fn equal_ids_alone(rt: HostRuntime) {
-        assert!(rt; asks(&Equal, 7, 7));
-        assert!(rt; !asks(&Equal, 7, 8));
     }
 }

@@ -1,31 +1,29 @@
 //! The canonical texts of types.
-ghost use Rattle.std.specs.Prelude.{◌≡◌, ◌++◌, if◌then◌else◌, codes, decimal, map, slice_get, IfOk, OnOk};
-ghost use Rattle.tm_base.specs.declared.ground.Ground.{Ref};
-ghost use Rattle.tm_base.specs.Spelled.{spelled_within};
-ghost use Rattle.tm_base.specs.Texts.{applied, prim_text, wrapper_text, comma_before, separated, tuple_text, region_text, def_text, row_text, spelled_text, text_of};
+ghost use Rattle.std.specs.Prelude.{◌≡◌, ◌<◌, ◌+◌, ◌↔◌, ◌++◌, if◌then◌else◌, codes, decimal, length, map, slice_get, IsTrue, IfOk, OnOk};
+ghost use Rattle.tm_base.specs.declared.ground.Ground.{Named, Ref};
+ghost use Rattle.tm_base.specs.Texts.{applied, prim_text, wrapper_text, behind_commas, separated, tuple_text, region_text, def_text, text_within, text_of};
 ghost use Rattle.tm_base.specs.Worlds.{tables_of};
 
 use crate::cell::RefId;
 use crate::definition::{NamedRow, RefRow, RegionId};
 use crate::ground::{Ground, NamedId, Primitive, Wrapper};
+use crate::limit::LimitKind;
 use crate::memory::Memory;
 use crate::text::Text;
 use crate::world::World;
 use std::alloc::Global;
 
-/// How many references may stand behind one another.
-const REFERENCE_LIMIT: u32 = 64;
-
-/// The canonical text of a type of the world, as Rust writes it: regions by their declared names or as
-/// `'static`, and one space behind each comma and semicolon. A number that names nothing in the world is
-/// written as nothing.
+/// The canonical text of a type of the world, as Rust writes it: regions by their declared names or
+/// as `'static`, and one space behind each comma and semicolon. A number that names nothing in the
+/// world is written as nothing.
 ///
 /// `Memory`: there wasn't enough memory for the text.
 pub fn text_of(alloc: Global, world: &World, g: &Ground) -> Result<Text, Memory>
     ensures { IfOk result (λ text. text ≡ text_of (tables_of world.now) g.now) }
 {
     let mut text = Text::new(alloc);
-    write_type(alloc, world, REFERENCE_LIMIT, g, &mut text)?;
+    let most = LimitKind::NamedTypes.number() + LimitKind::References.number();
+    write_type(alloc, world, most, g, &mut text)?;
     Ok(text)
 }
 
@@ -78,62 +76,32 @@ fn write_region(world: &World, region: RegionId, text: &mut Text) -> Result<(), 
     }
 }
 
-/// Writes what separates the item at a place from the one before it.
-fn write_comma(place: usize, text: &mut Text) -> Result<(), Memory>
-    ensures { OnOk result (text.new ≡ text.old ++ comma_before place) }
+/// Writes some regions' names, each behind a comma.
+fn write_other_regions(world: &World, regions: &[RegionId], text: &mut Text) -> Result<(), Memory>
+    ensures { OnOk result (
+        let names = map (region_text (tables_of world.now)) regions.now in
+        text.new ≡ text.old ++ behind_commas names) }
 {
-    if place == 0 {
-        return Ok(());
-    }
-    text.push_str(", ")
-}
-
-/// Writes the names of some regions, with commas between them.
-fn write_regions(world: &World, regions: &[RegionId], text: &mut Text) -> Result<(), Memory>
-    ensures { OnOk result (text.new ≡ text.old ++ separated (map (region_text (tables_of world.now)) regions.now)) }
-{
-    for (place, region) in regions.iter().enumerate() {
-        write_comma(place, text)?;
+    for region in regions {
+        text.push_str(", ")?;
         write_region(world, *region, text)?;
     }
     Ok(())
 }
 
-/// Writes a named type: its definition's name, and its regions where it has some.
-fn write_row(world: &World, row: &NamedRow, text: &mut Text) -> Result<(), Memory>
-    ensures { OnOk result (text.new ≡ text.old ++ def_text (tables_of world.now) row.now.regions (slice_get world.now.defs row.now.def.0)) }
+/// Whether a named type has regions or arguments.
+fn is_given(row: &NamedRow) -> bool
+    ensures { IsTrue result ↔ (0 < length row.now.regions + length row.now.args) }
 {
-    let Some(def) = world.defs.get(row.def.0 as usize) else {
-        return Ok(());
-    };
-    text.push_str(def.name.as_str())?;
-    let regions = row.regions.as_slice();
-    if regions.is_empty() {
-        return Ok(());
-    }
-    text.push_str("<")?;
-    write_regions(world, regions, text)?;
-    text.push_str(">")
-}
-
-/// Writes the named type with a number.
-fn write_named(world: &World, id: NamedId, text: &mut Text) -> Result<(), Memory>
-    ensures { OnOk result (text.new ≡ text.old ++ row_text (tables_of world.now) (slice_get world.now.named id.0)) }
-{
-    match world.named.get(id.0 as usize) {
-        None => Ok(()),
-        Some(row) => write_row(world, row, text),
-    }
+    row.regions.len() > 0 || row.args.len() > 0
 }
 
 /// Writes a number in decimal.
 fn write_number(alloc: Global, number: u32, text: &mut Text) -> Result<(), Memory>
     ensures { OnOk result (text.new ≡ text.old ++ decimal number) }
 {
-    match format!(in alloc; "{number}") {
-        Ok(digits) => text.push_str(digits.as_str()),
-        Err(_) => Err(Memory),
-    }
+    let digits = format!(in alloc; "{number}")?;
+    text.push_str(digits.as_str())
 }
 
 /// Writes `NonZero` of a primitive.
@@ -145,7 +113,7 @@ fn write_nonzero(primitive: Primitive, text: &mut Text) -> Result<(), Memory>
     text.push_str(">")
 }
 
-/// Writes a type in which at most `left` references stand behind one another.
+/// Writes a type in which at most `left` names and references are followed behind one another.
 #[cycle(spelling)]
 fn write_type(
     alloc: Global,
@@ -154,7 +122,7 @@ fn write_type(
     g: &Ground,
     text: &mut Text,
 ) -> Result<(), Memory>
-    ensures { OnOk result (text.new ≡ text.old ++ spelled_text (tables_of world.now) (spelled_within left world.now.refs g.now)) }
+    ensures { OnOk result (text.new ≡ text.old ++ text_within (tables_of world.now) left g.now) }
 {
     match g {
         Ground::Prim(primitive) => text.push_str(primitive_word(*primitive)),
@@ -164,7 +132,7 @@ fn write_type(
         Ground::Array(element, length) => {
             write_array(alloc, world, left, element.get(), *length, text)
         }
-        Ground::Named(id) => write_named(world, *id, text),
+        Ground::Named(id) => write_named(alloc, world, left, *id, text),
         Ground::NonZero(primitive) => write_nonzero(*primitive, text),
         Ground::Wrap(wrapper, argument) => {
             write_wrap(alloc, world, left, *wrapper, argument.get(), text)
@@ -182,27 +150,51 @@ fn write_tuple(
     elements: &[Ground],
     text: &mut Text,
 ) -> Result<(), Memory>
-    ensures { OnOk result (text.new ≡ text.old ++ tuple_text (map (λ g. spelled_text (tables_of world.now) (spelled_within left world.now.refs g)) elements.now)) }
+    ensures { OnOk result (
+        let texts = map (text_within (tables_of world.now) left) elements.now in
+        text.new ≡ text.old ++ tuple_text texts) }
 {
     text.push_str("(")?;
-    write_elements(alloc, world, left, elements, text)?;
+    write_types(alloc, world, left, elements, text)?;
     text.push_str(if elements.len() == 1 { ",)" } else { ")" })
 }
 
 /// Writes some types, with commas between them.
 #[cycle(spelling)]
-fn write_elements(
+fn write_types(
     alloc: Global,
     world: &World,
     left: u32,
-    elements: &[Ground],
+    types: &[Ground],
     text: &mut Text,
 ) -> Result<(), Memory>
-    ensures { OnOk result (text.new ≡ text.old ++ separated (map (λ g. spelled_text (tables_of world.now) (spelled_within left world.now.refs g)) elements.now)) }
+    ensures { OnOk result (
+        let texts = map (text_within (tables_of world.now) left) types.now in
+        text.new ≡ text.old ++ separated texts) }
 {
-    for (place, element) in elements.iter().enumerate() {
-        write_comma(place, text)?;
-        write_type(alloc, world, left, element, text)?;
+    let Some((first, others)) = types.split_first() else {
+        return Ok(());
+    };
+    write_type(alloc, world, left, first, text)?;
+    write_other_types(alloc, world, left, others, text)
+}
+
+/// Writes some types, each behind a comma.
+#[cycle(spelling)]
+fn write_other_types(
+    alloc: Global,
+    world: &World,
+    left: u32,
+    types: &[Ground],
+    text: &mut Text,
+) -> Result<(), Memory>
+    ensures { OnOk result (
+        let texts = map (text_within (tables_of world.now) left) types.now in
+        text.new ≡ text.old ++ behind_commas texts) }
+{
+    for item in types {
+        text.push_str(", ")?;
+        write_type(alloc, world, left, item, text)?;
     }
     Ok(())
 }
@@ -217,7 +209,9 @@ fn write_array(
     length: u32,
     text: &mut Text,
 ) -> Result<(), Memory>
-    ensures { OnOk result (text.new ≡ text.old ++ (codes "[" ++ spelled_text (tables_of world.now) (spelled_within left world.now.refs element.now) ++ codes "; " ++ decimal length ++ codes "]")) }
+    ensures { OnOk result (
+        let inside = text_within (tables_of world.now) left element.now in
+        text.new ≡ text.old ++ (codes "[" ++ inside ++ codes "; " ++ decimal length ++ codes "]")) }
 {
     text.push_str("[")?;
     write_type(alloc, world, left, element, text)?;
@@ -236,7 +230,9 @@ fn write_wrap(
     argument: &Ground,
     text: &mut Text,
 ) -> Result<(), Memory>
-    ensures { OnOk result (text.new ≡ text.old ++ applied (wrapper_text wrapper) (spelled_text (tables_of world.now) (spelled_within left world.now.refs argument.now))) }
+    ensures { OnOk result (
+        let inside = text_within (tables_of world.now) left argument.now in
+        text.new ≡ text.old ++ applied (wrapper_text wrapper) inside) }
 {
     text.push_str(wrapper_word(wrapper))?;
     text.push_str("<")?;
@@ -244,7 +240,86 @@ fn write_wrap(
     text.push_str(">")
 }
 
-/// Writes the reference type with a number; nothing where no reference may stand here.
+/// Writes the named type with a number; nothing where no name may be followed here.
+#[cycle(spelling)]
+fn write_named(
+    alloc: Global,
+    world: &World,
+    left: u32,
+    id: NamedId,
+    text: &mut Text,
+) -> Result<(), Memory>
+    ensures { OnOk result (
+        text.new ≡ text.old ++ text_within (tables_of world.now) left (Named id)) }
+{
+    if left == 0 {
+        return Ok(());
+    }
+    match world.named.get(id.0 as usize) {
+        None => Ok(()),
+        Some(row) => write_row(alloc, world, left - 1, row, text),
+    }
+}
+
+/// Writes a named type: its definition's name, and its regions and arguments where it has some.
+#[cycle(spelling)]
+fn write_row(
+    alloc: Global,
+    world: &World,
+    left: u32,
+    row: &NamedRow,
+    text: &mut Text,
+) -> Result<(), Memory>
+    ensures { OnOk result (
+        let tables = tables_of world.now in
+        let regions = map (region_text tables) row.now.regions in
+        let args = map (text_within tables left) row.now.args in
+        let def = slice_get world.now.defs row.now.def.0 in
+        text.new ≡ text.old ++ def_text def (regions ++ args)) }
+{
+    let Some(def) = world.defs.get(row.def.0 as usize) else {
+        return Ok(());
+    };
+    text.push_str(def.name.as_str())?;
+    if !is_given(row) {
+        return Ok(());
+    }
+    text.push_str("<")?;
+    write_given(
+        alloc,
+        world,
+        left,
+        row.regions.as_slice(),
+        row.args.as_slice(),
+        text,
+    )?;
+    text.push_str(">")
+}
+
+/// Writes what a definition is given, with commas between: regions first, then types.
+#[cycle(spelling)]
+fn write_given(
+    alloc: Global,
+    world: &World,
+    left: u32,
+    regions: &[RegionId],
+    args: &[Ground],
+    text: &mut Text,
+) -> Result<(), Memory>
+    ensures { OnOk result (
+        let tables = tables_of world.now in
+        let names = map (region_text tables) regions.now in
+        text.new ≡ text.old ++ separated (names ++ map (text_within tables left) args.now)) }
+{
+    let Some((first, others)) = regions.split_first() else {
+        return write_types(alloc, world, left, args, text);
+    };
+    write_region(world, *first, text)?;
+    write_other_regions(world, others, text)?;
+    write_other_types(alloc, world, left, args, text)
+}
+
+/// Writes the reference type with a number; nothing where no reference may be followed here.
 #[cycle(spelling)]
 fn write_ref(
     alloc: Global,
@@ -253,7 +328,7 @@ fn write_ref(
     id: RefId,
     text: &mut Text,
 ) -> Result<(), Memory>
-    ensures { OnOk result (text.new ≡ text.old ++ spelled_text (tables_of world.now) (spelled_within left world.now.refs (Ref id))) }
+    ensures { OnOk result (text.new ≡ text.old ++ text_within (tables_of world.now) left (Ref id)) }
 {
     if left == 0 {
         return Ok(());
@@ -264,7 +339,7 @@ fn write_ref(
     }
 }
 
-/// Writes a reference, its pointee with at most `left` references behind one another.
+/// Writes a reference, its pointee with at most `left` names and references behind one another.
 #[cycle(spelling)]
 fn write_row_of_ref(
     alloc: Global,
@@ -273,37 +348,15 @@ fn write_row_of_ref(
     row: &RefRow,
     text: &mut Text,
 ) -> Result<(), Memory>
-    ensures { OnOk result (text.new ≡ text.old ++ (codes "&" ++ region_text (tables_of world.now) row.now.region ++ (if row.now.mutable then codes " mut " else codes " ") ++ spelled_text (tables_of world.now) (spelled_within left world.now.refs row.now.pointee))) }
+    ensures { OnOk result (
+        let tables = tables_of world.now in
+        let region = region_text tables row.now.region in
+        let word = if row.now.mutable then codes " mut " else codes " " in
+        let pointee = text_within tables left row.now.pointee in
+        text.new ≡ text.old ++ (codes "&" ++ region ++ word ++ pointee)) }
 {
     text.push_str("&")?;
     write_region(world, row.region, text)?;
     text.push_str(if row.mutable { " mut " } else { " " })?;
     write_type(alloc, world, left, &row.pointee, text)
-}
-
-#[cfg(test)]
-mod tests {
-    use super::*;
-    use crate::boxed::Boxed;
-    use crate::list::List;
-    use crate::world::tests::empty_world;
-
-    /// The text of `(Option<[u8; 4]>,)`.
-    fn sample(alloc: Global) -> Result<Text, Memory> {
-        let array = Ground::Array(Boxed::new(alloc, Ground::Prim(Primitive::U8))?, 4);
-        let option = Ground::Wrap(Wrapper::Option, Boxed::new(alloc, array)?);
-        let mut elements = List::new(alloc);
-        match elements.push(option) {
-            Ok(()) => text_of(alloc, &empty_world(alloc), &Ground::Tuple(elements)),
-            Err(_) => Err(Memory),
-        }
-    }
-
-    #[test]
-    fn one_element_has_a_comma(rt: HostRuntime) {
-        let Ok(text) = sample(rt.alloc()) else {
-            panic!(rt; "the text wants memory");
-        };
-        assert_eq!(rt; text.as_str(), "(Option<[u8; 4]>,)");
-    }
 }

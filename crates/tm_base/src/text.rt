@@ -40,19 +40,26 @@ impl Text {
         ensures added { OnOk result (self.new ≡ self.old ++ piece.now) }
         ensures kept { OnErr result (self.new ≡ self.old) }
     {
-        match self.string.push_str(piece) {
-            Ok(()) => Ok(()),
-            Err(_) => Err(Memory),
-        }
+        self.string.push_str(piece)?;
+        Ok(())
     }
 
     /// A text with the same bytes.
     pub fn copy(&self, alloc: Global) -> Result<Text, Memory>
         ensures { IfOk result (λ text. text ≡ self.now) }
     {
-        match String::from_str(alloc, self.string.as_str()) {
-            Ok(string) => Ok(Text { string }),
-            Err(_) => Err(Memory),
-        }
+        let string = String::from_str(alloc, self.string.as_str())?;
+        Ok(Text { string })
+    }
+}
+
+impl From<String> for Text {
+    ghost use Rattle.std.specs.Prelude.{◌≡◌, string_bytes};
+
+    ghost from_gives = { λ string text. text ≡ string_bytes string };
+
+    /// The string's own bytes, without a copy.
+    fn from(string: String) -> Text {
+        Text { string }
     }
 }

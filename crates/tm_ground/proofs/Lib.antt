@@ -26,7 +26,6 @@ pub mod TypesForm
 pub mod TextLemmas
 pub mod OrderLemmas
 pub mod BelongsLemmas
-pub mod SampleForm
 pub mod WordLemmas
 pub mod PieceLemmas
 pub mod NameLemmas

@@ -16,7 +16,7 @@ use Rattle.tm_base.specs.declared.ground.Wrapper.{Wrapper}
 use Rattle.tm_base.specs.declared.ground.Wrapper.TheVariants as wrapper
 use Rattle.tm_base.specs.declared.world.World.{World}
 use Rattle.tm_base.specs.Answers.{NoSharedTexts, side_type}
-use Rattle.tm_base.specs.Reaches.{LeadsIn, Enters, Reaches, argument_of, parts_within, pointees_within, row_parts, row_pointee}
+use Rattle.tm_base.specs.Reaches.{ChainIn, Enters, Reaches, argument_of, parts_within, pointees_within, row_parts, row_pointee}
 use Rattle.tm_base.specs.Texts.{text_of}
 use Rattle.tm_base.specs.Whole.{AreDistinct}
 use Rattle.tm_base.specs.Worlds.{tables_of}
@@ -174,8 +174,8 @@ module _ (resolved : Resolved) (world : World) (b : BelongsToFile resolved world
     pub occurs : Occurs resolved closed
     pub stands : Stands closed g
 
-  reached : (n : ℕ) (g h : Ground) → IsOfFile g → LeadsIn (Enters (tables_of world)) n g h → IsOfFile h
-  unfolding LeadsIn
+  reached : (n : ℕ) (g h : Ground) → IsOfFile g → ChainIn (Enters (tables_of world)) n g h → IsOfFile h
+  unfolding ChainIn
   reached zero g h m e = subst (λ x. IsOfFile x) e m
   reached (suc n) g h m (next, s, rest) =
       let (d, i, t) = part m.closed g next m.stands s in

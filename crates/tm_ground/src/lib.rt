@@ -19,6 +19,3 @@ mod written;
 
 pub use fault::GroundErr;
 pub use grounding::ground;
-
-#[cfg(test)]
-mod tests;

@@ -1,5 +1,5 @@
 -- Each question over a world has an answer.
-use Rattle.std.proofs.Common.{◌≡◌, ℕ, ◌<◌, ◌≤◌, ◌⊎◌, inl, inr, refl, subst, Bool, true, false, take}
+use Rattle.std.proofs.Common.{◌≡◌, ℕ, ◌<◌, ◌≤◌, ◌⊎◌, inl, inr, refl, subst, Bool, true, false}
 use Rattle.tm_base.specs.declared.answer.Answer.{Answer}
 use Rattle.tm_base.specs.declared.answer.Answer.TheVariants.{Yes, YesBecause, No, NoAt, Refused}
 use Rattle.tm_base.specs.declared.answer.Rule.TheVariants.{TargetUninhabited, TargetPrivate, NoCommonValue}
@@ -7,14 +7,12 @@ use Rattle.tm_base.specs.declared.answer.Side.TheVariants.{Source, Target}
 use Rattle.tm_base.specs.declared.ask.Ask.{Ask}
 use Rattle.tm_base.specs.declared.world.World.{World}
 use Rattle.tm_base.specs.Answers.{IsAnswer, IsValue, IsAccepted, IsRefusedAt, AreJudged, Casts}
-use Rattle.tm_base.specs.Cells.{Word, fit}
+use Rattle.tm_base.specs.Cells.{Word}
 use Rattle.tm_base.specs.Expanded.{Expanded}
-use Rattle.tm_base.specs.Layout.{size_of}
 use Rattle.tm_base.specs.Orders.{word_less}
 use Rattle.tm_base.specs.Reaches.{IsJudged}
 use Rattle.tm_base.specs.Rules.{source, target, Taken, HasTargetWord}
 use Rattle.tm_base.specs.Transmutes.{IsSourceWord, IsUninhabited, Fits, EveryWordFits}
-use Rattle.tm_base.specs.Viable.{Viable}
 use Rattle.tm_base.specs.Worlds.{tables_of, IsTypeOver}
 use Rattle.tm_laws.proofs.CellRuleLemmas.{taken-known, taken_bound, taken-bounded, value-closed, rule_of_no}
 use Rattle.tm_laws.proofs.DecideLemmas.{Dec-and}
@@ -22,10 +20,11 @@ use Rattle.tm_laws.proofs.FaultyLemmas.{least_faulty}
 use Rattle.tm_laws.proofs.JudgedKnownLemmas.{judged_or_fault, ReachesFault}
 use Rattle.tm_laws.proofs.LeastLemmas.{least_word, least_number}
 use Rattle.tm_laws.proofs.ListedLemmas.{Listed, Listed-under}
-use Rattle.tm_laws.proofs.RefusalLemmas.{refused-somewhere}
+use Rattle.tm_laws.proofs.RefusalWorlds.{compatible-of_sources}
+use Rattle.tm_laws.proofs.RefusedLemmas.{refused-where_unfit}
 use Rattle.tm_laws.proofs.TransmutesKnownLemmas.{some_value-known, Fits-known, every_or_not, Transmutes-known}
 use Rattle.tm_laws.proofs.ValidKnownLemmas.{IsSourceWord-known, Listed-source}
-use Rattle.tm_laws.proofs.ViableKnownLemmas.{HasWord-known, Viable-known, RefusesAt-known}
+use Rattle.tm_laws.proofs.ViableKnownLemmas.{HasWord-known, RefusesAt-known}
 
 module _ (world : World) (ask : Ask) (src_over : IsTypeOver (tables_of world) ask.src) (dst_over : IsTypeOver (tables_of world) ask.dst) where
   abbrev s : Expanded
@@ -123,15 +122,9 @@ module _ (world : World) (ask : Ask) (src_over : IsTypeOver (tables_of world) as
       → EveryWordFits A ask.assume.safety s t ⊎ ((w : Word) × IsSourceWord s w × (¬ Fits A ask.assume.safety t w)) → Answered
   when_unfit judged refused unassumed has_word (inl every) = absurd (refused (inr (inl (unassumed, every))))
   when_unfit judged refused unassumed has_word (inr (w, value, unfit)) =
-      let (o, inside, refuses) =
-      refused-somewhere A ask.assume.safety t w (value-closed world ask src_over dst_over w value) has_word unfit (λ p. viable_or_not (take p (fit w (size_of t)))) in
+      let closed = value-closed world ask src_over dst_over w value in
+      let (o, inside, refuses) = (refused-where_unfit A ask.assume.safety t known (compatible-of_sources world ask.assume) w closed has_word).0 unfit in
       refused_at judged refused unassumed has_word w value o refuses
-    where
-      viable_or_not : (front : Word) → Viable A ask.assume.safety t front ⊎ (¬ Viable A ask.assume.safety t front)
-      viable_or_not front = by (Viable-known A known (taken_bound world ask src_over dst_over) bounded ask.assume.safety t front) where
-        by : Dec (Viable A ask.assume.safety t front) → Viable A ask.assume.safety t front ⊎ (¬ Viable A ask.assume.safety t front)
-        by (yes h) = inl h
-        by (no f) = inr f
 
   HasTargetWord-known : (keep : Bool) → Dec (HasTargetWord (tables_of world) ask keep)
   HasTargetWord-known keep = HasWord-known A known (taken_bound world ask src_over dst_over) bounded keep t

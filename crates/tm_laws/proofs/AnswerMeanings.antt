@@ -104,8 +104,8 @@ module _ (tables : Tables) (ask : Ask) where
 
   cell_rule-fault : (before : Word) (c : Option Cell) (rule : Rule) (fault : Option RefFault) → IsCellRule tables ask before c rule fault → IsFaultFor rule fault
   cell_rule-fault before None rule fault h = absurd h
-  cell_rule-fault before (Some (Byte b)) rule fault (inl (e, goes), f) = plain-fault rule ByteValue fault e f refl refl
-  cell_rule-fault before (Some (Byte b)) rule fault (inr (e, stuck), f) = plain-fault rule BytesForReference fault e f refl refl
+  cell_rule-fault before (Some (Byte b)) rule fault (inl (e, goes, f)) = plain-fault rule ByteValue fault e f refl refl
+  cell_rule-fault before (Some (Byte b)) rule fault (inr (e, stuck, f)) = plain-fault rule BytesForReference fault e f refl refl
   cell_rule-fault before (Some Uninit) rule fault (e, f) = plain-fault rule NeedsInit fault e f refl refl
   cell_rule-fault before (Some (Ptr r k)) rule fault (inl (e, f, none)) = plain-fault rule ReferenceForBytes fault e f refl refl
   cell_rule-fault before (Some (Ptr r k)) rule fault (inr (found, f, source_is, first, opens, breaks)) = reference-fault rule fault found f (ref_rule-references rule found breaks)

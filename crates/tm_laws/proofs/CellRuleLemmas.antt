@@ -16,14 +16,15 @@ use Rattle.tm_base.specs.Expanded.{Expanded}
 use Rattle.tm_base.specs.Layout.{size_of}
 use Rattle.tm_base.specs.Rules.{source, target, Taken, SomeByteGoesOn, IsOpen, IsCellRule, IsRuleOfNo}
 use Rattle.tm_base.specs.Worlds.{tables_of, IsTypeOver}
+use Rattle.tm_laws.specs.WordLaws.{IsClosed}
 use Rattle.tm_laws.proofs.CompatibleKnownLemmas.{Compatible-known, Compatible-rows}
 use Rattle.tm_laws.proofs.DecideLemmas.{Dec-lt}
 use Rattle.tm_laws.proofs.RefRuleLemmas.{fault_at, ref_rule}
 use Rattle.tm_laws.proofs.RefusalLemmas.{fit-length, refused-inside, refused-pointer-is-first, open-is-not-taken}
 use Rattle.tm_laws.proofs.RefusalRows.{pointer-known, open-known}
-use Rattle.tm_laws.proofs.RefusalSwaps.{IsClosed}
 use Rattle.tm_laws.proofs.RefusalWorlds.{leaves-known, compatible-of_sources, source-closed}
 use Rattle.tm_laws.proofs.ViableKnownLemmas.{some_byte-known, least_open}
+use Rattle.tm_laws.proofs.WholeTypes.{expanded_in-for}
 
 module _ (world : World) (ask : Ask) (src_over : IsTypeOver (tables_of world) ask.src) (dst_over : IsTypeOver (tables_of world) ask.dst) where
   abbrev s : Expanded
@@ -53,8 +54,8 @@ module _ (world : World) (ask : Ask) (src_over : IsTypeOver (tables_of world) as
   CellFound before c = (rule : Rule) × (fault : Option RefFault) × IsCellRule (tables_of world) ask before c rule fault × IsLeastFault (tables_of world) ask before fault
 
   byte_rule : (before : Word) (b : ℕ) → Dec (SomeByteGoesOn (tables_of world) ask before) → CellFound before (Some (Byte b))
-  byte_rule before b (yes goes) = (ByteValue, None, (inl (refl, goes), refl), tt)
-  byte_rule before b (no stuck) = (BytesForReference, None, (inr (refl, stuck), refl), tt)
+  byte_rule before b (yes goes) = (ByteValue, None, inl (refl, goes, refl), tt)
+  byte_rule before b (no stuck) = (BytesForReference, None, inr (refl, stuck, refl), tt)
 
   ref_found : (w : Word) (o : ℕ) (r : RefId) (k : ℕ) → IsValue (tables_of world) ask w → IsRefusedAt (tables_of world) ask w o
       → slice_get (fit w (size_of t)) o ≡ Some (Ptr r k) → k ≡ 0 → (u : ℕ) → IsOpen (tables_of world) ask (take o (fit w (size_of t))) u
@@ -85,7 +86,7 @@ module _ (world : World) (ask : Ask) (src_over : IsTypeOver (tables_of world) as
   cell_rule w o value refuses (Some (Ptr r k)) e = go (least_open A taken-known taken_bound taken-bounded ask.assume.safety t (take o (fit w (size_of t)))) where
     go : ((u : ℕ) × OpenAt w o u × ((v : ℕ) → OpenAt w o v → u ≤ v)) ⊎ ((u : ℕ) → ¬ OpenAt w o u) → CellFound (take o (fit w (size_of t))) (Some (Ptr r k))
     go (inr none) = (ReferenceForBytes, None, inl (refl, refl, none), tt)
-    go (inl (u, opens, least)) = ref_found w o r k value refuses e (refused-pointer-is-first A ask.assume.safety t s w o r k value refuses e) u opens least
+    go (inl (u, opens, least)) = ref_found w o r k value refuses e (refused-pointer-is-first world.profile A ask.assume.safety t (expanded_in-for (tables_of world) ask.dst) s (expanded_in-for (tables_of world) ask.src) w o r k value refuses e) u opens least
 
   -- a rule of a no at a refused cell, with its fault, where that is least
   abbrev pub NoFound : Word → ℕ → Type 0

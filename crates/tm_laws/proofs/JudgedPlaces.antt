@@ -13,7 +13,7 @@ use Rattle.tm_base.specs.declared.ground.Wrapper.{Wrapper}
 use Rattle.tm_base.specs.declared.ground.Wrapper.TheVariants as wrapper
 use Rattle.tm_base.specs.Expanded.{Expanded, Fields, Variants, too_deep, prim, never, unit, tuple, array, nonzero, phantom, wrap, ref, named, no_fields, field, no_variants, variant, elements, fields_of, variants_of, defined, row_of, wrapped, level}
 use Rattle.tm_base.specs.Parts.{some_part, some_field, some_variant, some_within, is_too_deep, is_whole}
-use Rattle.tm_base.specs.Reaches.{LeadsIn, argument_of, row_parts, parts_within, parts_of, pointees_of, IsJudged}
+use Rattle.tm_base.specs.Reaches.{ChainIn, argument_of, row_parts, parts_within, parts_of, pointees_of, IsJudged}
 use Rattle.tm_base.specs.Tables.{Tables, expanded_in}
 use Rattle.tm_base.specs.Whole.{is_type_over}
 use Rattle.tm_base.specs.Worlds.{IsTypeOver}
@@ -36,7 +36,7 @@ module _ (Q : Expanded → Type 0) where
   PartsPass (tuple members) = FieldsPass members
   PartsPass (array t n) = Q t
   PartsPass (wrap w t) = Q t
-  PartsPass (named id kind repr variants) = VariantsPass variants
+  PartsPass (named profile id kind repr variants) = VariantsPass variants
   PartsPass t = Unit {0}
 
   -- What goes from a type to those right inside it, and gives a fact of each, gives the fact of all that
@@ -49,14 +49,14 @@ module _ (Q : Expanded → Type 0) where
       parts-hold (tuple members) h = fields-hold members h
       parts-hold (array t n) h = (gives t h, parts-hold t (goes_on t h))
       parts-hold (wrap w t) h = (gives t h, parts-hold t (goes_on t h))
-      parts-hold (named id kind repr vs) h = variants-hold vs h
+      parts-hold (named profile id kind repr vs) h = variants-hold vs h
       parts-hold too_deep h = tt
-      parts-hold (prim p) h = tt
+      parts-hold (prim profile p) h = tt
       parts-hold never h = tt
       parts-hold unit h = tt
-      parts-hold (nonzero p) h = tt
+      parts-hold (nonzero profile p) h = tt
       parts-hold phantom h = tt
-      parts-hold (ref r) h = tt
+      parts-hold (ref profile r) h = tt
 
       fields-hold : (members : Fields) → FieldsPass members → EachField P members
       fields-hold no_fields h = tt
@@ -103,12 +103,12 @@ module _ (tables : Tables) where
         variants-judged vs types (λ h at. judged h (IsIn-right gs (flat_map (λ gs. gs) types) h at)) others,
       )
 
-  defined-judged : (id : NamedId) (types : List (List Ground)) (d : Option Def) → AllJudged (flat_map (λ gs. gs) types) → IsDeepEnough (defined part id types d) → PartsPass IsOfJudged (defined part id types d)
+  defined-judged : (id : NamedId) (types : List (List Ground)) (d : Option Def) → AllJudged (flat_map (λ gs. gs) types) → IsDeepEnough (defined part tables.profile id types d) → PartsPass IsOfJudged (defined part tables.profile id types d)
   unfolding some_part
   defined-judged id types None judged deep = tt
   defined-judged id types (Some d) judged deep = variants-judged d.variants types judged deep
 
-  row-judged : (id : NamedId) (row : Option NamedRow) → AllJudged (row_parts row) → IsDeepEnough (row_of part tables.defs id row) → PartsPass IsOfJudged (row_of part tables.defs id row)
+  row-judged : (id : NamedId) (row : Option NamedRow) → AllJudged (row_parts row) → IsDeepEnough (row_of part tables.profile tables.defs id row) → PartsPass IsOfJudged (row_of part tables.profile tables.defs id row)
   row-judged id None judged deep = tt
   row-judged id (Some row) judged deep = defined-judged id row.types (slice_get tables.defs row.def.0) judged deep
 
@@ -117,7 +117,7 @@ module _ (tables : Tables) where
   wrapped-judged wrapper.PhantomData g judged deep = tt
   wrapped-judged w g judged deep = (g, judged g (inl refl), deep, refl)
 
-  level-judged : (x : Ground-F Ground) → AllJudged (parts_within tables.named x) → IsDeepEnough (level part tables.defs tables.named x) → PartsPass IsOfJudged (level part tables.defs tables.named x)
+  level-judged : (x : Ground-F Ground) → AllJudged (parts_within tables.named x) → IsDeepEnough (level part tables.profile tables.defs tables.named x) → PartsPass IsOfJudged (level part tables.profile tables.defs tables.named x)
   unfolding some_part
   level-judged (Ground-F.Tuple gs) judged deep = elements-judged gs judged deep
   level-judged (Ground-F.Array g n) judged deep = (g, judged g (inl refl), deep, refl)
@@ -131,7 +131,7 @@ module _ (tables : Tables) where
 
   -- the parts of a judged type are judged
   parts-judged : (g : Ground) → IsJudged tables g → AllJudged (parts_of tables g)
-  unfolding LeadsIn
+  unfolding ChainIn
   parts-judged g judged h at = λ k (n, way).
       let step = Contains-from_IsIn (parts_of tables g ++ pointees_of tables g) h (IsIn-left (parts_of tables g) (pointees_of tables g) h at) in
       judged k (suc n, (h, step, way))
@@ -139,11 +139,11 @@ module _ (tables : Tables) where
   inside-judged : (t : Expanded) → IsOfJudged t → PartsPass IsOfJudged t
   inside-judged t (g, judged, deep, e) =
       let whole : IsTrue (is_whole (part g)) = ap not (subst IsDeepEnough (sym e) deep) in
-      let same : level part tables.defs tables.named (out-Ground g) ≡ t = sym (expanded-level tables.defs tables.named g whole) ∙ e in
+      let same : level part tables.profile tables.defs tables.named (out-Ground g) ≡ t = sym (expanded-level tables.profile tables.defs tables.named g whole) ∙ e in
       subst (PartsPass IsOfJudged) same (level-judged (out-Ground g) (parts-judged g judged) (subst IsDeepEnough (sym same) deep))
 
   judged-faultless : (t : Expanded) → IsOfJudged t → HasNoFault t
-  unfolding LeadsIn
+  unfolding ChainIn
   judged-faultless t (g, judged, deep, e) = subst HasNoFault e (judged g (0, refl))
 
   -- a judged type over the tables, and all that it holds by value, have no fault

@@ -3,8 +3,9 @@ use Rattle.std.proofs.Common.{◌⊎◌, inl, inr, refl, sym, subst, true, None,
 use Rattle.tm_base.specs.declared.definition.Kind.TheVariants.{Struct}
 use Rattle.tm_base.specs.declared.ground.Ground.{Ground, out-Ground, Prim, Named}
 use Rattle.tm_base.specs.declared.ground.Primitive.TheVariants as p
+use Rattle.tm_base.specs.declared.profile.Profile.TheVariants.{Le64}
 use Rattle.tm_base.specs.Expanded.{expanded_within}
-use Rattle.tm_base.specs.Faults.{fault_of, part_at_fault, is_nullable}
+use Rattle.tm_base.specs.Faults.{fault_of, is_nullable}
 use Rattle.tm_base.specs.Layout.{layout_of}
 use Rattle.tm_base.specs.Parts.{some_part}
 use Rattle.tm_base.specs.Reaches.{Enters, IsJudged}
@@ -13,7 +14,7 @@ use Rattle.tm_base.specs.Weight.{weight_of}
 use Rattle.tm_base.specs.Whole.{written_types, is_type_over}
 use Rattle.tm_base.specs.Worlds.{IsTypeOver}
 use Rattle.tm_base.proofs.JudgedLemmas.{IsJudged-from, Contains-none}
-use Rattle.tm_base.proofs.RowTypes.{repr_c, padded}
+use Rattle.tm_base.proofs.rows.Types.{repr_c, padded}
 use Rattle.tm_laws.specs.PlacesApart.{HasFieldsApart}
 use Rattle.tm_laws.proofs.JudgedPlaces.{judged-places}
 use Rattle.tm_laws.proofs.ListedLemmas.{IsIn, IsIn-from_Contains}
@@ -21,10 +22,11 @@ use Rattle.tm_laws.proofs.ListedLemmas.{IsIn, IsIn-from_Contains}
 -- `#[repr(C)] struct S { pub a: u8, pub b: u16 }`
 abbrev one_struct : Tables
 one_struct = record {
+  profile = Le64;
   defs = record { name = 83 ∷ []; kind = Struct; repr = repr_c; variants = record { name = []; value = pos 0; fields = record { name = 97 ∷ []; public = true } ∷ record { name = 98 ∷ []; public = true } ∷ [] } ∷ [] } ∷ [];
   regions = [];
   bounds = [];
-  named = record { def = record { 0 = 0 }; regions = []; types = (Prim p.U8 ∷ Prim p.U16 ∷ []) ∷ [] } ∷ [];
+  named = record { def = record { 0 = 0 }; regions = []; args = []; types = (Prim p.U8 ∷ Prim p.U16 ∷ []) ∷ [] } ∷ [];
   refs = [];
 }
 
@@ -46,7 +48,7 @@ known-closed g h (inr (inl e)) step = absurd (Contains-none h (subst (λ (x : Gr
 known-closed g h (inr (inr e)) step = absurd (Contains-none h (subst (λ (x : Ground). Enters one_struct x h) e step))
 
 known-sound : (g : Ground) → IsKnown g → fault_of (expanded_in one_struct g) ≡ None
-unfolding expanded_within out-Ground denote.Hole.Carrier.out fault_of part_at_fault is_nullable some_part weight_of layout_of
+unfolding expanded_within out-Ground denote.Hole.Carrier.out fault_of some_part is_nullable weight_of layout_of
 known-sound g (inl e) = rw e refl
 known-sound g (inr (inl e)) = rw e refl
 known-sound g (inr (inr e)) = rw e refl

@@ -11,7 +11,9 @@ pub mod OutlivesKnownLemmas
 pub mod TransmutesKnownLemmas
 pub mod CompatibleKnownLemmas
 pub mod WholeLeaves
+pub mod WholeTypes
 pub mod WholeWords
+pub mod WholeRuns
 pub mod RefusalMoves
 pub mod RefusalSwaps
 pub mod RefusalLemmas
@@ -19,6 +21,7 @@ pub mod RefusalFormed
 pub mod RefusalWorlds
 pub mod LeastLemmas
 pub mod ViableKnownLemmas
+pub mod RefusedLemmas
 pub mod FaultyLemmas
 pub mod RefRuleLemmas
 pub mod CellRuleLemmas

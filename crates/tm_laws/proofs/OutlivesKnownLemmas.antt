@@ -4,7 +4,7 @@ use Rattle.std.specs.List.{flat_map}
 use Rattle.tm_base.specs.declared.definition.Bound.{Bound}
 use Rattle.tm_base.specs.declared.definition.RegionId.{RegionId}
 use Rattle.tm_base.specs.Outlives.{static, IsBound, Outlives}
-use Rattle.tm_base.specs.Reaches.{Leads}
+use Rattle.tm_base.specs.Reaches.{Chain}
 use Rattle.tm_laws.proofs.DecideLemmas.{Dec-like, Dec-or}
 use Rattle.tm_laws.proofs.ListedLemmas.{IsIn, IsIn-map, IsIn-flat_map, flat_map-IsIn, IsIn-from_Contains, Contains-from_IsIn}
 use Rattle.tm_laws.proofs.ReachLemmas.{LeadsTo-known}
@@ -48,12 +48,12 @@ module _ (bounds : List Bound) where
   regions-closed a x y at h =
       inr (IsIn-map (λ (bound : Bound). bound.shorter) bounds (record { longer = x; shorter = y }) (IsIn-from_Contains bounds (record { longer = x; shorter = y }) (outlived-step x y h)))
 
-  Leads-known : (a b : RegionId) → Dec (Leads (IsBound bounds) a b)
-  Leads-known a b =
+  Chain-known : (a b : RegionId) → Dec (Chain (IsBound bounds) a b)
+  Chain-known a b =
       Dec-like
-      (λ (r, way, e). subst (λ (x : RegionId). Leads (IsBound bounds) a x) (same_region r b (eqb-true r.0 b.0 e)) way)
+      (λ (r, way, e). subst (λ (x : RegionId). Chain (IsBound bounds) a x) (same_region r b (eqb-true r.0 b.0 e)) way)
       (λ way. (b, way, eq-eqb b.0 b.0 refl))
       (LeadsTo-known (IsBound bounds) outlived step-outlived outlived-step (λ r. eqb r.0 b.0) (regions_from a) (regions-closed a) a (inl refl))
 
   pub Outlives-known : (a b : RegionId) → Dec (Outlives bounds a b)
-  Outlives-known a b = Dec-or (Leads-known a b) (Leads-known a static)
+  Outlives-known a b = Dec-or (Chain-known a b) (Chain-known a static)

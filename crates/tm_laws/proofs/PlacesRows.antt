@@ -1,29 +1,29 @@
 -- What the law on places says of the worked rows, and where it wouldn't hold.
 use Rattle.std.proofs.Common.{◌≡◌, refl, Some, arith, inl, inr}
 use Rattle.tm_base.specs.Expanded.{array}
-use Rattle.tm_base.specs.Faults.{fault_of, part_at_fault, is_nullable}
+use Rattle.tm_base.specs.Faults.{fault_of, is_nullable}
 use Rattle.tm_base.specs.Layout.{layout_of}
 use Rattle.tm_base.specs.Parts.{some_part}
 use Rattle.tm_base.specs.Weight.{weight_of}
-use Rattle.tm_base.proofs.RowTypes.{repr_transparent, u8, u16, struct, two, padded, c_enum, message}
+use Rattle.tm_base.proofs.rows.Types.{repr_transparent, u8, u16, struct, two, padded, c_enum, message}
 use Rattle.tm_laws.specs.PlacesApart.{EachPart, EachWithin, HasNoFault, HasFieldsApart, field_layout, tag_size}
 use Rattle.tm_laws.proofs.PlacesTypes.{places-stand_apart}
 
 -- the premise can be met, of a struct, of both kinds of enums, and of an array of them
 padded-faultless : EachWithin HasNoFault padded
-unfolding EachPart fault_of part_at_fault is_nullable some_part weight_of layout_of
+unfolding EachPart fault_of some_part is_nullable weight_of layout_of
 padded-faultless = (refl, ((refl, tt, (refl, tt, tt)), tt))
 
 c_enum-faultless : EachWithin HasNoFault c_enum
-unfolding EachPart fault_of part_at_fault is_nullable some_part weight_of layout_of
+unfolding EachPart fault_of some_part is_nullable weight_of layout_of
 c_enum-faultless = (refl, ((refl, tt, tt), ((refl, tt, tt), tt)))
 
 message-faultless : EachWithin HasNoFault message
-unfolding EachPart fault_of part_at_fault is_nullable some_part weight_of layout_of
+unfolding EachPart fault_of some_part is_nullable weight_of layout_of
 message-faultless = (refl, (tt, ((refl, tt, tt), ((refl, tt, tt), tt))))
 
 array-faultless : EachWithin HasNoFault (array message 3)
-unfolding EachPart fault_of part_at_fault is_nullable some_part weight_of layout_of
+unfolding EachPart fault_of some_part is_nullable weight_of layout_of
 array-faultless = (refl, message-faultless)
 
 -- the elements of an array are among the types that are held by value

@@ -1,5 +1,5 @@
 -- In a type without a fault the fields of each type that is held by value stand apart.
-use Rattle.std.proofs.Common.{◌≡◌, ℕ, zero, suc, refl, sym, ◌∙◌, ap, subst, Bool, true, false, ◌||◌, if◌then◌else◌, is_some, Option, Some, None, List, slice_get}
+use Rattle.std.proofs.Common.{◌≡◌, ℕ, zero, suc, refl, sym, ◌∙◌, ap, subst, Bool, true, false, ◌||◌, if◌then◌else◌, Option, Some, None, List, slice_get}
 use Rattle.std.specs.Option.{option_and_then}
 use Rattle.std.proofs.lemmas.Bool.{or_from}
 use Rattle.std.proofs.lemmas.Option.{slice_get-map, option_and_then_some}
@@ -10,10 +10,12 @@ use Rattle.tm_base.specs.declared.definition.Kind.TheVariants.{Struct, Union, En
 use Rattle.tm_base.specs.declared.definition.Repr.{Repr}
 use Rattle.tm_base.specs.declared.ground.NamedId.{NamedId}
 use Rattle.tm_base.specs.Expanded.{Expanded, Fields, Variants, too_deep, prim, never, unit, tuple, array, nonzero, phantom, wrap, ref, named, no_fields, field, no_variants, variant}
-use Rattle.tm_base.specs.Faults.{fault_of, fault_over, own_fault, layout_fault, at_fault_over, part_at_fault, field_at_fault, variant_at_fault, has_two_sized, or_else, when}
+use Rattle.tm_base.specs.declared.profile.Profile.{Profile}
+use Rattle.tm_base.specs.Faults.{fault_of, own_fault, layout_fault, has_cause, has_two_sized, or_else, when}
 use Rattle.tm_base.specs.Layout.{Layout, places, size_of, tag_layout, layout_of, field_layouts, variant_layouts}
-use Rattle.tm_base.specs.Places.{at_front, places_of, variant_places}
-use Rattle.tm_base.specs.Valid.{fields_place}
+use Rattle.tm_base.specs.Parts.{some_part, some_field, some_variant}
+use Rattle.tm_base.specs.Places.{at_front, places_of, variant_places, fields_place}
+use Rattle.tm_base.proofs.FaultLemmas.{cause-faulty}
 use Rattle.tm_laws.specs.PlacesApart.{fields_of_type, tag_size, AreOrdered, HasFieldsApart, EachPart, EachField, EachVariant, EachWithin, HasNoFault}
 use Rattle.tm_laws.proofs.PlacesLemmas.{AreGood, good-struct, good-union, good-enum}
 
@@ -38,39 +40,39 @@ fields-apart t good = record {
 
 -- ---- by kind
 
-struct-variant : (id : NamedId) (repr : Repr) (vs : Variants) → has_two_sized (named id Struct repr vs) ≡ false → (v : ℕ) (ls : List Layout)
-    → slice_get (fields_of_type (named id Struct repr vs)) v ≡ Some ls → HasGood (named id Struct repr vs) v ls
+struct-variant : (profile : Profile) (id : NamedId) (repr : Repr) (vs : Variants) → has_two_sized (named profile id Struct repr vs) ≡ false → (v : ℕ) (ls : List Layout)
+    → slice_get (fields_of_type (named profile id Struct repr vs)) v ≡ Some ls → HasGood (named profile id Struct repr vs) v ls
 unfolding layout_of
-struct-variant id repr no_variants h v ls e = absurd cc
-struct-variant id repr (variant value members others) h (suc v) ls e = absurd cc
-struct-variant id repr (variant value members others) h zero ls e =
+struct-variant profile id repr no_variants h v ls e = absurd cc
+struct-variant profile id repr (variant value members others) h (suc v) ls e = absurd cc
+struct-variant profile id repr (variant value members others) h zero ls e =
     let same : field_layouts members ≡ ls = cc in
-    subst (HasGood (named id Struct repr (variant value members others)) 0) same
+    subst (HasGood (named profile id Struct repr (variant value members others)) 0) same
     ((if repr.transparent then at_front else places repr.packed 0) (field_layouts members), refl, good-struct repr.transparent repr.packed repr.align (field_layouts members) h)
 
-union-variant : (id : NamedId) (repr : Repr) (vs : Variants) (v : ℕ) (ls : List Layout)
-    → slice_get (fields_of_type (named id Union repr vs)) v ≡ Some ls → HasGood (named id Union repr vs) v ls
+union-variant : (profile : Profile) (id : NamedId) (repr : Repr) (vs : Variants) (v : ℕ) (ls : List Layout)
+    → slice_get (fields_of_type (named profile id Union repr vs)) v ≡ Some ls → HasGood (named profile id Union repr vs) v ls
 unfolding layout_of
-union-variant id repr no_variants v ls e = absurd cc
-union-variant id repr (variant value members others) (suc v) ls e = absurd cc
-union-variant id repr (variant value members others) zero ls e =
+union-variant profile id repr no_variants v ls e = absurd cc
+union-variant profile id repr (variant value members others) (suc v) ls e = absurd cc
+union-variant profile id repr (variant value members others) zero ls e =
     let same : field_layouts members ≡ ls = cc in
-    subst (HasGood (named id Union repr (variant value members others)) 0) same
+    subst (HasGood (named profile id Union repr (variant value members others)) 0) same
     (at_front (field_layouts members), refl, good-union repr.packed repr.align (field_layouts members))
 
-enum-variant : (id : NamedId) (repr : Repr) (vs : Variants) (v : ℕ) (ls : List Layout)
-    → slice_get (fields_of_type (named id Enum repr vs)) v ≡ Some ls → HasGood (named id Enum repr vs) v ls
+enum-variant : (profile : Profile) (id : NamedId) (repr : Repr) (vs : Variants) (v : ℕ) (ls : List Layout)
+    → slice_get (fields_of_type (named profile id Enum repr vs)) v ≡ Some ls → HasGood (named profile id Enum repr vs) v ls
 unfolding layout_of
-enum-variant id repr vs v ls e = (
-  variant_places repr (fields_place repr vs) ls,
-  slice_get-map (variant_places repr (fields_place repr vs)) (variant_layouts vs) v ∙ ap (option_map (variant_places repr (fields_place repr vs))) e,
-  good-enum repr.c (tag_layout repr.tag) (variant_layouts vs) v ls e,
+enum-variant profile id repr vs v ls e = (
+  variant_places profile repr (fields_place profile repr vs) ls,
+  slice_get-map (variant_places profile repr (fields_place profile repr vs)) (variant_layouts vs) v ∙ ap (option_map (variant_places profile repr (fields_place profile repr vs))) e,
+  good-enum repr.c (tag_layout profile repr.tag) (variant_layouts vs) v ls e,
 )
 
 type-apart : (t : Expanded) → has_two_sized t ≡ false → HasFieldsApart t
-type-apart (named id Struct repr vs) h = fields-apart (named id Struct repr vs) (struct-variant id repr vs h)
-type-apart (named id Union repr vs) h = fields-apart (named id Union repr vs) (union-variant id repr vs)
-type-apart (named id Enum repr vs) h = fields-apart (named id Enum repr vs) (enum-variant id repr vs)
+type-apart (named profile id Struct repr vs) h = fields-apart (named profile id Struct repr vs) (struct-variant profile id repr vs h)
+type-apart (named profile id Union repr vs) h = fields-apart (named profile id Union repr vs) (union-variant profile id repr vs)
+type-apart (named profile id Enum repr vs) h = fields-apart (named profile id Enum repr vs) (enum-variant profile id repr vs)
 type-apart t h = fields-apart t (λ v ls e. absurd cc)
 
 -- ---- faults
@@ -84,47 +86,42 @@ first_cause false why other h = refl
 first_cause true why other h = absurd cc
 
 -- a type without a fault, none of whose parts is at fault, isn't a transparent struct of two fields with bytes
-one_sized-field : (t : Expanded) → HasNoFault t → part_at_fault t ≡ false → has_two_sized t ≡ false
+one_sized-field : (t : Expanded) → HasNoFault t → some_part has_cause t ≡ false → has_two_sized t ≡ false
 unfolding fault_of
 one_sized-field t h parts =
-    let whole : or_else (own_fault t) (if part_at_fault t then None else layout_fault t) ≡ None = h in
+    let whole : or_else (own_fault t) (if some_part has_cause t then None else layout_fault t) ≡ None = h in
     let here : or_else (own_fault t) (layout_fault t) ≡ None = subst (λ (b : Bool). or_else (own_fault t) (if b then None else layout_fault t) ≡ None) parts whole in
     first_cause (has_two_sized t) TransparentFields _ (or_else-second (own_fault t) (layout_fault t) here)
 
-none_fault : (o : Option Why) (b : Bool) → o ≡ None → b ≡ false → (is_some o || b) ≡ false
-none_fault None b h e = e
-none_fault (Some why) b h e = absurd cc
-
--- a type without a fault whose parts have none isn't at fault
-not_at_fault : (t : Expanded) → HasNoFault t → part_at_fault t ≡ false → at_fault_over (part_at_fault t) t ≡ false
-unfolding fault_of
-not_at_fault t h parts = none_fault (fault_over (part_at_fault t) t) (part_at_fault t) h parts
+-- a type without a fault whose parts have no cause has none
+no_cause : (t : Expanded) → HasNoFault t → some_part has_cause t ≡ false → (has_cause t || some_part has_cause t) ≡ false
+no_cause t h parts = cause-faulty t ∙ rw (h, parts) refl
 
 mutual
-  unfolding EachPart part_at_fault
+  unfolding EachPart some_part
 
-  parts-sound : (t : Expanded) → EachPart HasNoFault t → part_at_fault t ≡ false
+  parts-sound : (t : Expanded) → EachPart HasNoFault t → some_part has_cause t ≡ false
   parts-sound too_deep h = refl
-  parts-sound (prim p) h = refl
+  parts-sound (prim profile p) h = refl
   parts-sound never h = refl
   parts-sound unit h = refl
   parts-sound (tuple members) h = fields-sound members h
-  parts-sound (array t n) (none, parts) = not_at_fault t none (parts-sound t parts)
-  parts-sound (nonzero p) h = refl
+  parts-sound (array t n) (none, parts) = no_cause t none (parts-sound t parts)
+  parts-sound (nonzero profile p) h = refl
   parts-sound phantom h = refl
-  parts-sound (wrap w t) (none, parts) = not_at_fault t none (parts-sound t parts)
-  parts-sound (ref r) h = refl
-  parts-sound (named id kind repr vs) h = variants-sound vs h
+  parts-sound (wrap w t) (none, parts) = no_cause t none (parts-sound t parts)
+  parts-sound (ref profile r) h = refl
+  parts-sound (named profile id kind repr vs) h = variants-sound vs h
 
-  fields-sound : (members : Fields) → EachField HasNoFault members → field_at_fault members ≡ false
+  fields-sound : (members : Fields) → EachField HasNoFault members → some_field has_cause members ≡ false
   fields-sound no_fields h = refl
   fields-sound (field public t rest) (none, parts, others) =
-      or_from (at_fault_over (part_at_fault t) t) (field_at_fault rest) (not_at_fault t none (parts-sound t parts)) (fields-sound rest others)
+      or_from (has_cause t || some_part has_cause t) (some_field has_cause rest) (no_cause t none (parts-sound t parts)) (fields-sound rest others)
 
-  variants-sound : (vs : Variants) → EachVariant HasNoFault vs → variant_at_fault vs ≡ false
+  variants-sound : (vs : Variants) → EachVariant HasNoFault vs → some_variant has_cause vs ≡ false
   variants-sound no_variants h = refl
   variants-sound (variant value members rest) (here, others) =
-      or_from (field_at_fault members) (variant_at_fault rest) (fields-sound members here) (variants-sound rest others)
+      or_from (some_field has_cause members) (some_variant has_cause rest) (fields-sound members here) (variants-sound rest others)
 
 -- the fields of one type stand apart, where neither it nor a part of it is at fault
 pub apart-here : (t : Expanded) → HasNoFault t → EachPart HasNoFault t → HasFieldsApart t
@@ -135,16 +132,16 @@ mutual
 
   parts-apart : (t : Expanded) → EachPart HasNoFault t → EachPart HasFieldsApart t
   parts-apart too_deep h = h
-  parts-apart (prim p) h = h
+  parts-apart (prim profile p) h = h
   parts-apart never h = h
   parts-apart unit h = h
   parts-apart (tuple members) h = fields-each_apart members h
   parts-apart (array t n) (none, parts) = (apart-here t none parts, parts-apart t parts)
-  parts-apart (nonzero p) h = h
+  parts-apart (nonzero profile p) h = h
   parts-apart phantom h = h
   parts-apart (wrap w t) (none, parts) = (apart-here t none parts, parts-apart t parts)
-  parts-apart (ref r) h = h
-  parts-apart (named id kind repr vs) h = variants-each_apart vs h
+  parts-apart (ref profile r) h = h
+  parts-apart (named profile id kind repr vs) h = variants-each_apart vs h
 
   fields-each_apart : (members : Fields) → EachField HasNoFault members → EachField HasFieldsApart members
   fields-each_apart no_fields h = h

@@ -3,7 +3,7 @@
 use Rattle.std.proofs.Common.{◌≡◌, ℕ, zero, suc, ◌⊎◌, inl, inr, refl, sym, subst, Bool, true, ◌||◌, List, [], ◌∷◌, length}
 use Rattle.std.specs.List.{list_any}
 use Rattle.std.proofs.lemmas.Bool.{or_cases, or_left, or_right}
-use Rattle.tm_base.specs.Reaches.{LeadsIn, Leads}
+use Rattle.tm_base.specs.Reaches.{ChainIn, Chain}
 use Rattle.tm_laws.proofs.DecideLemmas.{Dec-is}
 use Rattle.tm_laws.proofs.ListedLemmas.{IsIn}
 use Rattle.tm_laws.proofs.StillLemmas.{true_by_length}
@@ -49,10 +49,10 @@ module _ {X : Type 0} (Step : X → X → Type 0) (next : X → List X) (step_in
 
   -- a way to what passes
   abbrev LeadsTo : X → Type 0
-  LeadsTo x = (h : X) × Leads Step x h × (test h ≡ true)
+  LeadsTo x = (h : X) × Chain Step x h × (test h ≡ true)
 
   leads-sound : (n : ℕ) (x : X) → leads_within n x ≡ true → LeadsTo x
-  unfolding LeadsIn
+  unfolding ChainIn
   leads-sound zero x h = (x, (0, refl), h)
   leads-sound (suc n) x h = go (leads-sound n) (or_cases (test x) (list_any (leads_within n) (next x)) h) where
     go : ((y : X) → leads_within n y ≡ true → LeadsTo y) → (test x ≡ true) ⊎ (list_any (leads_within n) (next x) ≡ true) → LeadsTo x
@@ -62,8 +62,8 @@ module _ {X : Type 0} (Step : X → X → Type 0) (next : X → List X) (step_in
         let (h, (m, way), passes) = sound y k in
         (h, (suc m, (y, in_step x y at, way)), passes)
 
-  leads-complete : (n : ℕ) (x h : X) → LeadsIn Step n x h → test h ≡ true → leads_within n x ≡ true
-  unfolding LeadsIn
+  leads-complete : (n : ℕ) (x h : X) → ChainIn Step n x h → test h ≡ true → leads_within n x ≡ true
+  unfolding ChainIn
   leads-complete zero x h e k = subst (λ u. test u ≡ true) (sym e) k
   leads-complete (suc n) x h (y, step, way) k =
       or_right (test x) (list_any (leads_within n) (next x)) (any_to (leads_within n) (next x) y (step_in x y step) (leads-complete n y h way k))
@@ -75,7 +75,7 @@ module _ {X : Type 0} (Step : X → X → Type 0) (next : X → List X) (step_in
         rw rest refl
 
     -- it is known whether a way leads to what passes
-    pub LeadsTo-known : (x : X) → IsIn x C → Dec ((h : X) × Leads Step x h × (test h ≡ true))
+    pub LeadsTo-known : (x : X) → IsIn x C → Dec ((h : X) × Chain Step x h × (test h ≡ true))
     LeadsTo-known x at = go (Dec-is (leads_within (length C) x) true) where
       go : Dec (leads_within (length C) x ≡ true) → Dec (LeadsTo x)
       go (yes e) = yes (leads-sound (length C) x e)

@@ -12,7 +12,7 @@ use Rattle.tm_base.specs.Reaches.{argument_of, row_parts, row_pointee, parts_wit
 use Rattle.tm_base.specs.Tables.{Tables}
 use Rattle.tm_base.specs.Whole.{written_types, row_types}
 use Rattle.tm_base.proofs.GroundLemmas.{written_types-Tuple, written_types-Array, written_types-Wrap}
-use Rattle.tm_base.proofs.JudgedLemmas.{LeadsIn-keeps}
+use Rattle.tm_base.proofs.JudgedLemmas.{ChainIn-keeps}
 use Rattle.tm_laws.proofs.ListedLemmas.{IsIn, IsIn-left, IsIn-right, IsIn-append, IsIn-flat_map, flat_map-IsIn, IsIn-from_Contains, Contains-from_IsIn}
 use Rattle.tm_laws.proofs.ReachLemmas.{LeadsTo-known}
 
@@ -162,7 +162,7 @@ module _ (tables : Tables) where
   -- each type that a type reaches stands in the list
   pub Reaches-listed : (g h : Ground) → Reaches tables g h → IsIn h (reachable g)
   Reaches-listed g h (n, way) =
-      LeadsIn-keeps (Enters tables) (λ (k : Ground). IsIn k (reachable g)) (λ a b at step. reachable-closed g a b at (IsIn-from_Contains (entries a) b step)) n g h (reachable-first g) way
+      ChainIn-keeps (Enters tables) (λ (k : Ground). IsIn k (reachable g)) (λ a b at step. reachable-closed g a b at (IsIn-from_Contains (entries a) b step)) n g h (reachable-first g) way
 
   -- it is known whether a type reaches one that passes a test
   pub Reaches-known : (test : Ground → Bool) (g : Ground) → Dec ((h : Ground) × Reaches tables g h × (test h ≡ true))

@@ -82,18 +82,21 @@ module _ (world : World) where
   is_formed = formed (length world.named) (length world.refs)
 
   abbrev passes : Ground → Bool
-  passes = is_type_in_form world.defs world.named world.refs
+  passes = is_type_in_form world.profile world.defs world.named world.refs
 
   passes_formed : (g : Ground) → passes g ≡ true → is_head_in_form (length world.named) (length world.refs) (out-Ground g) ≡ true
   passes_formed g h =
-      (and_parts (is_head_in_form (length world.named) (length world.refs) (out-Ground g)) (is_whole (expanded world.defs world.named g))
-      (and_parts (is_head_in_form (length world.named) (length world.refs) (out-Ground g) && is_whole (expanded world.defs world.named g)) (ends (spelled world.refs g)) h).0).0
+      (and_parts (is_head_in_form (length world.named) (length world.refs) (out-Ground g)) (is_whole (expanded world.profile world.defs world.named g))
+      (and_parts (is_head_in_form (length world.named) (length world.refs) (out-Ground g) && is_whole (expanded world.profile world.defs world.named g)) (ends (spelled world.named world.refs g)) h).0).0
 
   written_formed : (gs : List Ground) → list_all passes (flat_map written_types gs) ≡ true → list_all is_formed gs ≡ true
   written_formed gs h =
       list_all-weaker (λ g. list_all passes (written_types g)) is_formed
       (λ g. list_all-weaker passes (λ k. is_head_in_form (length world.named) (length world.refs) (out-Ground k)) passes_formed (written_types g)) gs
       (sym (list_all-flat_map passes written_types gs) ∙ h)
+
+  abbrev arguments : List Ground
+  arguments = flat_map (λ row. row.args) world.named
 
   abbrev fields : List Ground
   fields = flat_map (λ row. flat_map (λ types. types) row.types) world.named
@@ -107,20 +110,25 @@ module _ (world : World) where
   abbrev names : List Ground
   names = map (λ k. Named (record { 0 = k })) (range_with_len 0 (length world.named))
 
-  all_written : list_all passes (names ++ flat_map written_types (fields ++ pointees ++ asked)) ≡ true
+  all_written : list_all passes (names ++ flat_map written_types (arguments ++ fields ++ pointees ++ asked)) ≡ true
   unfolding are_types_in_form
   all_written = world.types_in_form
 
-  all_formed : list_all is_formed (fields ++ pointees ++ asked) ≡ true
+  all_formed : list_all is_formed (arguments ++ fields ++ pointees ++ asked) ≡ true
   all_formed =
-      written_formed (fields ++ pointees ++ asked)
+      written_formed (arguments ++ fields ++ pointees ++ asked)
       (and_parts (list_all passes names) _ (sym (list_all-append passes names _) ∙ all_written)).1
 
-  without_asked : list_all is_formed (fields ++ pointees) ≡ true
-  without_asked = (and_parts (list_all is_formed (fields ++ pointees)) (list_all is_formed asked) (sym (list_all-append is_formed (fields ++ pointees) asked) ∙ all_formed)).0
+  both_formed : (xs ys : List Ground) → list_all is_formed (xs ++ ys) ≡ true → (list_all is_formed xs ≡ true) × (list_all is_formed ys ≡ true)
+  both_formed xs ys h = and_parts (list_all is_formed xs) (list_all is_formed ys) (sym (list_all-append is_formed xs ys) ∙ h)
+
+  without_asked : list_all is_formed (arguments ++ fields ++ pointees) ≡ true
+  without_asked = (both_formed (arguments ++ fields ++ pointees) asked all_formed).0
 
   fields_and_pointees : (list_all is_formed fields ≡ true) × (list_all is_formed pointees ≡ true)
-  fields_and_pointees = and_parts (list_all is_formed fields) (list_all is_formed pointees) (sym (list_all-append is_formed fields pointees) ∙ without_asked)
+  fields_and_pointees =
+      let (in_names, in_refs) = both_formed (arguments ++ fields) pointees without_asked in
+      ((both_formed arguments fields in_names).1, in_refs)
 
   -- the types of a named type's fields are the world's
   pub row-formed : (k : ℕ) (row : NamedRow) → slice_get world.named k ≡ Some row → list_all (list_all is_formed) row.types ≡ true
@@ -138,4 +146,4 @@ module _ (world : World) where
   -- a type over the world is
   pub over-formed : (g : Ground) → IsTypeOver (tables_of world) g → IsFormed g
   unfolding is_type_over
-  over-formed g h = (and_parts (is_formed g) (is_whole (expanded world.defs world.named g)) h).0
+  over-formed g h = (and_parts (is_formed g) (is_whole (expanded world.profile world.defs world.named g)) h).0

@@ -8,17 +8,22 @@ use Rattle.std.proofs.lemmas.Option.{get_or_from_slice_get, slice_get_within}
 use Rattle.tm_base.specs.declared.cell.Cell.{Cell}
 use Rattle.tm_base.specs.declared.cell.Cell.TheVariants.{Byte, Uninit, Ptr}
 use Rattle.tm_base.specs.declared.cell.RefId.{RefId}
+use Rattle.tm_base.specs.declared.profile.Profile.{Profile}
 use Rattle.tm_base.specs.Cells.{Word, IsFree, fit, own, OrOwn}
 use Rattle.tm_base.specs.Expanded.{Expanded}
 use Rattle.tm_base.specs.Layout.{size_of}
+use Rattle.tm_base.specs.Profiles.{pointer_size}
 use Rattle.tm_base.specs.Transmutes.{Same}
 use Rattle.tm_base.specs.Valid.{Valid}
 use Rattle.tm_base.specs.Viable.{HasWord, Viable, RefusesAt, StandsOpen}
 use Rattle.tm_base.proofs.ValidLemmas.{Valid-length}
+use Rattle.tm_laws.specs.WordLaws.{IsClosed, IsOfSources}
 use Rattle.tm_laws.proofs.RefusalMoves.{All-second, All-middle}
-use Rattle.tm_laws.proofs.RefusalSwaps.{IsClosed, IsOfSources, own-isn't-needed, swap, swapped}
-use Rattle.tm_laws.proofs.WholeLeaves.{leaves}
-use Rattle.tm_laws.proofs.WholeWords.{IsCellOf, IsHeldBy, pointers-related, StandsWhole, append-split, whole-references}
+use Rattle.tm_laws.proofs.RefusalSwaps.{own-isn't-needed, swap, swapped}
+use Rattle.tm_laws.proofs.WholeLeaves.{Leaf, leaves}
+use Rattle.tm_laws.proofs.WholeTypes.{IsFor}
+use Rattle.tm_laws.proofs.WholeRuns.{StandsWhole, append-split, stands-whole}
+use Rattle.tm_laws.proofs.WholeWords.{IsCellOf, IsHeldBy, pointers-related}
 
 -- a fit has the length that it was asked to have
 pub fit-length : (w : Word) (m : ℕ) → length (fit w m) ≡ m
@@ -91,17 +96,18 @@ module _ (A : ℕ → ℕ → Type 0) (keep : Bool) (t : Expanded) where
           let more : take (o + 1) f ≡ f = take_all (o + 1) f (omega arith) in
           refuses.stops (subst (Viable A keep t) (here ∙ sym more) refuses.goes_to)
 
+module _ (profile : Profile) (A : ℕ → ℕ → Type 0) (keep : Bool) (t : Expanded) (for_it : IsFor profile t) where
   -- what goes on with the byte k of a reference goes on with the next one
-  goes_along : (r : RefId) (j : ℕ) (p others : Word) → p ≡ others ++ Ptr r j ∷ [] → suc j < 8 → Viable A keep t p → Viable A keep t (p ++ Ptr r (suc j) ∷ [])
+  goes_along : (r : RefId) (j : ℕ) (p others : Word) → p ≡ others ++ Ptr r j ∷ [] → suc j < pointer_size profile → Viable A keep t p → Viable A keep t (p ++ Ptr r (suc j) ∷ [])
   goes_along r j p others e below (rest, valid) =
       let shape : p ++ rest ≡ others ++ (Ptr r j ∷ rest) = ap (λ (u : Word). u ++ rest) e ∙ append_assoc others (Ptr r j ∷ []) rest in
-      let stands = whole-references (OrOwn A) keep t (p ++ rest) valid others rest r j shape in
+      let stands = stands-whole profile (OrOwn A) keep t for_it (p ++ rest) valid others rest r j shape in
       let next = stands.goes_on below in
       let same : p ++ rest ≡ (p ++ Ptr r (suc j) ∷ []) ++ next.0 = ap (λ (u : Word). p ++ u) next.1 ∙ sym (append_assoc p (Ptr r (suc j) ∷ []) next.0) in
       (next.0, subst (Valid (OrOwn A) keep t) same valid)
 
   first_byte : (w : Word) (o : ℕ) (r : RefId) (k : ℕ) (behind : Word) → RefusesAt A keep t w o → slice_get (fit w (size_of t)) o ≡ Some (Ptr r k)
-      → StandsWhole r k (take o (fit w (size_of t))) behind → k ≡ 0
+      → StandsWhole (pointer_size profile) r k (take o (fit w (size_of t))) behind → k ≡ 0
   first_byte w o r zero behind refuses e stands = refl
   first_byte w o r (suc j) behind refuses e stands =
       let f = fit w (size_of t) in
@@ -110,9 +116,9 @@ module _ (A : ℕ → ℕ → Type 0) (keep : Bool) (t : Expanded) where
       absurd (refuses.stops (subst (Viable A keep t) (sym (front_more f o (Ptr r (suc j)) e)) more))
 
   -- Of a source's reference the first byte is refused.
-  pub refused-pointer-is-first : (s : Expanded) (w : Word) (o : ℕ) (r : RefId) (k : ℕ) → Valid Same true s w → RefusesAt A keep t w o
+  pub refused-pointer-is-first : (s : Expanded) → IsFor profile s → (w : Word) (o : ℕ) (r : RefId) (k : ℕ) → Valid Same true s w → RefusesAt A keep t w o
       → slice_get (fit w (size_of t)) o ≡ Some (Ptr r k) → k ≡ 0
-  refused-pointer-is-first s w o r k value refuses e =
+  refused-pointer-is-first s source_for w o r k value refuses e =
       let n = size_of t in
       let f = fit w n in
       let p = take o f in
@@ -122,7 +128,7 @@ module _ (A : ℕ → ℕ → Type 0) (keep : Bool) (t : Expanded) where
         | inl s' ↦
             let shape : w ≡ p ++ (Ptr r k ∷ (s'.0 ++ drop n w)) =
             sym (take-append-drop n w) ∙ ap (λ (u : Word). u ++ drop n w) s'.1 ∙ append_assoc p (Ptr r k ∷ s'.0) (drop n w) in
-            first_byte w o r k (s'.0 ++ drop n w) refuses e (whole-references Same true s w value p (s'.0 ++ drop n w) r k shape)
+            first_byte w o r k (s'.0 ++ drop n w) refuses e (stands-whole profile Same true s source_for w value p (s'.0 ++ drop n w) r k shape)
         | inr s' ↦
             let free : All IsFree filler = All-replicate IsFree (n - length w) Uninit tt in
             absurd (All-head IsFree (Ptr r k) q (All-second IsFree s'.0 (Ptr r k ∷ q) filler s'.2 free))
@@ -173,13 +179,13 @@ module _ (A : ℕ → ℕ → Type 0) (sources : IsOfSources A) (keep : Bool) (t
       refuses.stops (subst (Viable A keep t) (sym (front_more f o (Ptr r 0) e)) more)
 
   -- A target reference that may begin somewhere is one of the target's.
-  pub open-is-leaf : (p : Word) (u : ℕ) → StandsOpen A keep t p u → Contains (leaves t) u
+  pub open-is-leaf : (p : Word) (u : ℕ) → StandsOpen A keep t p u → (leaf : Leaf) × Contains (leaves t) leaf × (leaf.number ≡ u)
   open-is-leaf p u (rest, valid) =
       let open_cell : Cell = Ptr (record { 0 = own u }) 0 in
       let L = IsHeldBy (OrOwn A) t in
       let cells = pointers-related (OrOwn A) keep t ((p ++ open_cell ∷ []) ++ rest) valid in
       let held : L (own u) = (All-middle (IsCellOf L) p open_cell rest cells).0 in
       elim held.2 [
-        | inl a ↦ let below = sources (own u) held.0 a in absurd (omega arith)
-        | inr e ↦ let same : held.0 ≡ u = omega arith in subst (Contains (leaves t)) same held.1
+        | inl a ↦ let below = sources (own u) held.0.number a in absurd (omega arith)
+        | inr e ↦ (held.0, held.1, omega arith)
       ]

@@ -10,9 +10,12 @@ use Rattle.tm_base.specs.declared.definition.Kind.TheVariants.{Struct, Union, En
 use Rattle.tm_base.specs.declared.ground.Primitive.{Primitive}
 use Rattle.tm_base.specs.declared.ground.Wrapper.{Wrapper}
 use Rattle.tm_base.specs.declared.ground.Wrapper.TheVariants as wrapper
+use Rattle.tm_base.specs.declared.profile.Profile.{Profile}
+use Rattle.tm_base.specs.declared.profile.Profile.TheVariants.{Le64, Be64, Le32}
 use Rattle.tm_base.specs.Cells.{Word, IsFree, Times, pointer_of}
 use Rattle.tm_base.specs.Expanded.{Expanded, Fields, Variants, too_deep, prim, never, unit, tuple, array, nonzero, phantom, wrap, ref, named, no_fields, field, no_variants, variant}
 use Rattle.tm_base.specs.Layout.{size_of}
+use Rattle.tm_base.specs.Profiles.{pointer_size}
 use Rattle.tm_base.specs.Valid.{Valid, StructValid, UnionValid, FieldsValid, SomeFieldValid, SomeVariantValid, PrimValid, WrapValid}
 use Rattle.tm_laws.proofs.WholeLeaves.{bytes-free, PrimValid-free}
 
@@ -32,11 +35,17 @@ All-second Q (c ∷ u) v w e h =
 pub All-middle : {X : Type 0} (Q : X → Type 0) (u : List X) (c : X) (v : List X) → All Q ((u ++ c ∷ []) ++ v) → Q c
 All-middle Q u c v h = All-contains Q ((u ++ c ∷ []) ++ v) c h (Contains-append_left (u ++ c ∷ []) v c (Contains-push u c))
 
+-- what holds of all bytes of a reference holds of its first
+All-first_byte : (Q : Cell → Type 0) (profile : Profile) (x : ℕ) → All Q (pointer_of (pointer_size profile) x) → Q (Ptr (record { 0 = x }) 0)
+All-first_byte Q Le64 x h = h 0 Uninit (omega arith)
+All-first_byte Q Be64 x h = h 0 Uninit (omega arith)
+All-first_byte Q Le32 x h = h 0 Uninit (omega arith)
+
 -- f moves cells: none that is free, and those of the reference x to those of one that may stand in its
 -- place, where Q holds of the word's cells.
 module _ (A B : ℕ → ℕ → Type 0) (keep : Bool) (f : Cell → Cell) (Q : Cell → Type 0)
     (stays : (c : Cell) → IsFree c → f c ≡ c)
-    (moves : (x t : ℕ) → Q (Ptr (record { 0 = x }) 0) → A x t → (y : ℕ) × B y t × (map f (pointer_of x) ≡ pointer_of y)) where
+    (moves : (size x t : ℕ) → Q (Ptr (record { 0 = x }) 0) → A x t → (y : ℕ) × B y t × (map f (pointer_of size x) ≡ pointer_of size y)) where
   all_stay : (w : Word) → All IsFree w → map f w ≡ w
   all_stay [] h = refl
   all_stay (c ∷ w) h =
@@ -67,21 +76,21 @@ module _ (A B : ℕ → ℕ → Type 0) (keep : Bool) (f : Cell → Cell) (Q : C
 
     pub Valid-moved : (t : Expanded) (w : Word) → All Q w → Valid A keep t w → Valid B keep t (map f w)
     Valid-moved too_deep w q h = h
-    Valid-moved (prim p) w q h = subst (PrimValid p) (sym (all_stay w (PrimValid-free p w h))) h
+    Valid-moved (prim profile p) w q h = subst (PrimValid profile p) (sym (all_stay w (PrimValid-free profile p w h))) h
     Valid-moved never w q h = h
     Valid-moved unit w q h = rw h refl
     Valid-moved (tuple members) w q h = h
     Valid-moved (array t n) w q h = Times-moved n (Valid A keep t) (Valid B keep t) (λ u. Valid-moved t u) w q h
-    Valid-moved (nonzero p) w q h = subst (Valid A keep (nonzero p)) (sym (all_stay w (bytes-free w h.0.1))) h
+    Valid-moved (nonzero profile p) w q h = subst (Valid A keep (nonzero profile p)) (sym (all_stay w (bytes-free w h.0.1))) h
     Valid-moved phantom w q h = rw h refl
     Valid-moved (wrap k t) w q h = WrapValid-moved k (size_of t) (Valid A keep t) (Valid B keep t) (λ u. Valid-moved t u) w q h
-    Valid-moved (ref r) w q (x, a, e) =
+    Valid-moved (ref profile r) w q (x, a, e) =
         let first = subst (All Q) e q in
-        let moved = moves x r.0 (first 0 Uninit (omega arith)) a in
+        let moved = moves (pointer_size profile) x r.0 (All-first_byte Q profile x first) a in
         (moved.0, moved.1, ap (λ (u : Word). map f u) e ∙ moved.2)
-    Valid-moved (named id Struct repr variants) w q (l, h) = (length-map w f ∙ l, StructValid-moved repr.packed variants w q h)
-    Valid-moved (named id Union repr variants) w q (l, h) = (length-map w f ∙ l, UnionValid-moved variants w q h)
-    Valid-moved (named id Enum repr variants) w q (l, h) = (length-map w f ∙ l, SomeVariantValid-moved repr.tag _ _ variants w q h)
+    Valid-moved (named profile id Struct repr variants) w q (l, h) = (length-map w f ∙ l, StructValid-moved repr.packed variants w q h)
+    Valid-moved (named profile id Union repr variants) w q (l, h) = (length-map w f ∙ l, UnionValid-moved variants w q h)
+    Valid-moved (named profile id Enum repr variants) w q (l, h) = (length-map w f ∙ l, SomeVariantValid-moved profile repr.tag _ _ variants w q h)
 
     StructValid-moved : (packed : Option ℕ) (vs : Variants) (w : Word) → All Q w → StructValid A keep packed vs w → StructValid B keep packed vs (map f w)
     StructValid-moved packed no_variants w q h = h
@@ -116,9 +125,9 @@ module _ (A B : ℕ → ℕ → Type 0) (keep : Bool) (f : Cell → Cell) (Q : C
         inl (map f here, others, same, Valid-moved t here (All-first Q here others w e q) valid, free)
     SomeFieldValid-moved (field public t rest) w q (inr h) = inr (SomeFieldValid-moved rest w q h)
 
-    SomeVariantValid-moved : (tag : Option Primitive) (begin first : ℕ) (vs : Variants) (w : Word) → All Q w → SomeVariantValid A keep tag begin first vs w → SomeVariantValid B keep tag begin first vs (map f w)
-    SomeVariantValid-moved tag begin first no_variants w q h = h
-    SomeVariantValid-moved tag begin first (variant value members rest) w q (inl (front, gap, others, e, is_tag, place, free, behind)) =
+    SomeVariantValid-moved : (profile : Profile) (tag : Option Primitive) (begin first : ℕ) (vs : Variants) (w : Word) → All Q w → SomeVariantValid A keep profile tag begin first vs w → SomeVariantValid B keep profile tag begin first vs (map f w)
+    SomeVariantValid-moved profile tag begin first no_variants w q h = h
+    SomeVariantValid-moved profile tag begin first (variant value members rest) w q (inl (front, gap, others, e, is_tag, place, free, behind)) =
         let left = All-second Q front (gap ++ others) w e q in
         let same : map f w ≡ front ++ (gap ++ map f others) =
         ap (λ (x : Word). map f x) e ∙ map-append f front (gap ++ others) ∙ ap (λ (x : Word). x ++ map f (gap ++ others)) (all_stay front (bytes-free front is_tag.0.1))
@@ -133,4 +142,4 @@ module _ (A B : ℕ → ℕ → Type 0) (keep : Bool) (f : Cell → Cell) (Q : C
           free,
           FieldsValid-moved None first members others (All-second Q gap others (gap ++ others) refl left) behind,
         )
-    SomeVariantValid-moved tag begin first (variant value members rest) w q (inr h) = inr (SomeVariantValid-moved tag begin first rest w q h)
+    SomeVariantValid-moved profile tag begin first (variant value members rest) w q (inr h) = inr (SomeVariantValid-moved profile tag begin first rest w q h)

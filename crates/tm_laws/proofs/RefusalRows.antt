@@ -11,10 +11,10 @@ use Rattle.tm_base.specs.Cells.{Word, fit}
 use Rattle.tm_base.specs.Expanded.{Expanded}
 use Rattle.tm_base.specs.Transmutes.{IsSourceWord}
 use Rattle.tm_base.specs.Viable.{StandsOpen}
+use Rattle.tm_laws.specs.WordLaws.{IsOfSources}
 use Rattle.tm_laws.proofs.RefusalLemmas.{fit-all, open-is-leaf}
-use Rattle.tm_laws.proofs.RefusalSwaps.{IsOfSources}
 use Rattle.tm_laws.proofs.RefusalWorlds.{HasKnownLeaves, source-within}
-use Rattle.tm_laws.proofs.WholeLeaves.{leaves}
+use Rattle.tm_laws.proofs.WholeLeaves.{Leaf, leaves}
 use Rattle.tm_laws.proofs.WordSearchLemmas.{IsWithin}
 
 -- what holds of all cells holds of the one at a place
@@ -30,4 +30,6 @@ module _ (world : World) where
 
   -- a reference that stands open in a target is one of the world's
   pub open-known : (A : ℕ → ℕ → Type 0) → IsOfSources A → (keep : Bool) (t : Expanded) → HasKnownLeaves world t → (p : Word) (u : ℕ) → StandsOpen A keep t p u → u < length world.refs
-  open-known A sources keep t known p u stands_open = All-contains (λ v. v < length world.refs) (leaves t) u known (open-is-leaf A sources keep t p u stands_open)
+  open-known A sources keep t known p u stands_open =
+      let (leaf, inside, same) = open-is-leaf A sources keep t p u stands_open in
+      subst (λ (n : ℕ). n < length world.refs) same (All-contains (λ (l : Leaf). l.number < length world.refs) (leaves t) leaf known inside)

@@ -1,108 +1,63 @@
 -- The references of a world's types are the world's. So no word of a source has an open one.
-use Rattle.std.proofs.Common.{◌≡◌, ℕ, zero, suc, ◌<◌, refl, Bool, true, List, [], ◌∷◌, ◌++◌, length, Option, Some, None, slice_get, arith}
+use Rattle.std.proofs.Common.{◌≡◌, ℕ, zero, suc, ◌<◌, refl, true, List, [], ◌∷◌, ◌++◌, length, Option, Some, None, slice_get, arith}
 use Rattle.std.specs.List.{All, list_all, flat_map}
 use Rattle.std.proofs.lemmas.Bool.{and_parts}
 use Rattle.std.proofs.lemmas.List.Elements.{All-nil, All-cons, All-append, All-weaker, All-contains}
 use Rattle.tm_base.specs.declared.assume.Assume.{Assume}
 use Rattle.tm_base.specs.declared.cell.Cell.{Cell}
 use Rattle.tm_base.specs.declared.cell.Cell.TheVariants.{Byte, Uninit, Ptr}
-use Rattle.tm_base.specs.declared.definition.Def.{Def}
-use Rattle.tm_base.specs.declared.definition.Field.{Field}
 use Rattle.tm_base.specs.declared.definition.NamedRow.{NamedRow}
 use Rattle.tm_base.specs.declared.definition.RefRow.{RefRow}
-use Rattle.tm_base.specs.declared.definition.Variant.{Variant}
 use Rattle.tm_base.specs.declared.ground.Ground.{Ground, out-Ground}
 use Rattle.tm_base.specs.declared.ground.Ground.TheOpen.{Ground-F}
-use Rattle.tm_base.specs.declared.ground.NamedId.{NamedId}
 use Rattle.tm_base.specs.declared.ground.Wrapper.{Wrapper}
 use Rattle.tm_base.specs.declared.ground.Wrapper.TheVariants as wrapper
 use Rattle.tm_base.specs.declared.world.World.{World}
 use Rattle.tm_base.specs.Cells.{Word}
 use Rattle.tm_base.specs.Compatible.{Compatible}
-use Rattle.tm_base.specs.Expanded.{Expanded, elements, fields_of, variants_of, defined, row_of, wrapped, level, expanded_within, depth_limit}
+use Rattle.tm_base.specs.Expanded.{Expanded, expanded_within, depth_limit}
 use Rattle.tm_base.specs.Reaches.{Enters, Reaches, argument_of, row_parts, row_pointee, parts_within, pointees_within, parts_of, pointees_of}
 use Rattle.tm_base.specs.Tables.{expanded_in, pointee_in}
 use Rattle.tm_base.specs.Transmutes.{Same, IsSourceWord}
 use Rattle.tm_base.specs.Worlds.{tables_of, IsTypeOver}
-use Rattle.tm_base.proofs.JudgedLemmas.{LeadsIn-keeps}
+use Rattle.tm_base.proofs.JudgedLemmas.{ChainIn-keeps}
+use Rattle.tm_laws.specs.WordLaws.{IsClosed, IsOfSources}
 use Rattle.tm_laws.proofs.CompatibleKnownLemmas.{Compatible-rows}
 use Rattle.tm_laws.proofs.RefusalFormed.{formed, PartsFormed, formed-level, IsFormed, row-formed, pointee-formed, over-formed, All-from_list_all}
-use Rattle.tm_laws.proofs.RefusalSwaps.{IsClosed, IsOfSources}
-use Rattle.tm_laws.proofs.WholeLeaves.{leaves, field_leaves, variant_leaves}
+use Rattle.tm_laws.proofs.WholeLeaves.{Leaf, leaves}
+use Rattle.tm_laws.proofs.WholeTypes.{HasParts, level-leaves}
 use Rattle.tm_laws.proofs.WholeWords.{IsCellOf, IsHeldBy, cell-weaker, pointers-related}
 use Rattle.tm_laws.proofs.WordSearchLemmas.{IsWithin}
 
--- One level of a type: its references have numbers below a bound, where those of its parts do.
-module _ (named refs : ℕ) (part : Ground → Expanded) (each : (g : Ground) → formed named refs g ≡ true → All (λ u. u < refs) (leaves (part g))) where
-  abbrev AreBelow : List ℕ → Type 0
-  AreBelow us = All (λ u. u < refs) us
-
-  abbrev is_formed : Ground → Bool
-  is_formed = formed named refs
-
-  elements-leaves : (gs : List Ground) → list_all is_formed gs ≡ true → AreBelow (field_leaves (elements part gs))
-  unfolding leaves
-  elements-leaves [] h = All-nil (λ u. u < refs)
-  elements-leaves (g ∷ gs) h =
-      let both = and_parts (is_formed g) (list_all is_formed gs) h in
-      All-append (λ u. u < refs) (leaves (part g)) (field_leaves (elements part gs)) (each g both.0) (elements-leaves gs both.1)
-
-  fields_of-leaves : (fs : List Field) (types : List Ground) → list_all is_formed types ≡ true → AreBelow (field_leaves (fields_of part fs types))
-  unfolding leaves
-  fields_of-leaves [] types h = All-nil (λ u. u < refs)
-  fields_of-leaves (f ∷ fs) [] h = All-nil (λ u. u < refs)
-  fields_of-leaves (f ∷ fs) (g ∷ gs) h =
-      let both = and_parts (is_formed g) (list_all is_formed gs) h in
-      All-append (λ u. u < refs) (leaves (part g)) (field_leaves (fields_of part fs gs)) (each g both.0) (fields_of-leaves fs gs both.1)
-
-  variants_of-leaves : (vs : List Variant) (types : List (List Ground)) → list_all (list_all is_formed) types ≡ true → AreBelow (variant_leaves (variants_of part vs types))
-  unfolding leaves
-  variants_of-leaves [] types h = All-nil (λ u. u < refs)
-  variants_of-leaves (v ∷ vs) [] h = All-nil (λ u. u < refs)
-  variants_of-leaves (v ∷ vs) (gs ∷ types) h =
-      let both = and_parts (list_all is_formed gs) (list_all (list_all is_formed) types) h in
-      All-append (λ u. u < refs) (field_leaves (fields_of part v.fields gs)) (variant_leaves (variants_of part vs types))
-      (fields_of-leaves v.fields gs both.0) (variants_of-leaves vs types both.1)
-
-  defined-leaves : (id : NamedId) (types : List (List Ground)) (d : Option Def) → list_all (list_all is_formed) types ≡ true → AreBelow (leaves (defined part id types d))
-  unfolding leaves
-  defined-leaves id types None h = All-nil (λ u. u < refs)
-  defined-leaves id types (Some d) h = variants_of-leaves d.variants types h
-
-  row_of-leaves : (defs : List Def) (id : NamedId) (row : Option NamedRow) → ((one : NamedRow) → row ≡ Some one → list_all (list_all is_formed) one.types ≡ true) → AreBelow (leaves (row_of part defs id row))
-  unfolding leaves
-  row_of-leaves defs id None h = All-nil (λ u. u < refs)
-  row_of-leaves defs id (Some row) h = defined-leaves id row.types (slice_get defs row.def.0) (h row refl)
-
-  wrapped-leaves : (w : Wrapper) (g : Ground) → is_formed g ≡ true → AreBelow (leaves (wrapped part w g))
-  unfolding leaves
-  wrapped-leaves wrapper.PhantomData g h = All-nil (λ u. u < refs)
-  wrapped-leaves w g h = each g h
-
-  level-leaves : (defs : List Def) (rows : List NamedRow) → ((k : ℕ) (row : NamedRow) → slice_get rows k ≡ Some row → list_all (list_all is_formed) row.types ≡ true)
-      → (x : Ground-F Ground) → PartsFormed named refs x → AreBelow (leaves (level part defs rows x))
-  unfolding leaves
-  level-leaves defs rows at_rows (Ground-F.Prim p) h = All-nil (λ u. u < refs)
-  level-leaves defs rows at_rows Ground-F.Never h = All-nil (λ u. u < refs)
-  level-leaves defs rows at_rows Ground-F.Unit h = All-nil (λ u. u < refs)
-  level-leaves defs rows at_rows (Ground-F.Tuple gs) h = elements-leaves gs h
-  level-leaves defs rows at_rows (Ground-F.Array g n) h = each g h
-  level-leaves defs rows at_rows (Ground-F.Named id) h = row_of-leaves defs id (slice_get rows id.0) (λ row e. at_rows id.0 row e)
-  level-leaves defs rows at_rows (Ground-F.NonZero p) h = All-nil (λ u. u < refs)
-  level-leaves defs rows at_rows (Ground-F.Wrap w g) h = wrapped-leaves w g h
-  level-leaves defs rows at_rows (Ground-F.Ref r) h = All-cons (λ u. u < refs) r.0 [] h (All-nil (λ u. u < refs))
-
 module _ (world : World) where
-  -- the numbers of a type's references are below the number of the world's
-  abbrev pub HasKnownLeaves : Expanded → Type 0
-  HasKnownLeaves t = All (λ u. u < length world.refs) (leaves t)
+  -- the number of a reference is below the number of the world's
+  abbrev IsKnownLeaf : Leaf → Type 0
+  IsKnownLeaf leaf = leaf.number < length world.refs
 
-  formed-known_within : (n : ℕ) (g : Ground) → IsFormed world g → HasKnownLeaves (expanded_within n world.defs world.named g)
+  -- the numbers of a type's references are
+  abbrev pub HasKnownLeaves : Expanded → Type 0
+  HasKnownLeaves t = All IsKnownLeaf (leaves t)
+
+  formed_all : (gs : List Ground) → list_all (formed (length world.named) (length world.refs)) gs ≡ true → All (IsFormed world) gs
+  formed_all gs h = All-from_list_all (formed (length world.named) (length world.refs)) (IsFormed world) (λ g e. e) gs h
+
+  formed_parts : (x : Ground-F Ground) → PartsFormed (length world.named) (length world.refs) x → HasParts IsKnownLeaf (IsFormed world) world.profile world.named x
+  formed_parts (Ground-F.Tuple gs) h = formed_all gs h
+  formed_parts (Ground-F.Array g n) h = h
+  formed_parts (Ground-F.Named id) h = λ row e. All-from_list_all (list_all (formed (length world.named) (length world.refs))) (All (IsFormed world)) formed_all row.types (row-formed world id.0 row e)
+  formed_parts (Ground-F.Wrap w g) h = h
+  formed_parts (Ground-F.Ref r) h = h
+  formed_parts (Ground-F.Prim p) h = tt
+  formed_parts Ground-F.Never h = tt
+  formed_parts Ground-F.Unit h = tt
+  formed_parts (Ground-F.NonZero p) h = tt
+
+  formed-known_within : (n : ℕ) (g : Ground) → IsFormed world g → HasKnownLeaves (expanded_within world.profile n world.defs world.named g)
   unfolding expanded_within leaves
-  formed-known_within zero g h = All-nil (λ u. u < length world.refs)
+  formed-known_within zero g h = All-nil IsKnownLeaf
   formed-known_within (suc n) g h =
-      level-leaves (length world.named) (length world.refs) (expanded_within n world.defs world.named) (λ k. formed-known_within n k)
-      world.defs world.named (row-formed world) (out-Ground g) (formed-level (length world.named) (length world.refs) g h)
+      level-leaves IsKnownLeaf (IsFormed world) world.profile (expanded_within world.profile n world.defs world.named) (λ k. formed-known_within n k)
+      world.defs world.named (out-Ground g) (formed_parts (out-Ground g) (formed-level (length world.named) (length world.refs) g h))
 
   pub formed-known : (g : Ground) → IsFormed world g → HasKnownLeaves (expanded_in (tables_of world) g)
   formed-known g h = formed-known_within depth_limit g h
@@ -161,7 +116,7 @@ module _ (world : World) where
 
   -- the references of each type that a type over the world reaches are the world's
   pub reached-known : (g h : Ground) → IsTypeOver (tables_of world) g → Reaches (tables_of world) g h → HasKnownLeaves (expanded_in (tables_of world) h)
-  reached-known g h over (n, way) = formed-known h (LeadsIn-keeps (Enters (tables_of world)) (IsFormed world) enters-formed n g h (over-formed world g over) way)
+  reached-known g h over (n, way) = formed-known h (ChainIn-keeps (Enters (tables_of world)) (IsFormed world) enters-formed n g h (over-formed world g over) way)
 
   pub compatible-of_sources : (assume : Assume) → IsOfSources (Compatible (tables_of world) assume)
   compatible-of_sources assume x t h =
@@ -170,8 +125,8 @@ module _ (world : World) where
       omega arith
 
   held-known : (s : Expanded) → HasKnownLeaves s → (x : ℕ) → IsHeldBy Same s x → x < length world.refs
-  held-known s known x (u, inside, same) =
-      let below : u < length world.refs = All-contains (λ v. v < length world.refs) (leaves s) u known inside in
+  held-known s known x (leaf, inside, same) =
+      let below : leaf.number < length world.refs = All-contains IsKnownLeaf (leaves s) leaf known inside in
       omega arith
 
   -- the references in a word of a source are the world's

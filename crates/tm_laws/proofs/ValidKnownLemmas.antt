@@ -3,11 +3,11 @@
 use Rattle.std.proofs.Common.{ℕ, suc, ◌<◌, inl, inr, Bool, true, arith}
 use Rattle.tm_base.specs.Cells.{Word}
 use Rattle.tm_base.specs.Expanded.{Expanded}
-use Rattle.tm_base.specs.Laws.{IsSettled}
 use Rattle.tm_base.specs.Layout.{size_of}
 use Rattle.tm_base.specs.Transmutes.{Same, IsSourceWord, holds}
 use Rattle.tm_base.specs.Valid.{Valid}
 use Rattle.tm_base.specs.ValidTest.{valid_test}
+use Rattle.tm_base.proofs.AssumeLemmas.{IsSettled}
 use Rattle.tm_base.proofs.ValidLemmas.{Valid-length, Valid-grows}
 use Rattle.tm_base.proofs.ValidTestLemmas.{valid_test-exact}
 use Rattle.tm_laws.proofs.DecideLemmas.{Dec-like, Dec-by_test, Dec-eq, test_of, test_of-to, test_of-from}

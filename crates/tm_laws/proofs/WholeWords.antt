@@ -1,16 +1,17 @@
--- In a word of a type each reference stands whole, from its first byte to its last, and is one that some
--- reference of the type may hold.
-use Rattle.std.proofs.Common.{◌≡◌, ℕ, zero, suc, ◌+◌, ◌-◌, ◌<◌, ◌≤◌, ◌⊎◌, refl, sym, ◌∙◌, ap, subst, Bool, [], ◌∷◌, ◌++◌, length, map, inl, inr, arith, append_assoc}
+-- A word of a type has whole references, and each is one that some reference of the type may hold.
+use Rattle.std.proofs.Common.{◌≡◌, ℕ, zero, suc, ◌+◌, ◌<◌, ◌≤◌, refl, sym, ◌∙◌, ap, subst, Bool, [], ◌∷◌, ◌++◌, map, arith, append_assoc, append-nil}
 use Rattle.std.specs.List.{All, Contains, range_with_len}
-use Rattle.std.proofs.lemmas.List.Elements.{All-nil, All-cons, All-head, All-tail, All-append, All-weaker}
-use Rattle.std.proofs.lemmas.List.FromFn.{map-range_with_len_more}
+use Rattle.std.proofs.lemmas.List.Elements.{All-nil, All-cons, All-head, All-tail, All-append, All-weaker, All-contains}
 use Rattle.tm_base.specs.declared.cell.Cell.{Cell}
 use Rattle.tm_base.specs.declared.cell.Cell.TheVariants.{Byte, Uninit, Ptr}
-use Rattle.tm_base.specs.declared.cell.RefId.{RefId}
-use Rattle.tm_base.specs.Cells.{Word, IsFree, pointer_size, pointer_of}
+use Rattle.tm_base.specs.declared.profile.Profile.{Profile}
+use Rattle.tm_base.specs.declared.profile.Profile.TheVariants.{Le64, Be64, Le32}
+use Rattle.tm_base.specs.Cells.{Word, IsFree, pointer_of, HasWholeReferences, nothing_left, byte_first, uninit_first, reference_first}
 use Rattle.tm_base.specs.Expanded.{Expanded}
+use Rattle.tm_base.specs.Profiles.{pointer_size}
 use Rattle.tm_base.specs.Valid.{Valid}
-use Rattle.tm_laws.proofs.WholeLeaves.{leaves, Valid-has}
+use Rattle.tm_laws.proofs.WholeLeaves.{Leaf, leaves, Valid-has}
+use Rattle.tm_laws.proofs.WholeTypes.{IsFor}
 
 -- n bytes of the reference x, from its byte number i on
 abbrev pub cells_from : ℕ → ℕ → ℕ → Word
@@ -21,18 +22,21 @@ cells_from-all P x i zero each = All-nil P
 cells_from-all P x i (suc n) each =
     All-cons P _ (cells_from x (i + 1) n) (each i (omega arith) (omega arith)) (cells_from-all P x (i + 1) n (λ k low high. each k (omega arith) (omega arith)))
 
-cells_from-more : (x i n : ℕ) → 0 < n → cells_from x i n ≡ Ptr (record { 0 = x }) i ∷ cells_from x (i + 1) (n - 1)
-cells_from-more x i zero h = absurd (omega arith)
-cells_from-more x i (suc n) h =
-    let e : n ≡ suc n - 1 = omega arith in
-    ap (λ m. Ptr (record { 0 = x }) i ∷ cells_from x (i + 1) m) e
+-- the most bytes that a reference has under a profile
+abbrev pub most_bytes : ℕ
+most_bytes = 8
+
+pub pointer_size-most : (profile : Profile) → pointer_size profile ≤ most_bytes
+pointer_size-most Le64 = omega arith
+pointer_size-most Be64 = omega arith
+pointer_size-most Le32 = omega arith
 
 -- A cell that a type's word may have: a byte, an uninitialised one, or one of the bytes of a reference
 -- that L holds of.
 abbrev pub IsCellOf : (ℕ → Type 0) → Cell → Type 0
 IsCellOf L (Byte b) = b < 256
 IsCellOf L Uninit = Unit {0}
-IsCellOf L (Ptr r k) = L r.0 × (k < pointer_size)
+IsCellOf L (Ptr r k) = L r.0 × (k < most_bytes)
 
 free_cell : (L : ℕ → Type 0) (c : Cell) → IsFree c → IsCellOf L c
 free_cell L (Byte b) h = h
@@ -46,131 +50,40 @@ cell-weaker L M each (Ptr r k) (l, short) = (each r.0 l, short)
 
 -- some reference of the type may hold x
 abbrev pub IsHeldBy : (ℕ → ℕ → Type 0) → Expanded → ℕ → Type 0
-IsHeldBy A t x = (u : ℕ) × Contains (leaves t) u × A x u
+IsHeldBy A t x = (leaf : Leaf) × Contains (leaves t) leaf × A x leaf.number
 
 -- the cells of a type's words
 pub pointers-related : (A : ℕ → ℕ → Type 0) (keep : Bool) (t : Expanded) (w : Word) → Valid A keep t w → All (IsCellOf (IsHeldBy A t)) w
 pointers-related A keep t w h =
     let L = IsHeldBy A t in
     Valid-has A keep (All (IsCellOf L)) (λ u v. All-append (IsCellOf L) u v) (λ u. All-weaker IsFree (IsCellOf L) (free_cell L) u) t
-    (λ x u inside a. cells_from-all (IsCellOf L) x 0 8 (λ k low high. ((u, inside, a), omega arith))) w h
+    (λ x leaf inside a. cells_from-all (IsCellOf L) x 0 (pointer_size leaf.profile) (λ k low high. ((leaf, inside, a), omega (arith, pointer_size-most leaf.profile)))) w h
 
--- where the byte k of the reference r stands, those beside it are its too
-pub record StandsWhole (r : RefId) (k : ℕ) (before behind : Word) : Type 0 where
-  pub is_byte_of : k < pointer_size
-  pub goes_on : suc k < pointer_size → (others : Word) × (behind ≡ Ptr r (suc k) ∷ others)
-  pub went_on : (j : ℕ) → k ≡ suc j → (others : Word) × (before ≡ others ++ Ptr r j ∷ [])
+-- two words that have whole references have them together
+HasWholeReferences-append : (size : ℕ) (u v : Word) → HasWholeReferences size u → HasWholeReferences size v → HasWholeReferences size (u ++ v)
+HasWholeReferences-append size u v (nothing_left _ e) h = subst (λ (x : Word). HasWholeReferences size (x ++ v)) (sym e) h
+HasWholeReferences-append size u v (byte_first b _ rest e others) h =
+    byte_first b (u ++ v) (rest ++ v) (ap (λ (x : Word). x ++ v) e) (HasWholeReferences-append size rest v others h)
+HasWholeReferences-append size u v (uninit_first _ rest e others) h =
+    uninit_first (u ++ v) (rest ++ v) (ap (λ (x : Word). x ++ v) e) (HasWholeReferences-append size rest v others h)
+HasWholeReferences-append size u v (reference_first x _ rest e others) h =
+    reference_first x (u ++ v) (rest ++ v) (ap (λ (y : Word). y ++ v) e ∙ append_assoc (pointer_of size x) rest v) (HasWholeReferences-append size rest v others h)
 
--- each byte of a reference stands among the reference's others
-abbrev pub IsWhole : Word → Type 0
-IsWhole w = (before behind : Word) (r : RefId) (k : ℕ) → w ≡ before ++ (Ptr r k ∷ behind) → StandsWhole r k before behind
+-- free bytes have no references
+HasWholeReferences-free : (size : ℕ) (w : Word) → All IsFree w → HasWholeReferences size w
+HasWholeReferences-free size [] h = nothing_left [] refl
+HasWholeReferences-free size (Byte b ∷ w) h = byte_first b (Byte b ∷ w) w refl (HasWholeReferences-free size w (All-tail IsFree (Byte b) w h))
+HasWholeReferences-free size (Uninit ∷ w) h = uninit_first (Uninit ∷ w) w refl (HasWholeReferences-free size w (All-tail IsFree Uninit w h))
+HasWholeReferences-free size (Ptr r k ∷ w) h = absurd (All-head IsFree (Ptr r k) w h)
 
--- a cell of two joined words is one of the first or of the second
-pub append-split : (u v p q : Word) (c : Cell) → u ++ v ≡ p ++ (c ∷ q)
-    → ((rest : Word) × (u ≡ p ++ (c ∷ rest)) × (q ≡ rest ++ v)) ⊎ ((rest : Word) × (p ≡ u ++ rest) × (v ≡ rest ++ (c ∷ q)))
-append-split [] v p q c e = inr (p, refl, e)
-append-split (a ∷ u) v [] q c e = inl (u, cc, cc)
-append-split (a ∷ u) v (b ∷ p) q c e =
-    let tail : u ++ v ≡ p ++ (c ∷ q) = cc in
-    let head : a ≡ b = cc in
-    elim (append-split u v p q c tail) [
-      | inl s ↦ let same = s.1 in inl (s.0, cc, s.2)
-      | inr s ↦ let same = s.1 in inr (s.0, cc, s.2)
-    ]
+-- a reference is whole
+HasWholeReferences-pointer : (size x : ℕ) → HasWholeReferences size (pointer_of size x)
+HasWholeReferences-pointer size x = reference_first x (pointer_of size x) [] (sym (append-nil (pointer_of size x))) (nothing_left [] refl)
 
-IsWhole-append : (u v : Word) → IsWhole u → IsWhole v → IsWhole (u ++ v)
-IsWhole-append u v whole_u whole_v p q r k e = elim (append-split u v p q (Ptr r k) e) [
-  | inl s ↦
-      let stands = whole_u p s.0 r k s.1 in
-      record {
-        is_byte_of = stands.is_byte_of;
-        goes_on = λ h. let next = stands.goes_on h in (next.0 ++ v, s.2 ∙ ap (λ (x : Word). x ++ v) next.1);
-        went_on = stands.went_on;
-      }
-  | inr s ↦
-      let stands = whole_v s.0 q r k s.2 in
-      record {
-        is_byte_of = stands.is_byte_of;
-        goes_on = stands.goes_on;
-        went_on = λ j h. let last = stands.went_on j h in (u ++ last.0, s.1 ∙ ap (λ (x : Word). u ++ x) last.1 ∙ sym (append_assoc u last.0 (Ptr r j ∷ [])));
-      }
-]
-
-none_there : (c : Cell) (p q : Word) → [] ≡ p ++ (c ∷ q) → ⊥
-none_there c [] q e = absurd cc
-none_there c (a ∷ p) q e = absurd cc
-
-IsWhole-free : (w : Word) → All IsFree w → IsWhole w
-IsWhole-free [] h p q r k e = absurd (none_there (Ptr r k) p q e)
-IsWhole-free (c ∷ w) h [] q r k e =
-    let same : c ≡ Ptr r k = cc in
-    absurd (subst IsFree same (All-head IsFree c w h))
-IsWhole-free (c ∷ w) h (b ∷ p) q r k e =
-    let tail : w ≡ p ++ (Ptr r k ∷ q) = cc in
-    let head : c ≡ b = cc in
-    let stands = IsWhole-free w (All-tail IsFree c w h) p q r k tail in
-    record {
-      is_byte_of = stands.is_byte_of;
-      goes_on = stands.goes_on;
-      went_on = λ j f. let last = stands.went_on j f in (b ∷ last.0, ap (λ (x : Word). b ∷ x) last.1);
-    }
-
--- where a cell stands in a run of a reference's bytes
-record IsInRun (x i n : ℕ) (r : RefId) (k : ℕ) (p q : Word) : Type 0 where
-  of : r ≡ record { 0 = x }
-  at : k ≡ i + length p
-  within : length p < n
-  front : p ≡ cells_from x i (length p)
-  back : q ≡ cells_from x (k + 1) (n - length p - 1)
-
-in_run : (x i n : ℕ) (p q : Word) (r : RefId) (k : ℕ) → cells_from x i n ≡ p ++ (Ptr r k ∷ q) → IsInRun x i n r k p q
-in_run x i zero p q r k e = absurd (none_there (Ptr r k) p q e)
-in_run x i (suc n) [] q r k e =
-    let here : k ≡ i = cc in
-    let rest : q ≡ cells_from x (i + 1) n = cc in
-    let left : n ≡ suc n - 0 - 1 = omega arith in
-    record {
-      of = cc;
-      at = omega arith;
-      within = omega arith;
-      front = refl;
-      back = rest ∙ ap (λ (m : ℕ). cells_from x (m + 1) n) (sym here) ∙ ap (λ (m : ℕ). cells_from x (k + 1) m) left;
-    }
-in_run x i (suc n) (b ∷ p) q r k e =
-    let tail : cells_from x (i + 1) n ≡ p ++ (Ptr r k ∷ q) = cc in
-    let head : b ≡ Ptr (record { 0 = x }) i = cc in
-    let inside = in_run x (i + 1) n p q r k tail in
-    let left : n - length p - 1 ≡ suc n - suc (length p) - 1 = omega arith in
-    let front : p ≡ cells_from x (i + 1) (length p) = inside.front in
-    let at : k ≡ i + 1 + length p = inside.at in
-    let within : length p < n = inside.within in
-    record {
-      of = inside.of;
-      at = omega arith;
-      within = omega arith;
-      front = cc;
-      back = inside.back ∙ ap (λ (m : ℕ). cells_from x (k + 1) m) left;
-    }
-
-IsWhole-pointer : (x : ℕ) → IsWhole (pointer_of x)
-IsWhole-pointer x p q r k e =
-    let inside = in_run x 0 8 p q r k e in
-    let at : k ≡ 0 + length p = inside.at in
-    let within : length p < 8 = inside.within in
-    let back : q ≡ cells_from x (k + 1) (8 - length p - 1) = inside.back in
-    let front : p ≡ cells_from x 0 (length p) = inside.front in
-    record {
-      is_byte_of = omega arith;
-      goes_on = λ h.
-          let next : k + 1 ≡ suc k = omega arith in
-          let first = back ∙ cells_from-more x (k + 1) (8 - length p - 1) (omega arith) in
-          (cells_from x (k + 1 + 1) (8 - length p - 1 - 1), first ∙ ap (λ (y : RefId). Ptr y (k + 1) ∷ cells_from x (k + 1 + 1) (8 - length p - 1 - 1)) (sym inside.of) ∙ ap (λ (m : ℕ). Ptr r m ∷ cells_from x (k + 1 + 1) (8 - length p - 1 - 1)) next);
-      went_on = λ j h.
-          let long : length p ≡ j + 1 = omega arith in
-          let last : cells_from x 0 (j + 1) ≡ cells_from x 0 j ++ Ptr (record { 0 = x }) j ∷ [] = map-range_with_len_more (λ m. Ptr (record { 0 = x }) m) 0 j j (omega arith) in
-          (cells_from x 0 j, front ∙ ap (λ (m : ℕ). cells_from x 0 m) long ∙ last ∙ ap (λ (y : RefId). cells_from x 0 j ++ Ptr y j ∷ []) (sym inside.of));
-    }
-
--- in a word of a type each byte of a reference stands among the reference's others
-pub whole-references : (A : ℕ → ℕ → Type 0) (keep : Bool) (t : Expanded) (w : Word) → Valid A keep t w → IsWhole w
-whole-references A keep t w h = Valid-has A keep IsWhole IsWhole-append IsWhole-free t (λ x u inside a. IsWhole-pointer x) w h
+-- a word of a type that is written out for a profile has whole references
+pub whole-references : (profile : Profile) (A : ℕ → ℕ → Type 0) (keep : Bool) (t : Expanded) → IsFor profile t → (w : Word) → Valid A keep t w → HasWholeReferences (pointer_size profile) w
+whole-references profile A keep t for_it w h = Valid-has A keep (HasWholeReferences (pointer_size profile)) (HasWholeReferences-append (pointer_size profile)) (HasWholeReferences-free (pointer_size profile)) t each w h where
+  each : (x : ℕ) (leaf : Leaf) → Contains (leaves t) leaf → A x leaf.number → HasWholeReferences (pointer_size profile) (pointer_of (pointer_size leaf.profile) x)
+  each x leaf inside a =
+      let same : leaf.profile ≡ profile = All-contains (λ (l : Leaf). l.profile ≡ profile) (leaves t) leaf for_it inside in
+      subst (λ (p : Profile). HasWholeReferences (pointer_size profile) (pointer_of (pointer_size p) x)) (sym same) (HasWholeReferences-pointer (pointer_size profile) x)

@@ -6,16 +6,16 @@ use Rattle.tm_base.specs.Cells.{Word}
 use Rattle.tm_base.specs.Expanded.{Expanded}
 use Rattle.tm_base.specs.Valid.{Valid}
 use Rattle.tm_laws.proofs.ListedLemmas.{IsIn, IsIn-from_Contains}
-use Rattle.tm_laws.proofs.WholeLeaves.{leaves}
+use Rattle.tm_laws.proofs.WholeLeaves.{Leaf, leaves}
 use Rattle.tm_laws.proofs.WholeWords.{IsCellOf, IsHeldBy, cell-weaker, pointers-related}
 use Rattle.tm_laws.proofs.WordSearchLemmas.{IsWithin}
 
--- the greatest of some numbers' bounds
-abbrev pub greatest : (ℕ → ℕ) → List ℕ → ℕ
+-- the greatest of some references' bounds
+abbrev pub greatest : (ℕ → ℕ) → List Leaf → ℕ
 greatest bound [] = 0
-greatest bound (u ∷ us) = max (bound u) (greatest bound us)
+greatest bound (u ∷ us) = max (bound u.number) (greatest bound us)
 
-greatest-most : (bound : ℕ → ℕ) (us : List ℕ) (u : ℕ) → IsIn u us → bound u ≤ greatest bound us
+greatest-most : (bound : ℕ → ℕ) (us : List Leaf) (u : Leaf) → IsIn u us → bound u.number ≤ greatest bound us
 greatest-most bound [] u h = absurd h
 greatest-most bound (v ∷ us) u (inl e) = rw (← e) (omega arith)
 greatest-most bound (v ∷ us) u (inr h) = omega (arith, greatest-most bound us u h)
@@ -26,7 +26,7 @@ refs_below bound t = greatest bound (leaves t)
 
 module _ (A : ℕ → ℕ → Type 0) (keep : Bool) (bound : ℕ → ℕ) (bounded : (x u : ℕ) → A x u → x < bound u) (t : Expanded) where
   held-below : (x : ℕ) → IsHeldBy A t x → x < refs_below bound t
-  held-below x (u, inside, a) = omega (arith, bounded x u a, greatest-most bound (leaves t) u (IsIn-from_Contains (leaves t) u inside))
+  held-below x (u, inside, a) = omega (arith, bounded x u.number a, greatest-most bound (leaves t) u (IsIn-from_Contains (leaves t) u inside))
 
   pub Valid-within : (w : Word) → Valid A keep t w → All (IsWithin (refs_below bound t)) w
   Valid-within w valid =

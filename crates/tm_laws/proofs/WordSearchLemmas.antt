@@ -6,10 +6,10 @@ use Rattle.std.proofs.lemmas.List.Elements.{All-head, All-tail}
 use Rattle.tm_base.specs.declared.cell.Cell.{Cell}
 use Rattle.tm_base.specs.declared.cell.Cell.TheVariants.{Byte, Uninit, Ptr}
 use Rattle.tm_base.specs.Cells.{Word}
-use Rattle.tm_laws.proofs.WholeWords.{IsCellOf}
+use Rattle.tm_laws.proofs.WholeWords.{IsCellOf, most_bytes}
 use Rattle.tm_laws.proofs.ListedLemmas.{IsIn, IsIn-left, IsIn-right, IsIn-map, IsIn-flat_map, Listed}
 
--- a byte's number is below 256, and a reference's byte is one of the first eight of a reference below n
+-- a byte's number is below 256, and a reference's byte is one of the most that a reference below n has
 abbrev pub IsWithin : ℕ → Cell → Type 0
 IsWithin n = IsCellOf (λ x. x < n)
 
@@ -43,15 +43,15 @@ abbrev pointer_cell : ℕ → ℕ → Cell
 pointer_cell r k = Ptr (record { 0 = r }) k
 
 cells : ℕ → List Cell
-cells n = map Byte (below 256) ++ (Uninit ∷ flat_map (λ r. map (pointer_cell r) (below 8)) (below n))
+cells n = map Byte (below 256) ++ (Uninit ∷ flat_map (λ r. map (pointer_cell r) (below most_bytes)) (below n))
 
 cells-has : (n : ℕ) (c : Cell) → IsWithin n c → IsIn c (cells n)
 unfolding cells
 cells-has n (Byte b) h = IsIn-left (map Byte (below 256)) _ (Byte b) (IsIn-map Byte (below 256) b (below-has 256 b h))
-cells-has n Uninit h = IsIn-right (map Byte (below 256)) (Uninit ∷ flat_map (λ r. map (pointer_cell r) (below 8)) (below n)) Uninit (inl refl)
+cells-has n Uninit h = IsIn-right (map Byte (below 256)) (Uninit ∷ flat_map (λ r. map (pointer_cell r) (below most_bytes)) (below n)) Uninit (inl refl)
 cells-has n (Ptr r k) (l, h) =
-    IsIn-right (map Byte (below 256)) (Uninit ∷ flat_map (λ r. map (pointer_cell r) (below 8)) (below n)) (Ptr r k)
-    (inr (IsIn-flat_map (λ r. map (pointer_cell r) (below 8)) (below n) r.0 (Ptr r k) (below-has n r.0 l) (IsIn-map (pointer_cell r.0) (below 8) k (below-has 8 k h))))
+    IsIn-right (map Byte (below 256)) (Uninit ∷ flat_map (λ r. map (pointer_cell r) (below most_bytes)) (below n)) (Ptr r k)
+    (inr (IsIn-flat_map (λ r. map (pointer_cell r) (below most_bytes)) (below n) r.0 (Ptr r k) (below-has n r.0 l) (IsIn-map (pointer_cell r.0) (below most_bytes) k (below-has most_bytes k h))))
 
 words : ℕ → ℕ → List Word
 words n zero = [] ∷ []

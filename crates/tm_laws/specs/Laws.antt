@@ -1,6 +1,6 @@
 -- Laws of the definitions that need a search for their proof, which the functions of the crate have as
 -- their contracts.
-use Rattle.std.specs.Prelude.{◌≡◌, ℕ, ◌*◌, ◌≤◌, ◌↔◌, Bool, IsTrue, length}
+use Rattle.std.specs.Prelude.{◌≡◌, ℕ, ◌*◌, ◌≤◌, ◌⊎◌, ◌↔◌, Bool, IsTrue, length}
 use Rattle.tm_base.specs.declared.answer.Answer.{Answer}
 use Rattle.tm_base.specs.declared.ask.Ask.{Ask}
 use Rattle.tm_base.specs.declared.assume.Assume.{Assume}
@@ -8,16 +8,16 @@ use Rattle.tm_base.specs.declared.ground.Ground.{Ground}
 use Rattle.tm_base.specs.declared.world.World.{World}
 use Rattle.tm_base.specs.Answers.{IsAnswer, NoSharedTexts}
 use Rattle.tm_base.specs.Assumptions.{Includes}
+use Rattle.tm_base.specs.Cells.{Word}
 use Rattle.tm_base.specs.Compatible.{CompatibleTo, Compatible}
 use Rattle.tm_base.specs.Expanded.{Expanded}
-use Rattle.tm_base.specs.Laws.{IsSettled}
 use Rattle.tm_base.specs.Tables.{Tables, expanded_in}
-use Rattle.tm_base.specs.Transmutes.{Transmutes}
+use Rattle.tm_base.specs.Transmutes.{Transmutes, IsUninhabited, IsSourceWord}
 use Rattle.tm_base.specs.Worlds.{tables_of, IsTypeOver}
 
 -- each type has no value, or one is known
 abbrev pub TypesAreSettled : Type 0
-TypesAreSettled = (s : Expanded) → IsSettled s
+TypesAreSettled = (s : Expanded) → IsUninhabited s ⊎ ((w : Word) × IsSourceWord s w)
 
 -- what may be taken may be taken under more assumptions
 abbrev pub MoreMayBeAssumed : Type 0

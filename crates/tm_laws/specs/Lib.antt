@@ -2,3 +2,4 @@ pub mod AnswerKinds
 pub mod AnswerLaws
 pub mod Laws
 pub mod PlacesApart
+pub mod WordLaws

@@ -19,7 +19,7 @@ module _ (P : Expanded → Type 0) where
     EachPart (tuple members) = EachField members
     EachPart (array t n) = P t × EachPart t
     EachPart (wrap w t) = P t × EachPart t
-    EachPart (named id kind repr variants) = EachVariant variants
+    EachPart (named profile id kind repr variants) = EachVariant variants
     EachPart t = Unit {0}
 
     pub EachField : Fields → Type 0
@@ -41,7 +41,7 @@ fields_within Union variants = take 1 variants
 fields_within Enum variants = variants
 
 abbrev pub fields_of_type : Expanded → List (List Layout)
-fields_of_type (named id kind repr variants) = fields_within kind (variant_layouts variants)
+fields_of_type (named profile id kind repr variants) = fields_within kind (variant_layouts variants)
 fields_of_type t = []
 
 -- the layout of a field of a variant, both counted from 0, where there is such a field
@@ -50,7 +50,7 @@ field_layout t variant_number field_number = option_and_then (λ fields. slice_g
 
 -- how many bytes of an enum its tag has, which stands first
 abbrev pub tag_size : Expanded → ℕ
-tag_size (named id Enum repr _) = (tag_layout repr.tag).size
+tag_size (named profile id Enum repr _) = (tag_layout profile repr.tag).size
 tag_size t = 0
 
 -- Of two fields that have these places and sizes, the later begins where the earlier ends or behind that.
@@ -61,8 +61,8 @@ AreStructOrdered true place size later later_size = (size ≡ 0) ⊎ (later_size
 
 -- The fields of a union may overlap.
 abbrev pub AreOrdered : Expanded → ℕ → ℕ → ℕ → ℕ → Type 0
-AreOrdered (named id Struct repr _) place size later later_size = AreStructOrdered repr.transparent place size later later_size
-AreOrdered (named id Enum repr _) place size later later_size = place + size ≤ later
+AreOrdered (named profile id Struct repr _) place size later later_size = AreStructOrdered repr.transparent place size later later_size
+AreOrdered (named profile id Enum repr _) place size later later_size = place + size ≤ later
 AreOrdered t place size later later_size = Unit {0}
 
 pub record HasFieldsApart (t : Expanded) : Type 0 where

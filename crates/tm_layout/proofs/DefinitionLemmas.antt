@@ -1,5 +1,5 @@
 -- What is known of a definition's type, from what is known of its fields.
-use Rattle.std.proofs.Common.{◌≡◌, ℕ, ◌≤◌, ◌<◌, max, nat_le, nat_lt, ◌==◌, refl, ap, ◌∙◌, subst, Bool, true, false, ◌||◌, ◌&&◌, not, IsTrue, None, List, [], ◌∷◌, length, arith}
+use Rattle.std.proofs.Common.{◌≡◌, ℕ, ◌≤◌, ◌<◌, max, nat_le, nat_lt, ◌==◌, refl, ap, ◌∙◌, subst, Bool, true, false, ◌||◌, ◌&&◌, not, IsTrue, List, [], ◌∷◌, length, arith}
 use Rattle.std.proofs.lemmas.Bool.Decides.{nat_tests}
 use Rattle.std.specs.List.{list_all}
 use Rattle.std.specs.Option.{is_some, is_none}
@@ -12,18 +12,17 @@ use Rattle.tm_base.specs.declared.ground.NamedId.{NamedId}
 use Rattle.tm_base.specs.Expanded.{Variants, named, no_fields, field, no_variants, variant}
 use Rattle.tm_base.specs.Faults.{is_nullable, variant_nullable, passes_i32, lacks_repr, lacks_range, has_two_sized, sized_count}
 use Rattle.tm_base.specs.Integers.{fits_signed}
+use Rattle.tm_base.specs.declared.profile.Profile.{Profile}
 use Rattle.tm_base.specs.Layout.{size_of, only, variant_layouts, tag_layout}
-use Rattle.tm_base.specs.Weight.{weight_of, struct_weight, union_weight, enum_weight}
+use Rattle.tm_base.specs.Weight.{weight_of, variant_weights, sum_from, variants_sum_from, named_weight}
 use Rattle.tm_base.specs.Whole.{is_def_in_form, is_repr_in_form, is_alignment, is_absent_or, are_variants_in_form, is_value_in_form, is_tag_in_form, field_total}
 use Rattle.tm_layout.specs.declared.facts.Facts.{Facts}
 use Rattle.tm_layout.specs.Capped.{capped}
 use Rattle.tm_layout.specs.Defined.{passes_i32_in, lacks_range_in, two_sized_in, nullable_in}
 use Rattle.tm_layout.specs.Known.{AreVariantFacts, AreVariantsFor}
-use Rattle.tm_layout.specs.Reckoned.{variant_layouts_in, only_fields, weight_sum, variant_sum, weight_in}
-use Rattle.tm_layout.specs.Refusals.{refusal_of, variant_refusal}
+use Rattle.tm_layout.specs.Reckoned.{variant_layouts_in}
 use Rattle.tm_layout.specs.Together.{variants_together}
-use Rattle.tm_layout.proofs.KnownLemmas.{variants-laid_out, fields-known, fields-laid_out, only-layouts}
-use Rattle.tm_layout.proofs.RefusalLemmas.{none-first}
+use Rattle.tm_layout.proofs.KnownLemmas.{fields-known, only-layouts}
 
 -- ---- what the form of a definition says
 
@@ -42,11 +41,11 @@ pub record InForm (kind : Kind) (repr : Repr) (vs : List Variant) : Type 0 where
   pub aligned : is_absent_or is_alignment repr.align ≡ true
   pub counted : are_variants_in_form kind vs ≡ true
 
-pub in_form : (def : Def) → IsTrue (is_def_in_form def) → InForm def.kind def.repr def.variants
-in_form def h =
+pub in_form : (profile : Profile) (def : Def) → IsTrue (is_def_in_form profile def) → InForm def.kind def.repr def.variants
+in_form profile def h =
     let fields = (both-true _ (nat_le (field_total def.variants) 256) h).0 in
     let count = (both-true _ (nat_le (length def.variants) 256) fields).0 in
-    let values = (both-true _ (list_all (λ v. is_value_in_form def.repr.tag v.value) def.variants) count).0 in
+    let values = (both-true _ (list_all (λ v. is_value_in_form profile def.repr.tag v.value) def.variants) count).0 in
     let counted = both-true _ (are_variants_in_form def.kind def.variants) values in
     let aligned = both-true _ (is_absent_or is_alignment def.repr.align) counted.0 in
     let written = both-true (is_repr_in_form def.kind def.repr def.variants) (is_absent_or is_alignment def.repr.packed) aligned.0 in
@@ -66,10 +65,10 @@ range-same Struct repr vs cases h = refl
 range-same Union repr vs cases h = refl
 range-same Enum repr vs cases h = ap (λ b. repr.c && is_none repr.tag && b) (passes-same vs cases h)
 
-pub two_sized-same : (id : NamedId) (kind : Kind) (repr : Repr) (cases : Variants) (facts : List (List Facts)) → variant_layouts_in facts ≡ variant_layouts cases → two_sized_in kind repr facts ≡ has_two_sized (named id kind repr cases)
-two_sized-same id Struct repr cases facts e = ap (λ ls. repr.transparent && nat_le 2 (sized_count ls)) (only-layouts facts ∙ ap only e)
-two_sized-same id Union repr cases facts e = refl
-two_sized-same id Enum repr cases facts e = refl
+pub two_sized-same : (profile : Profile) (id : NamedId) (kind : Kind) (repr : Repr) (cases : Variants) (facts : List (List Facts)) → variant_layouts_in facts ≡ variant_layouts cases → two_sized_in kind repr facts ≡ has_two_sized (named profile id kind repr cases)
+two_sized-same profile id Struct repr cases facts e = ap (λ ls. repr.transparent && nat_le 2 (sized_count ls)) (only-layouts facts ∙ ap only e)
+two_sized-same profile id Union repr cases facts e = refl
+two_sized-same profile id Enum repr cases facts e = refl
 
 one-nullable : (vs : List Variant) (cases : Variants) (facts : List (List Facts)) → AreVariantsFor vs cases → AreVariantFacts cases facts → length vs ≡ 1 → (variants_together facts).nullable ≡ variant_nullable cases
 unfolding is_nullable
@@ -84,52 +83,31 @@ one-nullable (v ∷ []) (variant value members no_variants) (fs ∷ []) h (known
   or_false true = refl
   or_false false = refl
 
-pub nullable-same : (id : NamedId) (kind : Kind) (repr : Repr) (vs : List Variant) (cases : Variants) (facts : List (List Facts)) → AreVariantsFor vs cases → AreVariantFacts cases facts → are_variants_in_form kind vs ≡ true
-    → nullable_in kind repr (variants_together facts).nullable ≡ is_nullable (named id kind repr cases)
+pub nullable-same : (profile : Profile) (id : NamedId) (kind : Kind) (repr : Repr) (vs : List Variant) (cases : Variants) (facts : List (List Facts)) → AreVariantsFor vs cases → AreVariantFacts cases facts → are_variants_in_form kind vs ≡ true
+    → nullable_in kind repr (variants_together facts).nullable ≡ is_nullable (named profile id kind repr cases)
 unfolding is_nullable
-nullable-same id Struct repr vs cases facts h k form = ap (λ b. repr.transparent && b) (one-nullable vs cases facts h k (is_equal (length vs) 1 form))
-nullable-same id Union repr vs cases facts h k form = refl
-nullable-same id Enum repr vs cases facts h k form = refl
+nullable-same profile id Struct repr vs cases facts h k form = ap (λ b. repr.transparent && b) (one-nullable vs cases facts h k (is_equal (length vs) 1 form))
+nullable-same profile id Union repr vs cases facts h k form = refl
+nullable-same profile id Enum repr vs cases facts h k form = refl
 
 -- ---- weights
 
-weight_sum-capped : (s : ℕ) (fs : List Facts) → capped (weight_sum (max 1 (capped s)) fs) ≡ capped (weight_sum (max 1 s) fs)
-weight_sum-capped s [] = refl
-weight_sum-capped s (f ∷ fs) = let e = weight_sum-capped s fs in omega arith
+sum_from-capped : (s : ℕ) (ws : List ℕ) → capped (sum_from (max 1 (capped s)) ws) ≡ capped (sum_from (max 1 s) ws)
+sum_from-capped s [] = refl
+sum_from-capped s (w ∷ ws) = let e = sum_from-capped s ws in omega arith
 
-variant_sum-capped : (s tag : ℕ) (facts : List (List Facts)) → capped (variant_sum (max 1 (capped s)) tag facts) ≡ capped (variant_sum (max 1 s) tag facts)
-variant_sum-capped s tag [] = refl
-variant_sum-capped s tag (fs ∷ facts) = let e = variant_sum-capped s tag facts in omega arith
+variants_sum-capped : (s tag : ℕ) (weights : List (List ℕ)) → capped (variants_sum_from (max 1 (capped s)) tag weights) ≡ capped (variants_sum_from (max 1 s) tag weights)
+variants_sum-capped s tag [] = refl
+variants_sum-capped s tag (ws ∷ weights) = let e = variants_sum-capped s tag weights in omega arith
 
-pub weight_in-capped : (kind : Kind) (repr : Repr) (s : ℕ) (facts : List (List Facts)) → capped (weight_in kind repr (capped s) facts) ≡ capped (weight_in kind repr s facts)
-weight_in-capped Struct repr s facts = omega arith
-weight_in-capped Union repr s facts = weight_sum-capped s (only_fields facts)
-weight_in-capped Enum repr s facts = variant_sum-capped s (tag_layout repr.tag).size facts
-
-struct-weight : (cases : Variants) (facts : List (List Facts)) → AreVariantFacts cases facts → variant_refusal cases ≡ None → weight_sum 0 (only_fields facts) ≡ struct_weight cases
-unfolding weight_of refusal_of
-struct-weight no_variants [] h none = refl
-struct-weight no_variants (fs ∷ facts) h none = absurd h
-struct-weight (variant value members rest) [] h none = absurd h
-struct-weight (variant value members rest) (fs ∷ facts) (known, others) none = (fields-laid_out members fs known (none-first _ (variant_refusal rest) none)).weight
-
-union-weight : (least : ℕ) (cases : Variants) (facts : List (List Facts)) → AreVariantFacts cases facts → variant_refusal cases ≡ None → weight_sum least (only_fields facts) ≡ union_weight least cases
-unfolding weight_of refusal_of
-union-weight least no_variants [] h none = refl
-union-weight least no_variants (fs ∷ facts) h none = absurd h
-union-weight least (variant value members rest) [] h none = absurd h
-union-weight least (variant value members rest) (fs ∷ facts) (known, others) none = (fields-laid_out members fs known (none-first _ (variant_refusal rest) none)).weights least
-
-pub weight-exact : (id : NamedId) (kind : Kind) (repr : Repr) (cases : Variants) (facts : List (List Facts)) → AreVariantFacts cases facts → variant_refusal cases ≡ None
-    → weight_in kind repr (size_of (named id kind repr cases)) facts ≡ weight_of (named id kind repr cases)
-unfolding weight_of
-weight-exact id Struct repr cases facts h none = ap (λ (w : ℕ). max (max 1 (size_of (named id Struct repr cases))) w) (struct-weight cases facts h none)
-weight-exact id Union repr cases facts h none = union-weight (max 1 (size_of (named id Union repr cases))) cases facts h none
-weight-exact id Enum repr cases facts h none = (variants-laid_out cases facts h none).weights (max 1 (size_of (named id Enum repr cases))) (tag_layout repr.tag).size
+pub weight-capped : (profile : Profile) (kind : Kind) (repr : Repr) (s : ℕ) (weights : List (List ℕ)) → capped (named_weight profile kind repr (capped s) weights) ≡ capped (named_weight profile kind repr s weights)
+weight-capped profile Struct repr s weights = omega arith
+weight-capped profile Union repr s weights = sum_from-capped s (only weights)
+weight-capped profile Enum repr s weights = variants_sum-capped s (tag_layout profile repr.tag).size weights
 
 -- ---- no more bytes than the weight
 
-union-heavier : (vs : List Variant) (cases : Variants) (s : ℕ) → AreVariantsFor vs cases → length vs ≡ 1 → 0 < field_total vs → s ≤ union_weight (max 1 s) cases
+union-heavier : (vs : List Variant) (cases : Variants) (s : ℕ) → AreVariantsFor vs cases → length vs ≡ 1 → 0 < field_total vs → s ≤ sum_from (max 1 s) (only (variant_weights cases))
 unfolding weight_of
 union-heavier [] cases s h one some = absurd (omega arith)
 union-heavier (v ∷ vs) no_variants s h one some = absurd h
@@ -137,18 +115,18 @@ union-heavier (v ∷ []) (variant value no_fields rest) s (same, count, others) 
 union-heavier (v ∷ u ∷ vs) (variant value no_fields rest) s h one some = absurd (omega arith)
 union-heavier (v ∷ vs) (variant value (field public t members) rest) s h one some = omega arith
 
-enum-heavier : (vs : List Variant) (cases : Variants) (s tag : ℕ) → AreVariantsFor vs cases → 0 < length vs → s ≤ enum_weight (max 1 s) tag cases
+enum-heavier : (vs : List Variant) (cases : Variants) (s tag : ℕ) → AreVariantsFor vs cases → 0 < length vs → s ≤ variants_sum_from (max 1 s) tag (variant_weights cases)
 unfolding weight_of
 enum-heavier [] cases s tag h some = absurd (omega arith)
 enum-heavier (v ∷ vs) no_variants s tag h some = absurd h
 enum-heavier (v ∷ vs) (variant value members rest) s tag h some = omega arith
 
-pub heavier : (id : NamedId) (kind : Kind) (repr : Repr) (vs : List Variant) (cases : Variants) → InForm kind repr vs → AreVariantsFor vs cases → lacks_repr kind repr ≡ false
-    → size_of (named id kind repr cases) ≤ weight_of (named id kind repr cases)
+pub heavier : (profile : Profile) (id : NamedId) (kind : Kind) (repr : Repr) (vs : List Variant) (cases : Variants) → InForm kind repr vs → AreVariantsFor vs cases → lacks_repr kind repr ≡ false
+    → size_of (named profile id kind repr cases) ≤ weight_of (named profile id kind repr cases)
 unfolding weight_of
-heavier id Struct repr vs cases form h has = omega arith
-heavier id Union repr vs cases form h has = let (one, some) = both-true (length vs == 1) (nat_lt 0 (field_total vs)) form.counted in
-    union-heavier vs cases (size_of (named id Union repr cases)) h (is_equal (length vs) 1 one) (is_below 0 (field_total vs) some)
-heavier id Enum repr vs cases form h has =
+heavier profile id Struct repr vs cases form h has = omega arith
+heavier profile id Union repr vs cases form h has = let (one, some) = both-true (length vs == 1) (nat_lt 0 (field_total vs)) form.counted in
+    union-heavier vs cases (size_of (named profile id Union repr cases)) h (is_equal (length vs) 1 one) (is_below 0 (field_total vs) some)
+heavier profile id Enum repr vs cases form h has =
     let some = (both-true (not repr.transparent && is_none repr.packed && is_none repr.align && is_tag_in_form repr vs repr.tag) (not (repr.c || is_some repr.tag) || nat_lt 0 (length vs)) form.written).1 in
-    enum-heavier vs cases (size_of (named id Enum repr cases)) (tag_layout repr.tag).size h (is_below 0 (length vs) (subst (λ b. (b || nat_lt 0 (length vs)) ≡ true) has some))
+    enum-heavier vs cases (size_of (named profile id Enum repr cases)) (tag_layout profile repr.tag).size h (is_below 0 (length vs) (subst (λ b. (b || nat_lt 0 (length vs)) ≡ true) has some))

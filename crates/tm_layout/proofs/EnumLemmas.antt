@@ -3,6 +3,7 @@ use Rattle.std.proofs.Common.{◌≡◌, ℕ, ◌+◌, ◌-◌, ◌≤◌, max, 
 use Rattle.tm_base.specs.declared.definition.Kind.{Kind}
 use Rattle.tm_base.specs.declared.definition.Kind.TheVariants.{Enum}
 use Rattle.tm_base.specs.declared.definition.Repr.{Repr}
+use Rattle.tm_base.specs.declared.profile.Profile.{Profile}
 use Rattle.tm_base.specs.Layout.{Layout, round_up, place_at, end_of, greatest_align, filled, empty_layout, struct_layout, union_layout, tag_layout, structs, enum_layout}
 use Rattle.std.proofs.Math.Nat.{mod_self, zero-mod}
 use Rattle.tm_layout.specs.declared.layouts.Layout.{Layout as Known}
@@ -54,21 +55,21 @@ pair-capped tag u k r known pair =
       above align size = omega arith
 
 -- an enum with `C`
-pub enum-c : (repr : Repr) (vs : List (List Layout)) (tag k r : Known) → repr.c ≡ true → shape tag ≡ tag_layout repr.tag → IsCapped (union_layout None None (structs (empty_layout ∷ []) vs)) k
-    → IsCapped (struct_layout None None (shape tag ∷ shape k ∷ [])) r → IsCapped (enum_layout repr vs) r
-enum-c repr vs tag k r c t known pair =
+pub enum-c : (profile : Profile) (repr : Repr) (vs : List (List Layout)) (tag k r : Known) → repr.c ≡ true → shape tag ≡ tag_layout profile repr.tag → IsCapped (union_layout None None (structs (empty_layout ∷ []) vs)) k
+    → IsCapped (struct_layout None None (shape tag ∷ shape k ∷ [])) r → IsCapped (enum_layout profile repr vs) r
+enum-c profile repr vs tag k r c t known pair =
     let u = union_layout None None (structs [] vs) in
     let exact : IsCapped u k = subst (λ ss. IsCapped (union_layout None None ss) k) (structs-empty vs) known in
-    let made : IsCapped (struct_layout None None (tag_layout repr.tag ∷ u ∷ [])) r =
-    pair-capped (tag_layout repr.tag) u k r exact (subst (λ l. IsCapped (struct_layout None None (l ∷ shape k ∷ [])) r) t pair) in
-    subst (λ b. IsCapped (if b then struct_layout None None (tag_layout repr.tag ∷ u ∷ []) else union_layout None None (structs (tag_layout repr.tag ∷ []) vs)) r) (sym c) made
+    let made : IsCapped (struct_layout None None (tag_layout profile repr.tag ∷ u ∷ [])) r =
+    pair-capped (tag_layout profile repr.tag) u k r exact (subst (λ l. IsCapped (struct_layout None None (l ∷ shape k ∷ [])) r) t pair) in
+    subst (λ b. IsCapped (if b then struct_layout None None (tag_layout profile repr.tag ∷ u ∷ []) else union_layout None None (structs (tag_layout profile repr.tag ∷ []) vs)) r) (sym c) made
 
 -- where the fields of an enum with `C` begin
-pub begin-c : (kind : Kind) (repr : Repr) (vs : List (List Layout)) (tag k : Known) (r : ℕ) → kind ≡ Enum → repr.c ≡ true → shape tag ≡ tag_layout repr.tag
-    → IsCapped (union_layout None None (structs (empty_layout ∷ []) vs)) k → r ≡ capped (round_up tag.size k.align) → r ≡ capped (begin_in kind repr vs)
-begin-c kind repr vs tag k r e c t known h =
+pub begin-c : (profile : Profile) (kind : Kind) (repr : Repr) (vs : List (List Layout)) (tag k : Known) (r : ℕ) → kind ≡ Enum → repr.c ≡ true → shape tag ≡ tag_layout profile repr.tag
+    → IsCapped (union_layout None None (structs (empty_layout ∷ []) vs)) k → r ≡ capped (round_up tag.size k.align) → r ≡ capped (begin_in profile kind repr vs)
+begin-c profile kind repr vs tag k r e c t known h =
     let align : k.align ≡ greatest_align None (structs [] vs) = known.align ∙ ap (λ ss. greatest_align None ss) (structs-empty vs) in
-    let begun : r ≡ capped (round_up (tag_layout repr.tag).size (greatest_align None (structs [] vs))) =
-    h ∙ ap (λ (l : Layout). capped (round_up l.size k.align)) t ∙ ap (λ (n : ℕ). capped (round_up (tag_layout repr.tag).size n)) align in
-    let chosen = subst (λ b. r ≡ capped (if b then round_up (tag_layout repr.tag).size (greatest_align None (structs [] vs)) else (tag_layout repr.tag).size)) (sym c) begun in
-    subst (λ k. r ≡ capped (begin_in k repr vs)) (sym e) chosen
+    let begun : r ≡ capped (round_up (tag_layout profile repr.tag).size (greatest_align None (structs [] vs))) =
+    h ∙ ap (λ (l : Layout). capped (round_up l.size k.align)) t ∙ ap (λ (n : ℕ). capped (round_up (tag_layout profile repr.tag).size n)) align in
+    let chosen = subst (λ b. r ≡ capped (if b then round_up (tag_layout profile repr.tag).size (greatest_align None (structs [] vs)) else (tag_layout profile repr.tag).size)) (sym c) begun in
+    subst (λ k. r ≡ capped (begin_in profile k repr vs)) (sym e) chosen

@@ -4,11 +4,11 @@ use Rattle.tm_base.specs.Expanded.{Fields, Variants, no_fields, field, no_varian
 use Rattle.tm_base.specs.Faults.{is_nullable, field_nullable, has_align}
 use Rattle.tm_base.specs.Layout.{Layout, layout_of, field_layouts, variant_layouts, only}
 use Rattle.tm_base.specs.Parts.{some_part, some_field, some_variant, is_cell}
-use Rattle.tm_base.specs.Weight.{weight_of, fields_weight, fields_weight_from, enum_weight}
+use Rattle.tm_base.specs.Weight.{weight_of, field_weights, variant_weights}
 use Rattle.tm_layout.specs.declared.facts.Facts.{Facts}
 use Rattle.tm_layout.specs.declared.parts.Parts.{Parts}
 use Rattle.tm_layout.specs.Known.{AreFactsOf, AreVariantFacts}
-use Rattle.tm_layout.specs.Reckoned.{layout_in, layouts_in, variant_layouts_in, only_fields, weight_sum, variant_sum}
+use Rattle.tm_layout.specs.Reckoned.{layout_in, layouts_in, variant_layouts_in, only_fields, weights_in, variant_weights_in}
 use Rattle.tm_layout.specs.Refusals.{refusal_of, field_refusal, variant_refusal}
 use Rattle.tm_layout.specs.Together.{fields_together, variants_together}
 use Rattle.tm_layout.proofs.RefusalLemmas.{none-first, none-second}
@@ -80,12 +80,11 @@ same-layout l k size align = ap (λ (n : ℕ). layout_from n l.align) size ∙ a
 pub record FieldsLaidOut (members : Fields) (fs : List Facts) : Type 0 where
   pub layouts : layouts_in fs ≡ field_layouts members
   pub aligned : AreAligned (field_layouts members)
-  pub weights : (least : ℕ) → weight_sum least fs ≡ fields_weight_from least members
-  pub weight : weight_sum 0 fs ≡ fields_weight members
+  pub weights : weights_in fs ≡ field_weights members
 
 pub fields-laid_out : (members : Fields) (fs : List Facts) → AreFactsOf members fs → field_refusal members ≡ None → FieldsLaidOut members fs
 unfolding refusal_of layout_of weight_of
-fields-laid_out no_fields [] h none = record { layouts = refl; aligned = tt; weights = λ least. refl; weight = refl }
+fields-laid_out no_fields [] h none = record { layouts = refl; aligned = tt; weights = refl }
 fields-laid_out no_fields (f ∷ fs) h none = absurd h
 fields-laid_out (field public t rest) [] h none = absurd h
 fields-laid_out (field public t rest) (f ∷ fs) (known, others) none =
@@ -94,22 +93,21 @@ fields-laid_out (field public t rest) (f ∷ fs) (known, others) none =
     let align = l.align in
     let weight = l.weight in
     let small = l.aligned in
-    let sum = k.weight in
+    let weights = k.weights in
     record {
       layouts = ap (λ x. x ∷ layouts_in fs) (same-layout (layout_in f) (layout_of t) l.size l.align) ∙ ap (λ xs. layout_of t ∷ xs) k.layouts;
       aligned = (omega arith, k.aligned);
-      weights = λ least. let more = k.weights least in omega arith;
-      weight = omega arith;
+      weights = cc;
     }
 
 pub record VariantsLaidOut (variants : Variants) (facts : List (List Facts)) : Type 0 where
   pub layouts : variant_layouts_in facts ≡ variant_layouts variants
   pub aligned : AreVariantsAligned (variant_layouts variants)
-  pub weights : (least tag : ℕ) → variant_sum least tag facts ≡ enum_weight least tag variants
+  pub weights : variant_weights_in facts ≡ variant_weights variants
 
 pub variants-laid_out : (variants : Variants) (facts : List (List Facts)) → AreVariantFacts variants facts → variant_refusal variants ≡ None → VariantsLaidOut variants facts
 unfolding refusal_of layout_of weight_of
-variants-laid_out no_variants [] h none = record { layouts = refl; aligned = tt; weights = λ least tag. refl }
+variants-laid_out no_variants [] h none = record { layouts = refl; aligned = tt; weights = refl }
 variants-laid_out no_variants (fs ∷ facts) h none = absurd h
 variants-laid_out (variant value members rest) [] h none = absurd h
 variants-laid_out (variant value members rest) (fs ∷ facts) (known, others) none =
@@ -117,11 +115,12 @@ variants-laid_out (variant value members rest) (fs ∷ facts) (known, others) no
     let k = variants-laid_out rest facts others (none-second (field_refusal members) (variant_refusal rest) none) in
     let first = l.layouts in
     let layouts = k.layouts in
-    let weight = l.weight in
+    let weight = l.weights in
+    let weights = k.weights in
     record {
       layouts = cc;
       aligned = (l.aligned, k.aligned);
-      weights = λ least tag. let more = k.weights least tag in omega arith;
+      weights = cc;
     }
 
 -- the only fields of a struct or a union

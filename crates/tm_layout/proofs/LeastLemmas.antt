@@ -1,5 +1,5 @@
 -- Of the types that are gone through, the one at fault whose text is least.
-use Rattle.std.proofs.Common.{◌≡◌, ℕ, refl, sym, ap, subst, ◌∙◌, ◌⊎◌, inl, inr, ⊎_elim, Bool, true, false, true≢false, if◌then◌else◌, List, [], ◌∷◌, ◌++◌, length, map, Option, Some, None, Contains, All, arith}
+use Rattle.std.proofs.Common.{◌≡◌, ℕ, refl, sym, ap, subst, ◌∙◌, ◌⊎◌, inl, inr, ⊎_elim, Bool, true, false, true≢false, if◌then◌else◌, List, [], ◌∷◌, ◌++◌, Option, Some, None, Contains, arith}
 use Rattle.std.proofs.lemmas.Bool.{false_from_ne_true}
 use Rattle.std.proofs.lemmas.List.Elements.{Contains-append_left, Contains-append_right, Contains-append_cases}
 use Rattle.tm_base.specs.declared.answer.Why.{Why}
@@ -12,7 +12,7 @@ use Rattle.tm_base.specs.Texts.{text_of}
 use Rattle.tm_base.proofs.JudgedLemmas.{Contains-one}
 use Rattle.tm_layout.specs.declared.refused.Refused.{Refused}
 use Rattle.tm_layout.specs.Least.{IsRefused, IsLeast, AreSound, IsLeastAnswer}
-use Rattle.tm_layout.specs.Named.{IsFirstRefused, IsRefusedAnswer}
+use Rattle.tm_layout.specs.Named.{IsFirstRefused}
 use Rattle.tm_layout.specs.Reached.{AreReached}
 use Rattle.tm_layout.proofs.TextLemmas.{text_less-irrefl, text_less-trans}
 

@@ -6,6 +6,7 @@ use Rattle.tm_base.specs.declared.definition.Kind.{Kind}
 use Rattle.tm_base.specs.declared.definition.Kind.TheVariants.{Struct, Union, Enum}
 use Rattle.tm_base.specs.declared.definition.Repr.{Repr}
 use Rattle.tm_base.specs.declared.ground.Primitive.{Primitive}
+use Rattle.tm_base.specs.declared.profile.Profile.{Profile}
 use Rattle.tm_base.specs.Layout.{Layout, lowered, raised, greatest_align, is_trivial, transparent_layout, struct_layout, union_layout, structs, tag_layout, named_layout, only}
 use Rattle.tm_base.specs.Whole.{is_alignment, is_absent_or}
 use Rattle.tm_layout.proofs.FactLemmas.{prim_size-small}
@@ -50,13 +51,13 @@ transparent-small : (ls : List Layout) → AreAligned ls → (transparent_layout
 transparent-small [] h = omega arith
 transparent-small (l ∷ ls) (small, others) = either-small (is_trivial l) (transparent_layout ls) l (transparent-small ls others) small
 
-pub tag-small : (tag : Option Primitive) → (tag_layout tag).align ≤ 2 ^ 29
-tag-small None = omega arith
-tag-small (Some p) = omega (arith, prim_size-small p)
+pub tag-small : (profile : Profile) (tag : Option Primitive) → (tag_layout profile tag).align ≤ 2 ^ 29
+tag-small profile None = omega arith
+tag-small profile (Some p) = omega (arith, prim_size-small profile p)
 
-pub tag_size-small : (tag : Option Primitive) → (tag_layout tag).size ≤ 2 ^ 29
-tag_size-small None = omega arith
-tag_size-small (Some p) = omega (arith, prim_size-small p)
+pub tag_size-small : (profile : Profile) (tag : Option Primitive) → (tag_layout profile tag).size ≤ 2 ^ 29
+tag_size-small profile None = omega arith
+tag_size-small profile (Some p) = omega (arith, prim_size-small profile p)
 
 append-aligned : (ls ks : List Layout) → AreAligned ls → AreAligned ks → AreAligned (ls ++ ks)
 append-aligned [] ks a b = b
@@ -70,19 +71,19 @@ only-aligned : (vs : List (List Layout)) → AreVariantsAligned vs → AreAligne
 only-aligned [] h = tt
 only-aligned (ls ∷ vs) (small, others) = small
 
-enum-small : (repr : Repr) (vs : List (List Layout)) (c : Bool) → AreVariantsAligned vs
-    → (if c then struct_layout None None (tag_layout repr.tag ∷ union_layout None None (structs [] vs) ∷ []) else union_layout None None (structs (tag_layout repr.tag ∷ []) vs)).align ≤ 2 ^ 29
-enum-small repr vs true h =
-    omega (arith, tag-small repr.tag, greatest-small None (structs [] vs) (structs-aligned [] vs tt h))
-enum-small repr vs false h =
-    greatest-small None (structs (tag_layout repr.tag ∷ []) vs) (structs-aligned (tag_layout repr.tag ∷ []) vs (tag-small repr.tag, tt) h)
+enum-small : (profile : Profile) (repr : Repr) (vs : List (List Layout)) (c : Bool) → AreVariantsAligned vs
+    → (if c then struct_layout None None (tag_layout profile repr.tag ∷ union_layout None None (structs [] vs) ∷ []) else union_layout None None (structs (tag_layout profile repr.tag ∷ []) vs)).align ≤ 2 ^ 29
+enum-small profile repr vs true h =
+    omega (arith, tag-small profile repr.tag, greatest-small None (structs [] vs) (structs-aligned [] vs tt h))
+enum-small profile repr vs false h =
+    greatest-small None (structs (tag_layout profile repr.tag ∷ []) vs) (structs-aligned (tag_layout profile repr.tag ∷ []) vs (tag-small profile repr.tag, tt) h)
 
 struct-small : (repr : Repr) (ls : List Layout) (b : Bool) → is_absent_or is_alignment repr.align ≡ true → AreAligned ls
     → (if b then transparent_layout ls else struct_layout repr.packed repr.align ls).align ≤ 2 ^ 29
 struct-small repr ls true h a = transparent-small ls a
 struct-small repr ls false h a = raised-small repr.align (greatest_align repr.packed ls) h (greatest-small repr.packed ls a)
 
-pub named-small : (kind : Kind) (repr : Repr) (vs : List (List Layout)) → is_absent_or is_alignment repr.align ≡ true → AreVariantsAligned vs → (named_layout kind repr vs).align ≤ 2 ^ 29
-named-small Struct repr vs h a = struct-small repr (only vs) repr.transparent h (only-aligned vs a)
-named-small Union repr vs h a = raised-small repr.align (greatest_align repr.packed (only vs)) h (greatest-small repr.packed (only vs) (only-aligned vs a))
-named-small Enum repr vs h a = enum-small repr vs repr.c a
+pub named-small : (profile : Profile) (kind : Kind) (repr : Repr) (vs : List (List Layout)) → is_absent_or is_alignment repr.align ≡ true → AreVariantsAligned vs → (named_layout profile kind repr vs).align ≤ 2 ^ 29
+named-small profile Struct repr vs h a = struct-small repr (only vs) repr.transparent h (only-aligned vs a)
+named-small profile Union repr vs h a = raised-small repr.align (greatest_align repr.packed (only vs)) h (greatest-small repr.packed (only vs) (only-aligned vs a))
+named-small profile Enum repr vs h a = enum-small profile repr vs repr.c a

@@ -23,7 +23,7 @@ use Rattle.tm_base.specs.Worlds.{tables_of}
 use Rattle.tm_base.proofs.WorldLemmas.{field-in_form, list_all-at, passes-whole}
 use Rattle.tm_layout.specs.declared.row.RowFacts.{RowFacts}
 use Rattle.tm_layout.specs.Made.{EachIs, IsKnown, IsRowOf, is_missing, is_unmade, lacks_row, made_in, row_at}
-use Rattle.tm_layout.specs.Making.{AreKnown, AreRowsClosed, Grows, IsGrown, IsWhole}
+use Rattle.tm_layout.specs.Making.{AreKnown, AreRowsClosed, Grows, IsGrown, IsWrittenOut}
 use Rattle.tm_layout.proofs.NodeLemmas.{all_nodes, element-nodes, nodes_in, nodes_of, row_nodes, variants-nodes}
 use Rattle.tm_layout.proofs.RowLemmas.{first_true, second_true, named-level}
 use Rattle.tm_layout.proofs.TableLemmas.{both_false, known-all, known-Array, known-level, known-Tuple, known-whole, known-Wrap, level-known, one_level, row-known, within_weaker, wrapped-other}
@@ -39,51 +39,51 @@ pub row-in_form : (world : World) (k : ℕ) (row : NamedRow) → slice_get world
 unfolding are_rows_in_form
 row-in_form world k row at = list_all-at (λ one. is_row_of (slice_get world.defs one.def.0) one) world.named k row world.rows_in_form at
 
-pub row-whole : (world : World) (k : ℕ) (row : NamedRow) → slice_get world.named k ≡ Some row → EachIs (EachIs (IsWhole (tables_of world))) row.types
+pub row-whole : (world : World) (k : ℕ) (row : NamedRow) → slice_get world.named k ≡ Some row → EachIs (EachIs (IsWrittenOut (tables_of world))) row.types
 row-whole world k row at v types at_v f g at_f = record { whole = passes-whole world g (field-in_form world k v f row types g at at_v at_f) }
 
 -- ---- whole types
 
 module _ (tables : Tables) where
-  whole-known : (g : Ground) → IsWhole tables g → IsKnown tables [] g
+  whole-known : (g : Ground) → IsWrittenOut tables g → IsKnown tables [] g
   whole-known g whole = known-all tables [] (λ k. refl) g whole.whole
 
-  known-is-whole : (g : Ground) → IsKnown tables [] g → IsWhole tables g
+  known-is-whole : (g : Ground) → IsKnown tables [] g → IsWrittenOut tables g
   known-is-whole g known = record { whole = known-whole tables [] g known }
 
-  whole-level : (g : Ground) (x : Ground-F Ground) → IsWhole tables g → out-Ground g ≡ x → expanded_in tables g ≡ one_level tables [] x
+  whole-level : (g : Ground) (x : Ground-F Ground) → IsWrittenOut tables g → out-Ground g ≡ x → expanded_in tables g ≡ one_level tables [] x
   whole-level g x whole e = known-level tables [] g x (whole-known g whole) e
 
-  pub whole-Tuple : (g : Ground) (gs : List Ground) → IsWhole tables g → out-Ground g ≡ Ground-F.Tuple gs → EachIs (IsWhole tables) gs
+  pub whole-Tuple : (g : Ground) (gs : List Ground) → IsWrittenOut tables g → out-Ground g ≡ Ground-F.Tuple gs → EachIs (IsWrittenOut tables) gs
   whole-Tuple g gs whole e k x at = known-is-whole x (known-Tuple tables [] g gs (whole-known g whole) e k x at)
 
-  pub whole-Array : (g element : Ground) (n : ℕ) → IsWhole tables g → out-Ground g ≡ Ground-F.Array element n → IsWhole tables element
+  pub whole-Array : (g element : Ground) (n : ℕ) → IsWrittenOut tables g → out-Ground g ≡ Ground-F.Array element n → IsWrittenOut tables element
   whole-Array g element n whole e = known-is-whole element (known-Array tables [] g element n (whole-known g whole) e)
 
-  pub whole-Wrap : (g argument : Ground) (w : Wrapper) → (w ≡ wrapper.PhantomData → ⊥) → IsWhole tables g → out-Ground g ≡ Ground-F.Wrap w argument → IsWhole tables argument
+  pub whole-Wrap : (g argument : Ground) (w : Wrapper) → (w ≡ wrapper.PhantomData → ⊥) → IsWrittenOut tables g → out-Ground g ≡ Ground-F.Wrap w argument → IsWrittenOut tables argument
   whole-Wrap g argument w other whole e = known-is-whole argument (known-Wrap tables [] g argument w other (whole-known g whole) e)
 
   -- a whole named type has a row
-  pub whole-there : (id : NamedId) → IsWhole tables (Named id) → slice_get tables.named id.0 ≡ None → ⊥
+  pub whole-there : (id : NamedId) → IsWrittenOut tables (Named id) → slice_get tables.named id.0 ≡ None → ⊥
   whole-there id whole none =
       let (present, there) = row-known tables [] id (slice_get tables.named id.0) (level-known tables [] (Named id) (Ground-F.Named id) (whole-known (Named id) whole) (ground_is.outs-Named id)) in
       there none
 
   -- ---- the measure falls
 
-  pub nodes-Tuple : (g : Ground) (gs : List Ground) → IsWhole tables g → out-Ground g ≡ Ground-F.Tuple gs → nodes_in tables g ≡ 3 + all_nodes tables gs
+  pub nodes-Tuple : (g : Ground) (gs : List Ground) → IsWrittenOut tables g → out-Ground g ≡ Ground-F.Tuple gs → nodes_in tables g ≡ 3 + all_nodes tables gs
   unfolding nodes_of
   nodes-Tuple g gs whole e = ap nodes_of (whole-level g (Ground-F.Tuple gs) whole e) ∙ ap (λ n. 3 + n) (element-nodes tables gs)
 
-  pub nodes-Array : (g element : Ground) (n : ℕ) → IsWhole tables g → out-Ground g ≡ Ground-F.Array element n → nodes_in tables g ≡ 3 + nodes_in tables element
+  pub nodes-Array : (g element : Ground) (n : ℕ) → IsWrittenOut tables g → out-Ground g ≡ Ground-F.Array element n → nodes_in tables g ≡ 3 + nodes_in tables element
   unfolding nodes_of
   nodes-Array g element n whole e = ap nodes_of (whole-level g (Ground-F.Array element n) whole e)
 
-  pub nodes-Wrap : (g argument : Ground) (w : Wrapper) → (w ≡ wrapper.PhantomData → ⊥) → IsWhole tables g → out-Ground g ≡ Ground-F.Wrap w argument → nodes_in tables g ≡ 3 + nodes_in tables argument
+  pub nodes-Wrap : (g argument : Ground) (w : Wrapper) → (w ≡ wrapper.PhantomData → ⊥) → IsWrittenOut tables g → out-Ground g ≡ Ground-F.Wrap w argument → nodes_in tables g ≡ 3 + nodes_in tables argument
   unfolding nodes_of
   nodes-Wrap g argument w other whole e = ap nodes_of (whole-level g (Ground-F.Wrap w argument) whole e ∙ wrapped-other tables [] w argument other)
 
-  pub nodes-row : (id : NamedId) (row : NamedRow) → IsWhole tables (Named id) → slice_get tables.named id.0 ≡ Some row → is_row_of (slice_get tables.defs row.def.0) row ≡ true
+  pub nodes-row : (id : NamedId) (row : NamedRow) → IsWrittenOut tables (Named id) → slice_get tables.named id.0 ≡ Some row → is_row_of (slice_get tables.defs row.def.0) row ≡ true
       → nodes_in tables (Named id) ≡ 5 + row_nodes tables row.types
   unfolding nodes_of
   nodes-row id row whole at in_form =
@@ -93,7 +93,7 @@ module _ (tables : Tables) where
   -- ---- from the parts to the type
 
   module _ (rows : List (Option RowFacts)) where
-    pub known-from : (g : Ground) (x : Ground-F Ground) → IsWhole tables g → out-Ground g ≡ x → some_within (lacks_row rows) (one_level tables [] x) ≡ false → IsKnown tables rows g
+    pub known-from : (g : Ground) (x : Ground-F Ground) → IsWrittenOut tables g → out-Ground g ≡ x → some_within (lacks_row rows) (one_level tables [] x) ≡ false → IsKnown tables rows g
     known-from g x whole e none = record { none_lacks = ap (some_within (lacks_row rows)) (whole-level g x whole e) ∙ none }
 
     members-known : (gs : List Ground) → EachIs (IsKnown tables rows) gs → some_field (lacks_row rows) (elements (expanded_in tables) gs) ≡ false
@@ -102,15 +102,15 @@ module _ (tables : Tables) where
     members-known (g ∷ gs) known =
         both_false (some_within (lacks_row rows) (expanded_in tables g)) (some_field (lacks_row rows) (elements (expanded_in tables) gs)) (known 0 g refl).none_lacks (members-known gs (λ k x at. known (suc k) x at))
 
-    pub known-of-Tuple : (g : Ground) (gs : List Ground) → IsWhole tables g → out-Ground g ≡ Ground-F.Tuple gs → EachIs (IsKnown tables rows) gs → IsKnown tables rows g
+    pub known-of-Tuple : (g : Ground) (gs : List Ground) → IsWrittenOut tables g → out-Ground g ≡ Ground-F.Tuple gs → EachIs (IsKnown tables rows) gs → IsKnown tables rows g
     unfolding some_part
     known-of-Tuple g gs whole e known = known-from g (Ground-F.Tuple gs) whole e (members-known gs known)
 
-    pub known-of-Array : (g element : Ground) (n : ℕ) → IsWhole tables g → out-Ground g ≡ Ground-F.Array element n → IsKnown tables rows element → IsKnown tables rows g
+    pub known-of-Array : (g element : Ground) (n : ℕ) → IsWrittenOut tables g → out-Ground g ≡ Ground-F.Array element n → IsKnown tables rows element → IsKnown tables rows g
     unfolding some_part
     known-of-Array g element n whole e known = known-from g (Ground-F.Array element n) whole e known.none_lacks
 
-    pub known-of-Wrap : (g argument : Ground) (w : Wrapper) → (w ≡ wrapper.PhantomData → ⊥) → IsWhole tables g → out-Ground g ≡ Ground-F.Wrap w argument → IsKnown tables rows argument → IsKnown tables rows g
+    pub known-of-Wrap : (g argument : Ground) (w : Wrapper) → (w ≡ wrapper.PhantomData → ⊥) → IsWrittenOut tables g → out-Ground g ≡ Ground-F.Wrap w argument → IsKnown tables rows argument → IsKnown tables rows g
     unfolding some_part
     known-of-Wrap g argument w other whole e known =
         known-from g (Ground-F.Wrap w argument) whole e (ap (some_within (lacks_row rows)) (wrapped-other tables [] w argument other) ∙ known.none_lacks)
@@ -133,7 +133,7 @@ module _ (tables : Tables) where
         (variants-known vs types (second_true _ (has_its_types vs types) h) (λ k x at. known (suc k) x at))
 
     -- a named type is known where its row is made and its fields' types are known
-    pub known-of-row : (id : NamedId) (row : NamedRow) → IsWhole tables (Named id) → slice_get tables.named id.0 ≡ Some row → is_row_of (slice_get tables.defs row.def.0) row ≡ true
+    pub known-of-row : (id : NamedId) (row : NamedRow) → IsWrittenOut tables (Named id) → slice_get tables.named id.0 ≡ Some row → is_row_of (slice_get tables.defs row.def.0) row ≡ true
         → is_missing rows id.0 ≡ false → AreKnown tables rows row.types → IsKnown tables rows (Named id)
     unfolding some_part
     known-of-row id row whole at in_form made known =
@@ -148,16 +148,16 @@ module _ (tables : Tables) where
   module _ (before after : List (Option RowFacts)) (grows : Grows before after) where
     lacks-grown : (t : Expanded) → lacks_row before t ≡ false → lacks_row after t ≡ false
     lacks-grown too_deep h = h
-    lacks-grown (prim _) h = refl
+    lacks-grown (prim _ _) h = refl
     lacks-grown never h = refl
     lacks-grown unit h = refl
     lacks-grown (tuple _) h = refl
     lacks-grown (array _ _) h = refl
-    lacks-grown (nonzero _) h = refl
+    lacks-grown (nonzero _ _) h = refl
     lacks-grown phantom h = refl
     lacks-grown (wrap _ _) h = refl
-    lacks-grown (ref _) h = refl
-    lacks-grown (named id _ _ _) h = grows.kept id.0 h
+    lacks-grown (ref _ _) h = refl
+    lacks-grown (named _ id _ _ _) h = grows.kept id.0 h
 
     -- what is known stays known
     pub known-grown : (g : Ground) → IsKnown tables before g → IsKnown tables after g
@@ -190,7 +190,7 @@ length-put (y ∷ ys) zero x = refl
 length-put (y ∷ ys) (suc i) x = ap (λ (n : ℕ). suc n) (length-put ys i x)
 
 module _ (tables : Tables) (rows : List (Option RowFacts)) (id : NamedId) (row : NamedRow) (made : RowFacts)
-    (below : id.0 < length rows) (closed : AreRowsClosed tables rows) (whole : IsWhole tables (Named id)) (at : slice_get tables.named id.0 ≡ Some row)
+    (below : id.0 < length rows) (closed : AreRowsClosed tables rows) (whole : IsWrittenOut tables (Named id)) (at : slice_get tables.named id.0 ≡ Some row)
     (in_form : is_row_of (slice_get tables.defs row.def.0) row ≡ true) (known : AreKnown tables rows row.types) (right : IsRowOf (expanded_in tables (Named id)) made) where
   abbrev after : List (Option RowFacts)
   after = slice_set rows id.0 (Some made)

@@ -15,7 +15,7 @@ unfoldable mutual
   nodes_of (tuple members) = 3 + field_nodes members
   nodes_of (array t n) = 3 + nodes_of t
   nodes_of (wrap w t) = 3 + nodes_of t
-  nodes_of (named id kind repr variants) = 5 + variant_nodes variants
+  nodes_of (named profile id kind repr variants) = 5 + variant_nodes variants
   nodes_of _ = 1
 
   pub field_nodes : Fields → ℕ

@@ -1,5 +1,5 @@
 -- What a type over a world reaches is over the world too.
-use Rattle.std.proofs.Common.{◌≡◌, ℕ, zero, suc, refl, sym, ◌∙◌, ap, subst, ⊎_elim, Bool, true, false, ◌&&◌, ◌||◌, not, IsTrue, List, [], ◌∷◌, ◌++◌, map, length, Option, Some, None, slice_get, Contains, arith}
+use Rattle.std.proofs.Common.{◌≡◌, ℕ, zero, suc, refl, sym, ◌∙◌, ap, subst, ⊎_elim, Bool, true, false, ◌&&◌, ◌||◌, not, List, [], ◌∷◌, ◌++◌, map, length, Some, None, slice_get, Contains, arith}
 use Rattle.std.specs.List.{list_all, flat_map, range_with_len}
 use Rattle.std.proofs.lemmas.List.Elements.{Contains-append_cases}
 use Rattle.std.proofs.lemmas.List.Folds.{list_all-append, list_all-map}
@@ -17,7 +17,7 @@ use Rattle.tm_base.specs.Whole.{written_types, is_head_in_form, is_type_over, is
 use Rattle.tm_base.specs.Worlds.{tables_of, IsTypeOver}
 use Rattle.tm_base.proofs.ExpandedLemmas.{expanded-level}
 use Rattle.tm_base.proofs.GroundLemmas.{written_types-Tuple, written_types-Array, written_types-Wrap}
-use Rattle.tm_base.proofs.JudgedLemmas.{LeadsIn-keeps, Contains-none, Contains-one}
+use Rattle.tm_base.proofs.JudgedLemmas.{ChainIn-keeps, Contains-none, Contains-one}
 use Rattle.tm_base.proofs.WorldLemmas.{list_all-at}
 
 both_pass : (a b : Bool) → (a && b) ≡ true → (a ≡ true) × (b ≡ true)
@@ -88,13 +88,13 @@ module _ (world : World) where
   formed g = list_all head (written_types g)
 
   abbrev part : Ground → Expanded
-  part = expanded world.defs world.named
+  part = expanded world.profile world.defs world.named
 
   abbrev passes : Ground → Bool
-  passes = is_type_in_form world.defs world.named world.refs
+  passes = is_type_in_form world.profile world.defs world.named world.refs
 
   abbrev over : Ground → Bool
-  over = is_type_over world.defs world.named world.refs
+  over = is_type_over world.profile world.defs world.named world.refs
 
   over-from : (g : Ground) → formed g ≡ true → is_whole (part g) ≡ true → over g ≡ true
   unfolding is_type_over
@@ -105,13 +105,16 @@ module _ (world : World) where
   over-parts g h = both_pass (formed g) (is_whole (part g)) h
 
   passes-parts : (g : Ground) → passes g ≡ true → (head g ≡ true) × (is_whole (part g) ≡ true)
-  passes-parts g h = both_pass (head g) (is_whole (part g)) (both_pass (head g && is_whole (part g)) (ends (spelled world.refs g)) h).0
+  passes-parts g h = both_pass (head g) (is_whole (part g)) (both_pass (head g && is_whole (part g)) (ends (spelled world.named world.refs g)) h).0
 
   written-over : (g : Ground) → list_all passes (written_types g) ≡ true → over g ≡ true
   written-over g h =
       over-from g
       (list_all-weaker passes head (λ k p. (passes-parts k p).0) (written_types g) h)
       (passes-parts g (list_all-in passes (written_types g) g h (written-first g))).1
+
+  abbrev arguments : List Ground
+  arguments = flat_map (λ row. row.args) world.named
 
   abbrev fields : List Ground
   fields = flat_map (λ row. flat_map (λ types. types) row.types) world.named
@@ -125,21 +128,22 @@ module _ (world : World) where
   abbrev names : List Ground
   names = map (λ k. Named (record { 0 = k })) (range_with_len 0 (length world.named))
 
-  all_written : list_all passes (names ++ flat_map written_types (fields ++ pointees ++ asked)) ≡ true
+  all_written : list_all passes (names ++ flat_map written_types (arguments ++ fields ++ pointees ++ asked)) ≡ true
   unfolding are_types_in_form
   all_written = world.types_in_form
 
-  all_over : list_all over (fields ++ pointees ++ asked) ≡ true
+  all_over : list_all over (arguments ++ fields ++ pointees ++ asked) ≡ true
   all_over =
-      list_all-weaker (λ g. list_all passes (written_types g)) over written-over (fields ++ pointees ++ asked)
-      (sym (list_all-flat_map passes written_types (fields ++ pointees ++ asked))
+      list_all-weaker (λ g. list_all passes (written_types g)) over written-over (arguments ++ fields ++ pointees ++ asked)
+      (sym (list_all-flat_map passes written_types (arguments ++ fields ++ pointees ++ asked))
       ∙ (both_pass (list_all passes names) _ (sym (list_all-append passes names _) ∙ all_written)).1)
 
   rows_over : (list_all over fields ≡ true) × (list_all over pointees ≡ true)
   rows_over =
-      both_pass (list_all over fields) (list_all over pointees)
-      (sym (list_all-append over fields pointees)
-      ∙ (both_pass (list_all over (fields ++ pointees)) (list_all over asked) (sym (list_all-append over (fields ++ pointees) asked) ∙ all_over)).0)
+      let unasked = both_pass (list_all over (arguments ++ fields ++ pointees)) (list_all over asked) (sym (list_all-append over (arguments ++ fields ++ pointees) asked) ∙ all_over) in
+      let parts = both_pass (list_all over (arguments ++ fields)) (list_all over pointees) (sym (list_all-append over (arguments ++ fields) pointees) ∙ unasked.0) in
+      let held = both_pass (list_all over arguments) (list_all over fields) (sym (list_all-append over arguments fields) ∙ parts.0) in
+      (held.1, parts.1)
 
   -- the types of a named type's fields are over the world
   field-over : (k : ℕ) (h : Ground) → Contains (row_parts (slice_get world.named k)) h → over h ≡ true
@@ -191,8 +195,8 @@ module _ (world : World) where
     k-formed : formed k ≡ true
     k-formed = one-formed g k (ap written_types same ∙ written_types-Wrap w k ∙ ap (λ x. x ∷ written_types k) (sym same)) both.0
 
-    leveled : part g ≡ level part world.defs world.named (Ground-F.Wrap w k)
-    leveled = expanded-level world.defs world.named g both.1 ∙ ap (level part world.defs world.named) e
+    leveled : part g ≡ level part world.profile world.defs world.named (Ground-F.Wrap w k)
+    leveled = expanded-level world.profile world.defs world.named g both.1 ∙ ap (level part world.profile world.defs world.named) e
 
     held : part g ≡ wrap w (part k) → Contains (k ∷ []) h → over h ≡ true
     held is in_it = subst (λ x. over x ≡ true) (Contains-one k h in_it) (over-from k k-formed (one-whole g k w is both.1))
@@ -213,14 +217,14 @@ module _ (world : World) where
       let all : list_all head (Tuple gs ∷ flat_map written_types gs) ≡ true = sym (ap (list_all head) (ap written_types same ∙ written_types-Tuple gs)) ∙ both.0 in
       let each : list_all formed gs ≡ true = sym (list_all-flat_map head written_types gs) ∙ (both_pass (head (Tuple gs)) (list_all head (flat_map written_types gs)) all).1 in
       over-from h (list_all-in formed gs h each at)
-      (members-whole g gs h (expanded-level world.defs world.named g both.1 ∙ ap (level part world.defs world.named) e) both.1 at)
+      (members-whole g gs h (expanded-level world.profile world.defs world.named g both.1 ∙ ap (level part world.profile world.defs world.named) e) both.1 at)
 
   element-over : (g k h : Ground) (n : ℕ) → out-Ground g ≡ Ground-F.Array k n → over g ≡ true → Contains (k ∷ []) h → over h ≡ true
   element-over g k h n e o at =
       let both = over-parts g o in
       let same : g ≡ Array k n = sym (roll-out-Ground g) ∙ ap roll-Ground e ∙ rolls-Array k n in
       let f = one-formed g k (ap written_types same ∙ written_types-Array k n ∙ ap (λ x. x ∷ written_types k) (sym same)) both.0 in
-      let w = element-whole g k n (expanded-level world.defs world.named g both.1 ∙ ap (level part world.defs world.named) e) both.1 in
+      let w = element-whole g k n (expanded-level world.profile world.defs world.named g both.1 ∙ ap (level part world.profile world.defs world.named) e) both.1 in
       subst (λ x. over x ≡ true) (Contains-one k h at) (over-from k f w)
 
   step-over : (g h : Ground) (x : Ground-F Ground) → out-Ground g ≡ x → over g ≡ true → Contains (parts_within world.named x ++ pointees_within world.refs x) h → over h ≡ true
@@ -237,4 +241,4 @@ module _ (world : World) where
   -- what is reached is over the world
   pub reached-over : (g h : Ground) → IsTypeOver (tables_of world) g → Reaches (tables_of world) g h → IsTypeOver (tables_of world) h
   reached-over g h o (n, way) =
-      LeadsIn-keeps (Enters (tables_of world)) (λ k. over k ≡ true) (λ a b p step. step-over a b (out-Ground a) refl p step) n g h o way
+      ChainIn-keeps (Enters (tables_of world)) (λ k. over k ≡ true) (λ a b p step. step-over a b (out-Ground a) refl p step) n g h o way

@@ -4,10 +4,10 @@ use Rattle.std.specs.List.{AllByRecursion}
 use Rattle.tm_base.specs.declared.definition.Kind.{Kind}
 use Rattle.tm_base.specs.declared.definition.Kind.TheVariants.{Struct, Union, Enum}
 use Rattle.tm_base.specs.declared.definition.Repr.{Repr}
+use Rattle.tm_base.specs.declared.profile.Profile.{Profile}
 use Rattle.tm_base.specs.Laws.{Apart}
 use Rattle.tm_base.specs.Layout.{Layout, round_up, lowered, place_at, places, end_of, greatest_align, greatest_size, struct_layout, union_layout, structs, tag_layout, named_layout, transparent_layout}
-use Rattle.tm_base.specs.Places.{at_front}
-use Rattle.tm_base.specs.Valid.{first_place}
+use Rattle.tm_base.specs.Places.{at_front, first_place}
 use Rattle.tm_base.proofs.LayoutLemmas.{struct_places-apart, tagged_variants-apart, union_variants-apart}
 use Rattle.tm_layout.specs.declared.facts.Facts.{Facts}
 use Rattle.tm_layout.specs.Capped.{capped}
@@ -125,19 +125,19 @@ fronts-exact [] = tt
 fronts-exact (ls ∷ vs) = (front-exact ls, fronts-exact vs)
 
 -- a transparent struct
-pub front-struct : (kind : Kind) (repr : Repr) (begin : ℕ) (ls : List Layout) → kind ≡ Struct → repr.transparent ≡ true → at_front ls ≡ map capped (variant_places_in kind repr begin ls)
-front-struct kind repr begin ls e t =
-    subst (λ k. at_front ls ≡ map capped (variant_places_in k repr begin ls)) (sym e)
+pub front-struct : (profile : Profile) (kind : Kind) (repr : Repr) (begin : ℕ) (ls : List Layout) → kind ≡ Struct → repr.transparent ≡ true → at_front ls ≡ map capped (variant_places_in profile kind repr begin ls)
+front-struct profile kind repr begin ls e t =
+    subst (λ k. at_front ls ≡ map capped (variant_places_in profile k repr begin ls)) (sym e)
     (subst (λ b. at_front ls ≡ map capped ((if b then at_front else places repr.packed 0) ls)) (sym t) (sym (front-exact ls)))
 
-pub front-union : (kind : Kind) (repr : Repr) (begin : ℕ) (ls : List Layout) → kind ≡ Union → at_front ls ≡ map capped (variant_places_in kind repr begin ls)
-front-union kind repr begin ls e = subst (λ k. at_front ls ≡ map capped (variant_places_in k repr begin ls)) (sym e) (sym (front-exact ls))
+pub front-union : (profile : Profile) (kind : Kind) (repr : Repr) (begin : ℕ) (ls : List Layout) → kind ≡ Union → at_front ls ≡ map capped (variant_places_in profile kind repr begin ls)
+front-union profile kind repr begin ls e = subst (λ k. at_front ls ≡ map capped (variant_places_in profile k repr begin ls)) (sym e) (sym (front-exact ls))
 
 -- an enum with `C`
-pub shifted-enum : (kind : Kind) (repr : Repr) (begin : ℕ) (ls : List Layout) → kind ≡ Enum → repr.c ≡ true → shifted begin (places None 0 ls) ≡ map capped (variant_places_in kind repr begin ls)
-shifted-enum kind repr begin ls e c =
-    subst (λ k. shifted begin (places None 0 ls) ≡ map capped (variant_places_in k repr begin ls)) (sym e)
-    (subst (λ b. shifted begin (places None 0 ls) ≡ map capped (if b then map (λ place. begin + place) (places None 0 ls) else places None (first_place repr) ls)) (sym c)
+pub shifted-enum : (profile : Profile) (kind : Kind) (repr : Repr) (begin : ℕ) (ls : List Layout) → kind ≡ Enum → repr.c ≡ true → shifted begin (places None 0 ls) ≡ map capped (variant_places_in profile kind repr begin ls)
+shifted-enum profile kind repr begin ls e c =
+    subst (λ k. shifted begin (places None 0 ls) ≡ map capped (variant_places_in profile k repr begin ls)) (sym e)
+    (subst (λ b. shifted begin (places None 0 ls) ≡ map capped (if b then map (λ place. begin + place) (places None 0 ls) else places None (first_place profile repr) ls)) (sym c)
     (shifted-behind begin (places None 0 ls)))
 
 struct-exact : (b : Bool) (packed align : Option ℕ) (ls : List Layout) → (if b then transparent_layout ls else struct_layout packed align ls).size < 2 ^ 32
@@ -166,21 +166,21 @@ enum-exact false tag vs small =
     all-exact (λ ls. Apart tag.size (places None tag.size ls) ls size) (λ ls. map capped (enum_places false tag vs ls) ≡ enum_places false tag vs ls) vs
     (λ ls h. apart-exact tag.size (places None tag.size ls) ls size small h) (tagged_variants-apart tag vs size (omega arith))
 
-pub variants-exact : (kind : Kind) (repr : Repr) (vs : List (List Layout)) → (kind ≡ Struct → length vs ≡ 1) → (named_layout kind repr vs).size < 2 ^ 32
-    → AllByRecursion (λ ls. map capped (variant_places_in kind repr (begin_in kind repr vs) ls) ≡ variant_places_in kind repr (begin_in kind repr vs) ls) vs
-variants-exact Struct repr [] one small = tt
-variants-exact Struct repr (ls ∷ []) one small = (struct-exact repr.transparent repr.packed repr.align ls small, tt)
-variants-exact Struct repr (ls ∷ ks ∷ vs) one small = let e = one refl in absurd (omega arith)
-variants-exact Union repr vs one small = fronts-exact vs
-variants-exact Enum repr vs one small = enum-exact repr.c (tag_layout repr.tag) vs small
+pub variants-exact : (profile : Profile) (kind : Kind) (repr : Repr) (vs : List (List Layout)) → (kind ≡ Struct → length vs ≡ 1) → (named_layout profile kind repr vs).size < 2 ^ 32
+    → AllByRecursion (λ ls. map capped (variant_places_in profile kind repr (begin_in profile kind repr vs) ls) ≡ variant_places_in profile kind repr (begin_in profile kind repr vs) ls) vs
+variants-exact profile Struct repr [] one small = tt
+variants-exact profile Struct repr (ls ∷ []) one small = (struct-exact repr.transparent repr.packed repr.align ls small, tt)
+variants-exact profile Struct repr (ls ∷ ks ∷ vs) one small = let e = one refl in absurd (omega arith)
+variants-exact profile Union repr vs one small = fronts-exact vs
+variants-exact profile Enum repr vs one small = enum-exact repr.c (tag_layout profile repr.tag) vs small
 
 -- where an enum's fields begin is no more than an `u32` holds
 begin-bounded : (c : Bool) (n a : ℕ) → n ≤ 2 ^ 29 → a ≤ 2 ^ 29 → 1 ≤ a → capped (if c then round_up n a else n) ≡ (if c then round_up n a else n)
 begin-bounded true n a h k some = omega arith
 begin-bounded false n a h k some = omega arith
 
-pub begin-exact : (kind : Kind) (repr : Repr) (vs : List (List Layout)) → AreVariantsAligned vs → capped (begin_in kind repr vs) ≡ begin_in kind repr vs
-begin-exact Struct repr vs h = refl
-begin-exact Union repr vs h = refl
-begin-exact Enum repr vs h =
-    begin-bounded repr.c (tag_layout repr.tag).size (greatest_align None (structs [] vs)) (tag_size-small repr.tag) (greatest-small None (structs [] vs) (structs-aligned [] vs tt h)) (greatest_align-some None (structs [] vs))
+pub begin-exact : (profile : Profile) (kind : Kind) (repr : Repr) (vs : List (List Layout)) → AreVariantsAligned vs → capped (begin_in profile kind repr vs) ≡ begin_in profile kind repr vs
+begin-exact profile Struct repr vs h = refl
+begin-exact profile Union repr vs h = refl
+begin-exact profile Enum repr vs h =
+    begin-bounded repr.c (tag_layout profile repr.tag).size (greatest_align None (structs [] vs)) (tag_size-small profile repr.tag) (greatest-small None (structs [] vs) (structs-aligned [] vs tt h)) (greatest_align-some None (structs [] vs))

@@ -1,18 +1,16 @@
 -- The list of the types that a type reaches, while it is made: what it holds is reached, and what the types
 -- at its first places enter stands in it.
-use Rattle.std.proofs.Common.{◌≡◌, ℕ, zero, suc, ◌+◌, ◌<◌, ◌≤◌, ◌⊎◌, inl, inr, ⊎_elim, refl, sym, ap, subst, ◌∙◌, Bool, true, false, true≢false, List, [], ◌∷◌, ◌++◌, length, replicate, Some, slice_get, set, get_or, All, Contains, arith, append-nil}
+use Rattle.std.proofs.Common.{◌≡◌, ℕ, zero, suc, ◌+◌, ◌<◌, ◌≤◌, ◌⊎◌, inl, inr, ⊎_elim, refl, sym, ap, subst, ◌∙◌, Bool, true, false, true≢false, List, [], ◌∷◌, ◌++◌, length, replicate, slice_get, set, get_or, All, Contains, arith, append-nil}
 use Rattle.std.specs.Borrow.{Bor}
 use Rattle.std.proofs.lemmas.Bool.{cases_eq, cases_lt}
 use Rattle.std.proofs.lemmas.List.{get_or-replicate, get_or-set_other, get_or_append_left, get_or-map}
 use Rattle.std.proofs.lemmas.List.Elements.{Contains-append_left, Contains-append_right, Contains-append_cases}
-use Rattle.std.proofs.lemmas.Option.{slice_get-get_or, slice_get_within, slice_get_past}
-use Rattle.tm_base.specs.declared.definition.NamedRow.{NamedRow}
-use Rattle.tm_base.specs.declared.definition.RefRow.{RefRow}
+use Rattle.std.proofs.lemmas.Option.{slice_get-get_or, slice_get_past}
 use Rattle.tm_base.specs.declared.ground.Ground.{Ground, out-Ground}
 use Rattle.tm_base.specs.declared.ground.Ground.TheOpen.{Ground-F}
-use Rattle.tm_base.specs.Reaches.{Leads, LeadsIn, Enters, Reaches, argument_of, row_parts, row_pointee, parts_within, pointees_within, parts_of, pointees_of}
+use Rattle.tm_base.specs.Reaches.{Chain, ChainIn, Enters, Reaches, argument_of, row_parts, row_pointee, parts_within, pointees_within, parts_of, pointees_of}
 use Rattle.tm_base.specs.Tables.{Tables}
-use Rattle.tm_base.proofs.JudgedLemmas.{LeadsIn-keeps, Contains-none, Contains-one}
+use Rattle.tm_base.proofs.JudgedLemmas.{ChainIn-keeps, Contains-none, Contains-one}
 use Rattle.tm_layout.specs.Reached.{AreReached, types_at, is_marked, unlisted, newly_entered, named_after, refs_after}
 
 -- the type behind a reference at a place
@@ -28,14 +26,14 @@ All-contained P types each k d below =
     each (get_or types k d) (k, below, same)
 
 -- a way and one step more
-LeadsIn-more : {X : Type 0} (Step : X → X → Type 0) (n : ℕ) (a b c : X) → LeadsIn Step n a b → Step b c → LeadsIn Step (suc n) a c
-unfolding LeadsIn
-LeadsIn-more Step zero a b c e step = (c, subst (λ x. Step x c) (sym e) step, refl)
-LeadsIn-more Step (suc n) a b c (next, first, way) step = (next, first, LeadsIn-more Step n next b c way step)
+ChainIn-more : {X : Type 0} (Step : X → X → Type 0) (n : ℕ) (a b c : X) → ChainIn Step n a b → Step b c → ChainIn Step (suc n) a c
+unfolding ChainIn
+ChainIn-more Step zero a b c e step = (c, subst (λ x. Step x c) (sym e) step, refl)
+ChainIn-more Step (suc n) a b c (next, first, way) step = (next, first, ChainIn-more Step n next b c way step)
 
-Leads-itself : {X : Type 0} (Step : X → X → Type 0) (a : X) → Leads Step a a
-unfolding LeadsIn
-Leads-itself Step a = (zero, refl)
+Chain-itself : {X : Type 0} (Step : X → X → Type 0) (a : X) → Chain Step a a
+unfolding ChainIn
+Chain-itself Step a = (zero, refl)
 
 -- each of some types stands in a list
 abbrev pub AreListed : List Ground → List Ground → Type 0
@@ -167,13 +165,13 @@ module _ (tables : Tables) (g : Ground) where
   pub reaching-begins : (named refs : List Bool) (types : List Ground) → named ≡ replicate (length tables.named) false → refs ≡ replicate (length tables.refs) false → types ≡ g ∷ [] → IsReaching 0 named refs types
   reaching-begins named refs types of_named of_refs of_types = rw (of_named, of_refs, of_types) record {
     first = (0, omega arith, refl);
-    each = λ h at. subst (λ x. Reaches tables g x) (Contains-one g h at) (Leads-itself (Enters tables) g);
+    each = λ h at. subst (λ x. Reaches tables g x) (Contains-one g h at) (Chain-itself (Enters tables) g);
     followed = λ k d l. absurd (omega (arith, l));
     marked = none-marked;
   }
 
   reached-more : (a b : Ground) → Reaches tables g a → Enters tables a b → Reaches tables g b
-  reached-more a b (n, way) step = (suc n, LeadsIn-more (Enters tables) n g a b way step)
+  reached-more a b (n, way) step = (suc n, ChainIn-more (Enters tables) n g a b way step)
 
   -- what the types before a place enter is listed
   abbrev AreFollowed : ℕ → List Ground → Type 0
@@ -211,7 +209,7 @@ module _ (tables : Tables) (g : Ground) where
   pub reaching-ends : (place : ℕ) (named refs : List Bool) (types : List Ground) → IsReaching place named refs types → length types ≤ place → AreReached tables g types
   reaching-ends place named refs types reaching above = record {
     each = reaching.each;
-    all = λ h way. LeadsIn-keeps (Enters tables) (λ k. Contains types k) closed way.0 g h reaching.first way.1;
+    all = λ h way. ChainIn-keeps (Enters tables) (λ k. Contains types k) closed way.0 g h reaching.first way.1;
   } where
     closed : (a b : Ground) → Contains types a → Enters tables a b → Contains types b
     closed a b (k, below, is) step =

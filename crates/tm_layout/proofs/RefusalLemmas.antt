@@ -1,13 +1,12 @@
--- A type has a cause for which it has no layout exactly where it is or holds by value a type at fault.
-use Rattle.std.proofs.Common.{◌≡◌, refl, sym, ap, ◌∙◌, Bool, true, false, ◌||◌, Option, Some, None}
+-- A cause for which a type has no layout is known exactly where it is or holds by value a type that has a cause.
+use Rattle.std.proofs.Common.{◌≡◌, refl, sym, ap, ◌∙◌, false, ◌||◌, Option, Some, None}
 use Rattle.std.specs.Option.{is_some, option_or}
 use Rattle.tm_base.specs.declared.answer.Why.{Why}
 use Rattle.tm_base.specs.Expanded.{Expanded, Fields, Variants, too_deep, prim, never, unit, tuple, array, nonzero, phantom, wrap, ref, named, no_fields, field, no_variants, variant}
-use Rattle.tm_base.specs.Faults.{fault_of, fault_over, part_at_fault, field_at_fault, variant_at_fault, at_fault_over, or_else}
+use Rattle.tm_base.specs.Faults.{fault_of, has_cause, has_no_layout, or_else}
 use Rattle.tm_base.specs.Parts.{some_part, some_field, some_variant}
-use Rattle.tm_layout.specs.declared.facts.Facts.{Facts}
-use Rattle.tm_layout.specs.Known.{IsFactsOf}
-use Rattle.tm_layout.specs.Refusals.{refusal_of, field_refusal, variant_refusal, is_faulty, has_no_layout}
+use Rattle.tm_base.proofs.FaultLemmas.{cause-faulty}
+use Rattle.tm_layout.specs.Refusals.{refusal_of, field_refusal, variant_refusal}
 
 pub option_or-or_else : (a b : Option Why) → option_or a b ≡ or_else a b
 option_or-or_else None b = refl
@@ -26,101 +25,48 @@ pub none-second : (a b : Option Why) → or_else a b ≡ None → b ≡ None
 none-second None b e = e
 none-second (Some why) b e = cc
 
--- a part is or holds a type at fault, where one of the types that are held at any depth is at fault
-mutual
-  unfolding part_at_fault some_part fault_of
+or_else-none : (a : Option Why) → a ≡ or_else a None
+or_else-none None = refl
+or_else-none (Some why) = refl
 
-  pub part_at_fault-faulty : (t : Expanded) → part_at_fault t ≡ some_part is_faulty t
-  part_at_fault-faulty too_deep = refl
-  part_at_fault-faulty (prim p) = refl
-  part_at_fault-faulty never = refl
-  part_at_fault-faulty unit = refl
-  part_at_fault-faulty (tuple members) = field_at_fault-faulty members
-  part_at_fault-faulty (array t n) = ap (λ b. is_some (fault_over (part_at_fault t) t) || b) (part_at_fault-faulty t)
-  part_at_fault-faulty (nonzero p) = refl
-  part_at_fault-faulty phantom = refl
-  part_at_fault-faulty (wrap w t) = ap (λ b. is_some (fault_over (part_at_fault t) t) || b) (part_at_fault-faulty t)
-  part_at_fault-faulty (ref r) = refl
-  part_at_fault-faulty (named id kind repr variants) = variant_at_fault-faulty variants
-
-  field_at_fault-faulty : (members : Fields) → field_at_fault members ≡ some_field is_faulty members
-  field_at_fault-faulty no_fields = refl
-  field_at_fault-faulty (field public t rest) =
-      let a = part_at_fault-faulty t in
-      let b = field_at_fault-faulty rest in
-      ap (λ b. (is_some (fault_over (part_at_fault t) t) || b) || field_at_fault rest) a ∙ ap (λ b. (is_some (fault_over (part_at_fault t) t) || some_part is_faulty t) || b) b
-
-  pub variant_at_fault-faulty : (variants : Variants) → variant_at_fault variants ≡ some_variant is_faulty variants
-  variant_at_fault-faulty no_variants = refl
-  variant_at_fault-faulty (variant value members rest) =
-      let a = field_at_fault-faulty members in
-      let b = variant_at_fault-faulty rest in
-      cc
-
-or-none : (b : Bool) → b ≡ (b || false)
-or-none true = refl
-or-none false = refl
+-- where it's known for which cause the parts of a type have no layout
+refused-from : (t : Expanded) (below : Option Why) → refusal_of t ≡ or_else (fault_of t) below → is_some below ≡ some_part has_cause t → is_some (refusal_of t) ≡ has_no_layout t
+refused-from t below e h =
+    ap is_some e ∙ is_some-or_else (fault_of t) below ∙ ap (λ b. is_some (fault_of t) || b) h ∙ sym (cause-faulty t)
 
 mutual
   unfolding refusal_of some_part
 
   pub refused-exactly : (t : Expanded) → is_some (refusal_of t) ≡ has_no_layout t
-  refused-exactly too_deep = or-none (is_faulty too_deep)
-  refused-exactly (prim p) = or-none (is_faulty (prim p))
-  refused-exactly never = or-none (is_faulty never)
-  refused-exactly unit = or-none (is_faulty unit)
-  refused-exactly (tuple members) = is_some-or_else (fault_of (tuple members)) (field_refusal members) ∙ ap (λ b. is_faulty (tuple members) || b) (fields-refused members)
-  refused-exactly (array t n) = is_some-or_else (fault_of (array t n)) (refusal_of t) ∙ ap (λ b. is_faulty (array t n) || b) (refused-exactly t)
-  refused-exactly (nonzero p) = or-none (is_faulty (nonzero p))
-  refused-exactly phantom = or-none (is_faulty phantom)
-  refused-exactly (wrap w t) = is_some-or_else (fault_of (wrap w t)) (refusal_of t) ∙ ap (λ b. is_faulty (wrap w t) || b) (refused-exactly t)
-  refused-exactly (ref r) = or-none (is_faulty (ref r))
-  refused-exactly (named id kind repr variants) = is_some-or_else (fault_of (named id kind repr variants)) (variant_refusal variants) ∙ ap (λ b. is_faulty (named id kind repr variants) || b) (variants-refused variants)
+  refused-exactly too_deep = refused-from too_deep None (or_else-none (fault_of too_deep)) refl
+  refused-exactly (prim profile p) = refused-from (prim profile p) None (or_else-none (fault_of (prim profile p))) refl
+  refused-exactly never = refused-from never None (or_else-none (fault_of never)) refl
+  refused-exactly unit = refused-from unit None (or_else-none (fault_of unit)) refl
+  refused-exactly (tuple members) = refused-from (tuple members) (field_refusal members) refl (fields-refused members)
+  refused-exactly (array t n) = refused-from (array t n) (refusal_of t) refl (refused-exactly t)
+  refused-exactly (nonzero profile p) = refused-from (nonzero profile p) None (or_else-none (fault_of (nonzero profile p))) refl
+  refused-exactly phantom = refused-from phantom None (or_else-none (fault_of phantom)) refl
+  refused-exactly (wrap w t) = refused-from (wrap w t) (refusal_of t) refl (refused-exactly t)
+  refused-exactly (ref profile r) = refused-from (ref profile r) None (or_else-none (fault_of (ref profile r))) refl
+  refused-exactly (named profile id kind repr variants) =
+      refused-from (named profile id kind repr variants) (variant_refusal variants) refl (variants-refused variants)
 
-  pub fields-refused : (members : Fields) → is_some (field_refusal members) ≡ some_field is_faulty members
+  pub fields-refused : (members : Fields) → is_some (field_refusal members) ≡ some_field has_cause members
   fields-refused no_fields = refl
   fields-refused (field public t rest) =
-      let a = refused-exactly t in
-      let b = fields-refused rest in
-      let e = is_some-or_else (refusal_of t) (field_refusal rest) in
-      cc
+      is_some-or_else (refusal_of t) (field_refusal rest)
+      ∙ ap (λ b. b || is_some (field_refusal rest)) (refused-exactly t) ∙ ap (λ b. has_no_layout t || b) (fields-refused rest)
 
-  pub variants-refused : (variants : Variants) → is_some (variant_refusal variants) ≡ some_variant is_faulty variants
+  pub variants-refused : (variants : Variants) → is_some (variant_refusal variants) ≡ some_variant has_cause variants
   variants-refused no_variants = refl
   variants-refused (variant value members rest) =
-      let a = fields-refused members in
-      let b = variants-refused rest in
-      let e = is_some-or_else (field_refusal members) (variant_refusal rest) in
-      cc
+      is_some-or_else (field_refusal members) (variant_refusal rest)
+      ∙ ap (λ b. b || is_some (variant_refusal rest)) (fields-refused members) ∙ ap (λ b. some_field has_cause members || b) (variants-refused rest)
 
--- what is asked of a part: it is or holds a type at fault
-pub at_fault-refused : (t : Expanded) → at_fault_over (part_at_fault t) t ≡ is_some (refusal_of t)
-unfolding fault_of
-at_fault-refused t = ap (λ b. is_some (fault_over (part_at_fault t) t) || b) (part_at_fault-faulty t) ∙ sym (refused-exactly t)
+none-from : (o : Option Why) → is_some o ≡ false → o ≡ None
+none-from None h = refl
+none-from (Some why) h = cc
 
--- a type for which there is no cause isn't at fault
-pub sound-fault : (t : Expanded) → refusal_of t ≡ None → fault_of t ≡ None
-unfolding refusal_of
-sound-fault too_deep h = h
-sound-fault (prim p) h = h
-sound-fault never h = h
-sound-fault unit h = h
-sound-fault (tuple members) h = none-first (fault_of (tuple members)) (field_refusal members) h
-sound-fault (array t n) h = none-first (fault_of (array t n)) (refusal_of t) h
-sound-fault (nonzero p) h = h
-sound-fault phantom h = h
-sound-fault (wrap w t) h = none-first (fault_of (wrap w t)) (refusal_of t) h
-sound-fault (ref r) h = h
-sound-fault (named id kind repr variants) h = none-first (fault_of (named id kind repr variants)) (variant_refusal variants) h
-
-or-second : (a b : Bool) → false ≡ (a || b) → b ≡ false
-or-second true b h = cc
-or-second false b h = sym h
-
--- and it holds no type at fault by value
-pub sound-parts : (t : Expanded) → refusal_of t ≡ None → some_part is_faulty t ≡ false
-sound-parts t h = or-second (is_faulty t) (some_part is_faulty t) (ap is_some (sym h) ∙ refused-exactly t)
-
--- what is known of a type says whether it has a layout
-pub refused-known : (t : Expanded) (facts : Facts) → IsFactsOf t facts → is_some facts.refusal ≡ has_no_layout t
-refused-known t facts known = ap is_some known.refusal ∙ refused-exactly t
+-- a type that has a layout has no cause
+pub layout-unrefused : (t : Expanded) → has_no_layout t ≡ false → refusal_of t ≡ None
+layout-unrefused t h = none-from (refusal_of t) (refused-exactly t ∙ h)

@@ -16,7 +16,7 @@ use Rattle.tm_base.specs.Whole.{has_its_types}
 use Rattle.tm_base.proofs.ExpandedLemmas.{expanded-level}
 use Rattle.tm_layout.specs.declared.facts.Facts.{Facts}
 use Rattle.tm_layout.specs.Known.{AreFactsOf, AreVariantFacts, AreVariantsFor}
-use Rattle.tm_layout.specs.Making.{AreFactsFor, EachMatches, IsWhole}
+use Rattle.tm_layout.specs.Making.{AreFactsFor, EachMatches, IsWrittenOut}
 
 -- one item more on each side
 matches-append : {X Y : Type 0} (Fact : X → Y → Type 0) (xs : List X) (ys : List Y) (x : X) (y : Y) → EachMatches Fact xs ys → Fact x y → EachMatches Fact (xs ++ x ∷ []) (ys ++ y ∷ [])
@@ -80,10 +80,10 @@ module _ (tables : Tables) where
       (fields-facts v.fields gs f same here, variants-facts vs types facts (second_true (length v.fields == length gs) (has_its_types vs types) h) rest)
 
   -- a whole named type, written out one level
-  pub named-level : (id : NamedId) (row : NamedRow) (def : Def) → IsWhole tables (Named id) → slice_get tables.named id.0 ≡ Some row → slice_get tables.defs row.def.0 ≡ Some def
-      → expanded_in tables (Named id) ≡ named id def.kind def.repr (variants_of part def.variants row.types)
+  pub named-level : (id : NamedId) (row : NamedRow) (def : Def) → IsWrittenOut tables (Named id) → slice_get tables.named id.0 ≡ Some row → slice_get tables.defs row.def.0 ≡ Some def
+      → expanded_in tables (Named id) ≡ named tables.profile id def.kind def.repr (variants_of part def.variants row.types)
   named-level id row def whole at of_def =
-      expanded-level tables.defs tables.named (Named id) whole.whole
-      ∙ ap (level part tables.defs tables.named) (ground_is.outs-Named id)
-      ∙ ap (row_of part tables.defs id) at
-      ∙ ap (defined part id row.types) of_def
+      expanded-level tables.profile tables.defs tables.named (Named id) whole.whole
+      ∙ ap (level part tables.profile tables.defs tables.named) (ground_is.outs-Named id)
+      ∙ ap (row_of part tables.profile tables.defs id) at
+      ∙ ap (defined part tables.profile id row.types) of_def

@@ -52,16 +52,16 @@ module _ (p q : Expanded → Bool) (weaker : (t : Expanded) → p t ≡ false �
 
     part_weaker : (t : Expanded) → some_part p t ≡ false → some_part q t ≡ false
     part_weaker too_deep h = refl
-    part_weaker (prim _) h = refl
+    part_weaker (prim _ _) h = refl
     part_weaker never h = refl
     part_weaker unit h = refl
     part_weaker (tuple members) h = field_weaker members h
     part_weaker (array t n) h = either_weaker t (some_part p t) (some_part q t) (part_weaker t) h
-    part_weaker (nonzero _) h = refl
+    part_weaker (nonzero _ _) h = refl
     part_weaker phantom h = refl
     part_weaker (wrap w t) h = either_weaker t (some_part p t) (some_part q t) (part_weaker t) h
-    part_weaker (ref _) h = refl
-    part_weaker (named id kind repr variants) h = variant_weaker variants h
+    part_weaker (ref _ _) h = refl
+    part_weaker (named _ id kind repr variants) h = variant_weaker variants h
 
     field_weaker : (fs : Fields) → some_field p fs ≡ false → some_field q fs ≡ false
     field_weaker no_fields h = refl
@@ -107,27 +107,27 @@ module _ (tables : Tables) (rows : List (Option RowFacts)) where
   part = expanded_in tables
 
   abbrev pub one_level : Ground-F Ground → Expanded
-  one_level = level part tables.defs tables.named
+  one_level = level part tables.profile tables.defs tables.named
 
   deep-lacks : (t : Expanded) → lacks_row rows t ≡ false → is_too_deep t ≡ false
   deep-lacks too_deep h = h
-  deep-lacks (prim _) h = refl
+  deep-lacks (prim _ _) h = refl
   deep-lacks never h = refl
   deep-lacks unit h = refl
   deep-lacks (tuple _) h = refl
   deep-lacks (array _ _) h = refl
-  deep-lacks (nonzero _) h = refl
+  deep-lacks (nonzero _ _) h = refl
   deep-lacks phantom h = refl
   deep-lacks (wrap _ _) h = refl
-  deep-lacks (ref _) h = refl
-  deep-lacks (named _ _ _ _) h = refl
+  deep-lacks (ref _ _) h = refl
+  deep-lacks (named _ _ _ _ _) h = refl
 
   pub known-whole : (g : Ground) → IsKnown tables rows g → IsTrue (is_whole (part g))
   known-whole g known = ap not (within_weaker (lacks_row rows) is_too_deep deep-lacks (part g) known.none_lacks)
 
   -- a known type is one level over its parts
   pub known-level : (g : Ground) (x : Ground-F Ground) → IsKnown tables rows g → out-Ground g ≡ x → part g ≡ one_level x
-  known-level g x known e = expanded-level tables.defs tables.named g (known-whole g known) ∙ ap one_level e
+  known-level g x known e = expanded-level tables.profile tables.defs tables.named g (known-whole g known) ∙ ap one_level e
 
   pub level-known : (g : Ground) (x : Ground-F Ground) → IsKnown tables rows g → out-Ground g ≡ x → some_within (lacks_row rows) (one_level x) ≡ false
   level-known g x known e = ap (some_within (lacks_row rows)) (sym (known-level g x known e)) ∙ known.none_lacks
@@ -167,11 +167,11 @@ module _ (tables : Tables) (rows : List (Option RowFacts)) where
   known-Wrap g argument w other known e =
       record { none_lacks = ap (some_within (lacks_row rows)) (sym (wrapped-other w argument other)) ∙ level-known g (Ground-F.Wrap w argument) known e }
 
-  defined-known : (id : NamedId) (types : List (List Ground)) (def : Option Def) → some_within (lacks_row rows) (defined part id types def) ≡ false → is_missing rows id.0 ≡ false
+  defined-known : (id : NamedId) (types : List (List Ground)) (def : Option Def) → some_within (lacks_row rows) (defined part tables.profile id types def) ≡ false → is_missing rows id.0 ≡ false
   defined-known id types None h = cc
   defined-known id types (Some def) h = first_false (is_missing rows id.0) _ h
 
-  pub row-known : (id : NamedId) (row : Option NamedRow) → some_within (lacks_row rows) (row_of part tables.defs id row) ≡ false → (is_missing rows id.0 ≡ false) × (row ≡ None → ⊥)
+  pub row-known : (id : NamedId) (row : Option NamedRow) → some_within (lacks_row rows) (row_of part tables.profile tables.defs id row) ≡ false → (is_missing rows id.0 ≡ false) × (row ≡ None → ⊥)
   row-known id None h = cc
   row-known id (Some row) h = (defined-known id row.types (slice_get tables.defs row.def.0) h, λ e. cc)
 
@@ -183,26 +183,26 @@ module _ (tables : Tables) (rows : List (Option RowFacts)) where
 
   deep-known : ((k : ℕ) → is_missing rows k ≡ false) → (t : Expanded) → is_too_deep t ≡ false → lacks_row rows t ≡ false
   deep-known all too_deep h = h
-  deep-known all (prim _) h = refl
+  deep-known all (prim _ _) h = refl
   deep-known all never h = refl
   deep-known all unit h = refl
   deep-known all (tuple _) h = refl
   deep-known all (array _ _) h = refl
-  deep-known all (nonzero _) h = refl
+  deep-known all (nonzero _ _) h = refl
   deep-known all phantom h = refl
   deep-known all (wrap _ _) h = refl
-  deep-known all (ref _) h = refl
-  deep-known all (named id _ _ _) h = all id.0
+  deep-known all (ref _ _) h = refl
+  deep-known all (named _ id _ _ _) h = all id.0
 
   -- where all rows are made, each whole type is known
   pub known-all : ((k : ℕ) → is_missing rows k ≡ false) → (g : Ground) → IsTrue (is_whole (part g)) → IsKnown tables rows g
   known-all all g whole = record { none_lacks = within_weaker is_too_deep (lacks_row rows) (deep-known all) (part g) (not-true (some_within is_too_deep (part g)) whole) }
 
-  nowhere-within : (n : ℕ) (id : NamedId) → slice_get tables.named id.0 ≡ None → expanded_within n tables.defs tables.named (Named id) ≡ too_deep
+  nowhere-within : (n : ℕ) (id : NamedId) → slice_get tables.named id.0 ≡ None → expanded_within tables.profile n tables.defs tables.named (Named id) ≡ too_deep
   unfolding expanded_within
   nowhere-within zero id e = refl
   nowhere-within (suc n) id e =
-      ap (level (expanded_within n tables.defs tables.named) tables.defs tables.named) (ground_is.outs-Named id) ∙ ap (row_of (expanded_within n tables.defs tables.named) tables.defs id) e
+      ap (level (expanded_within tables.profile n tables.defs tables.named) tables.profile tables.defs tables.named) (ground_is.outs-Named id) ∙ ap (row_of (expanded_within tables.profile n tables.defs tables.named) tables.profile tables.defs id) e
 
   -- a number that names nothing has no type
   pub nowhere : (id : NamedId) → ((k : ℕ) → is_missing rows k ≡ false) → AreRowsOf tables rows → row_at rows id.0 ≡ None → part (Named id) ≡ too_deep

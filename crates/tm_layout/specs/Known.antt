@@ -1,7 +1,10 @@
 -- What is known of a type, by what is known of its parts.
-use Rattle.std.specs.Prelude.{◌≡◌, ◌≤◌, ◌^◌, ⊤, Bool, None, List, [], ◌∷◌, length}
+use Rattle.std.specs.Prelude.{◌≡◌, ◌≤◌, ◌^◌, ⊤, None, List, [], ◌∷◌, length}
+use Rattle.tm_base.specs.declared.definition.Def.{Def}
 use Rattle.tm_base.specs.declared.definition.Variant.{Variant}
-use Rattle.tm_base.specs.Expanded.{Expanded, Fields, Variants, no_fields, field, no_variants, variant}
+use Rattle.tm_base.specs.declared.ground.NamedId.{NamedId}
+use Rattle.tm_base.specs.declared.profile.Profile.{Profile}
+use Rattle.tm_base.specs.Expanded.{Expanded, Fields, Variants, named, no_fields, field, no_variants, variant}
 use Rattle.tm_base.specs.Faults.{fault_of, has_align, is_nullable}
 use Rattle.tm_base.specs.Layout.{align_of, size_of}
 use Rattle.tm_base.specs.Parts.{field_count, has_interior, some_within}
@@ -48,3 +51,9 @@ AreVariantsFor [] no_variants = ⊤
 AreVariantsFor [] (variant value members rest) = ⊥
 AreVariantsFor (v ∷ vs) no_variants = ⊥
 AreVariantsFor (v ∷ vs) (variant value members rest) = (v.value ≡ value) × (length v.fields ≡ field_count members) × AreVariantsFor vs rest
+
+-- what holds of each type of a definition, where its fields have these facts
+abbrev pub OfDefined : Profile → Def → List (List Facts) → (Expanded → Type 0) → Type 0
+OfDefined profile def facts Fact =
+    (id : NamedId) (variants : Variants) → AreVariantsFor def.variants variants → AreVariantFacts variants facts
+    → Fact (named profile id def.kind def.repr variants)

@@ -1,6 +1,9 @@
 -- The table while its rows are made, each after those that it rests on.
-use Rattle.std.specs.Prelude.{◌≡◌, ℕ, false, IsTrue, Option, Some, List, [], ◌∷◌, ⊤}
+use Rattle.std.specs.Prelude.{◌≡◌, ℕ, false, IsTrue, Option, Some, List, [], ◌∷◌, slice_get, ⊤}
+use Rattle.tm_base.specs.declared.definition.NamedRow.{NamedRow}
 use Rattle.tm_base.specs.declared.ground.Ground.{Ground, Named}
+use Rattle.tm_base.specs.declared.ground.NamedId.{NamedId}
+use Rattle.tm_base.specs.Expanded.{Expanded}
 use Rattle.tm_base.specs.Parts.{is_whole}
 use Rattle.tm_base.specs.Tables.{Tables, expanded_in}
 use Rattle.tm_layout.specs.declared.facts.Facts.{Facts}
@@ -9,8 +12,13 @@ use Rattle.tm_layout.specs.Known.{IsFactsOf}
 use Rattle.tm_layout.specs.Made.{AreRowsOf, EachIs, IsKnown, is_missing, row_at}
 
 -- no part of the type is past the greatest depth
-pub record IsWhole (tables : Tables) (g : Ground) : Type 0 where
+pub record IsWrittenOut (tables : Tables) (g : Ground) : Type 0 where
   pub whole : IsTrue (is_whole (expanded_in tables g))
+
+-- what holds of each named type that has this row
+abbrev pub OfRow : Tables → NamedRow → (Expanded → Type 0) → Type 0
+OfRow tables row Fact =
+    (id : NamedId) → slice_get tables.named id.0 ≡ Some row → IsWrittenOut tables (Named id) → Fact (expanded_in tables (Named id))
 
 -- a table in which each row that is made is right, and those that it rests on are made too
 pub record AreRowsClosed (tables : Tables) (rows : List (Option RowFacts)) : Type 0 where

@@ -2,7 +2,7 @@
 -- listed yet. Marks say which named types' fields and which references' pointees are listed.
 use Rattle.std.specs.Prelude.{ℕ, Bool, true, List, [], ◌∷◌, map, if◌then◌else◌, slice_get, slice_index_or, slice_set, Contains}
 use Rattle.std.specs.Borrow.{Bor}
-use Rattle.tm_base.specs.declared.ground.Ground.{Ground, out-Ground}
+use Rattle.tm_base.specs.declared.ground.Ground.{Ground}
 use Rattle.tm_base.specs.declared.ground.Ground.TheOpen.{Ground-F}
 use Rattle.tm_base.specs.Reaches.{Reaches, argument_of, row_parts, row_pointee}
 use Rattle.tm_base.specs.Tables.{Tables}

@@ -1,9 +1,6 @@
 -- Layouts and weights of definitions, by what is known of the fields.
-use Rattle.std.specs.Prelude.{◌≡◌, ℕ, ◌+◌, max, Option, List, [], ◌∷◌, map}
-use Rattle.tm_base.specs.declared.definition.Kind.{Kind}
-use Rattle.tm_base.specs.declared.definition.Kind.TheVariants.{Struct, Union, Enum}
-use Rattle.tm_base.specs.declared.definition.Repr.{Repr}
-use Rattle.tm_base.specs.Layout.{Layout, place_at, tag_layout}
+use Rattle.std.specs.Prelude.{◌≡◌, ℕ, ◌+◌, Option, List, [], ◌∷◌, map}
+use Rattle.tm_base.specs.Layout.{Layout, place_at}
 use Rattle.tm_layout.specs.declared.facts.Facts.{Facts}
 use Rattle.tm_layout.specs.declared.layouts.Layout.{Layout as Known}
 use Rattle.tm_layout.specs.Capped.{capped}
@@ -35,18 +32,10 @@ abbrev pub only_fields : List (List Facts) → List Facts
 only_fields [] = []
 only_fields (fs ∷ facts) = fs
 
--- the weights of fields together, each counted as the number at least
-abbrev pub weight_sum : ℕ → List Facts → ℕ
-weight_sum least [] = 0
-weight_sum least (f ∷ fs) = max least f.weight + weight_sum least fs
+-- the weights of fields
+abbrev pub weights_in : List Facts → List ℕ
+weights_in fs = map (λ f. f.weight) fs
 
--- the weights of variants together, each with its tag and counted as the number at least
-abbrev pub variant_sum : ℕ → ℕ → List (List Facts) → ℕ
-variant_sum least tag [] = 0
-variant_sum least tag (fs ∷ facts) = max least (tag + weight_sum 0 fs) + variant_sum least tag facts
-
--- the weight of a definition with so many bytes
-abbrev pub weight_in : Kind → Repr → ℕ → List (List Facts) → ℕ
-weight_in Struct repr size facts = max (max 1 size) (weight_sum 0 (only_fields facts))
-weight_in Union repr size facts = weight_sum (max 1 size) (only_fields facts)
-weight_in Enum repr size facts = variant_sum (max 1 size) (tag_layout repr.tag).size facts
+-- those of the fields of each variant
+abbrev pub variant_weights_in : List (List Facts) → List (List ℕ)
+variant_weights_in facts = map weights_in facts

@@ -1,9 +1,8 @@
 -- For which cause a type has no layout. This project's.
-use Rattle.std.specs.Prelude.{Bool, Option, None, is_some}
+use Rattle.std.specs.Prelude.{Option, None}
 use Rattle.tm_base.specs.declared.answer.Why.{Why}
 use Rattle.tm_base.specs.Expanded.{Expanded, Fields, Variants, tuple, array, wrap, named, no_fields, field, no_variants, variant}
 use Rattle.tm_base.specs.Faults.{fault_of, or_else}
-use Rattle.tm_base.specs.Parts.{some_within}
 
 -- the type's own cause, else that of the first of its parts by value, in order, that has no layout
 unfoldable mutual
@@ -11,7 +10,7 @@ unfoldable mutual
   refusal_of (tuple members) = or_else (fault_of (tuple members)) (field_refusal members)
   refusal_of (array t n) = or_else (fault_of (array t n)) (refusal_of t)
   refusal_of (wrap w t) = or_else (fault_of (wrap w t)) (refusal_of t)
-  refusal_of (named id kind repr variants) = or_else (fault_of (named id kind repr variants)) (variant_refusal variants)
+  refusal_of (named profile id kind repr variants) = or_else (fault_of (named profile id kind repr variants)) (variant_refusal variants)
   refusal_of t = fault_of t
 
   pub field_refusal : Fields → Option Why
@@ -21,11 +20,3 @@ unfoldable mutual
   pub variant_refusal : Variants → Option Why
   variant_refusal no_variants = None
   variant_refusal (variant value members rest) = or_else (field_refusal members) (variant_refusal rest)
-
--- a type at fault
-abbrev pub is_faulty : Expanded → Bool
-is_faulty t = is_some (fault_of t)
-
--- the type is or holds by value a type at fault
-abbrev pub has_no_layout : Expanded → Bool
-has_no_layout = some_within is_faulty

@@ -1,10 +1,8 @@
 ghost use Rattle.std.specs.Prelude.{◌≡◌, IsTrue};
-ghost use Rattle.tm_base.specs.Expanded.{Variants, named};
 ghost use Rattle.tm_base.specs.Layout.{named_layout};
 ghost use Rattle.tm_base.specs.Whole.{is_def_in_form};
-ghost use Rattle.tm_base.specs.declared.ground.NamedId.{NamedId};
 ghost use Rattle.tm_layout.specs.Defined.{nullable_in};
-ghost use Rattle.tm_layout.specs.Known.{AreVariantFacts, AreVariantsFor, IsFactsOf};
+ghost use Rattle.tm_layout.specs.Known.{IsFactsOf, OfDefined};
 ghost use Rattle.tm_layout.specs.Reckoned.{IsCapped, variant_layouts_in};
 
 use crate::enums::enum_layout;
@@ -16,17 +14,17 @@ use crate::parts::together;
 use crate::transparent::transparent_layout;
 use crate::unions::union_layout;
 use crate::weights::weight_in;
-use tm_base::{Def, Kind, List, Repr};
+use tm_base::{Def, Kind, List, Profile, Repr};
 
 /// The layout of a definition, by what is known of the fields of each variant.
-fn layout(kind: Kind, repr: Repr, parts: &[List<Facts>]) -> Layout
-    ensures { IsCapped (named_layout kind repr (variant_layouts_in parts.now)) result }
+fn layout(profile: Profile, kind: Kind, repr: Repr, parts: &[List<Facts>]) -> Layout
+    ensures { IsCapped (named_layout profile kind repr (variant_layouts_in parts.now)) result }
 {
     match kind {
         Kind::Struct if repr.transparent => transparent_layout(only(parts)),
         Kind::Struct => struct_layout(repr.packed, repr.align, only(parts)),
         Kind::Union => union_layout(repr.packed, repr.align, only(parts)),
-        Kind::Enum => enum_layout(repr, parts),
+        Kind::Enum => enum_layout(profile, repr, parts),
     }
 }
 
@@ -41,13 +39,13 @@ fn is_nullable(kind: Kind, repr: Repr, field: bool) -> bool
 }
 
 /// What is known of a named type, by its definition and what is known of the fields of each variant.
-pub fn defined(def: &Def, parts: &[List<Facts>]) -> Facts
-    requires { IsTrue (is_def_in_form def.now) }
-    ensures { (id : NamedId) (variants : Variants) → AreVariantsFor def.now.variants variants → AreVariantFacts variants parts.now → IsFactsOf (named id def.now.kind def.now.repr variants) result }
+pub fn defined(profile: Profile, def: &Def, parts: &[List<Facts>]) -> Facts
+    requires { IsTrue (is_def_in_form profile def.now) }
+    ensures { OfDefined profile def.now parts.now (λ t. IsFactsOf t result) }
 {
     let fields = together(parts);
-    let layout = layout(def.kind, def.repr, parts);
-    let weight = weight_in(def.kind, def.repr, layout.size, parts);
+    let layout = layout(profile, def.kind, def.repr, parts);
+    let weight = weight_in(profile, def.kind, def.repr, layout.size, parts);
     let asked = layout_fault(def.kind, def.repr, parts, fields.aligned, weight);
     let fault = first_fault(own_fault(def), fields.refusal, asked);
     Facts {

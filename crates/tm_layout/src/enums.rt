@@ -7,15 +7,15 @@ ghost use Rattle.tm_layout.specs.Reckoned.{IsCapped, layouts_in, shape, variant_
 use crate::facts::{Facts, primitive_size};
 use crate::fields::{end_at, end_of, filled, greatest_align, round_up};
 use crate::layouts::Layout;
-use tm_base::{Kind, List, Primitive, Repr};
+use tm_base::{Kind, List, Primitive, Profile, Repr};
 
 /// The layout of an enum's tag.
-pub fn tag_layout(tag: Option<Primitive>) -> Layout
-    ensures { shape result ≡ tag_layout tag }
+pub fn tag_layout(profile: Profile, tag: Option<Primitive>) -> Layout
+    ensures { shape result ≡ tag_layout profile tag }
 {
     let size = match tag {
         None => 4,
-        Some(p) => primitive_size(p),
+        Some(p) => primitive_size(profile, p),
     };
     Layout { size, align: size }
 }
@@ -51,10 +51,10 @@ fn pair(first: Layout, second: Layout) -> Layout
 }
 
 /// The layout of an enum.
-pub fn enum_layout(repr: Repr, variants: &[List<Facts>]) -> Layout
-    ensures { IsCapped (enum_layout repr (variant_layouts_in variants.now)) result }
+pub fn enum_layout(profile: Profile, repr: Repr, variants: &[List<Facts>]) -> Layout
+    ensures { IsCapped (enum_layout profile repr (variant_layouts_in variants.now)) result }
 {
-    let tag = tag_layout(repr.tag);
+    let tag = tag_layout(profile, repr.tag);
     if repr.c {
         let fields = variants_behind(Layout { size: 0, align: 1 }, variants);
         pair(tag, fields)
@@ -64,12 +64,12 @@ pub fn enum_layout(repr: Repr, variants: &[List<Facts>]) -> Layout
 }
 
 /// Where the fields of an enum's variants begin; 0 of a struct or a union.
-pub fn fields_begin(kind: Kind, repr: Repr, variants: &[List<Facts>]) -> u32
-    ensures { result ≡ capped (begin_in kind repr (variant_layouts_in variants.now)) }
+pub fn fields_begin(profile: Profile, kind: Kind, repr: Repr, variants: &[List<Facts>]) -> u32
+    ensures { result ≡ capped (begin_in profile kind repr (variant_layouts_in variants.now)) }
 {
     match kind {
         Kind::Enum => {
-            let tag = tag_layout(repr.tag).size;
+            let tag = tag_layout(profile, repr.tag).size;
             if repr.c {
                 let fields = variants_behind(Layout { size: 0, align: 1 }, variants);
                 round_up(tag, fields.align)

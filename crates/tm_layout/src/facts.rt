@@ -4,12 +4,13 @@ ghost use Rattle.tm_base.specs.Expanded.{Fields, never, nonzero, phantom, prim, 
 ghost use Rattle.tm_base.specs.Faults.{has_align};
 ghost use Rattle.tm_base.specs.Layout.{prim_size};
 ghost use Rattle.tm_base.specs.Parts.{is_cell, some_field};
+ghost use Rattle.tm_base.specs.Profiles.{pointer_size};
 ghost use Rattle.tm_layout.specs.Known.{IsFactsOf};
 
 pub use crate::definitions::defined;
 pub use crate::placing::places;
 pub use crate::wrappers::{array, wrapped};
-use tm_base::{Primitive, Why};
+use tm_base::{Primitive, Profile, Why};
 
 /// What is known of a type.
 ///
@@ -45,24 +46,35 @@ fn whole(nullable: bool, size: u32, align: u32, weight: u32) -> Facts
     }
 }
 
+/// The size of an address, in bytes.
+fn pointer_size(profile: Profile) -> u32
+    ensures { result ≡ pointer_size profile }
+{
+    match profile {
+        Profile::Le64 | Profile::Be64 => 8,
+        Profile::Le32 => 4,
+    }
+}
+
 /// The size of a primitive, in bytes.
-pub fn primitive_size(p: Primitive) -> u32
-    ensures { result ≡ prim_size p }
+pub fn primitive_size(profile: Profile, p: Primitive) -> u32
+    ensures { result ≡ prim_size profile p }
 {
     match p {
         Primitive::Bool | Primitive::U8 | Primitive::I8 => 1,
         Primitive::U16 | Primitive::I16 => 2,
         Primitive::U32 | Primitive::I32 | Primitive::Char | Primitive::F32 => 4,
-        Primitive::U64 | Primitive::I64 | Primitive::F64 | Primitive::Usize | Primitive::Isize => 8,
+        Primitive::U64 | Primitive::I64 | Primitive::F64 => 8,
+        Primitive::Usize | Primitive::Isize => pointer_size(profile),
         Primitive::U128 | Primitive::I128 => 16,
     }
 }
 
 /// What is known of a primitive.
-pub fn primitive(p: Primitive) -> Facts
-    ensures { IsFactsOf (prim p) result }
+pub fn primitive(profile: Profile, p: Primitive) -> Facts
+    ensures { IsFactsOf (prim profile p) result }
 {
-    let size = primitive_size(p);
+    let size = primitive_size(profile, p);
     whole(false, size, size, size)
 }
 
@@ -76,17 +88,18 @@ pub fn empty() -> Facts
 }
 
 /// What is known of a reference.
-pub fn reference() -> Facts
-    ensures { (r : RefId) → IsFactsOf (ref r) result }
+pub fn reference(profile: Profile) -> Facts
+    ensures { (r : RefId) → IsFactsOf (ref profile r) result }
 {
-    whole(true, 8, 8, 8)
+    let size = pointer_size(profile);
+    whole(true, size, size, size)
 }
 
 /// What is known of a `NonZero`.
-pub fn nonzero(p: Primitive) -> Facts
-    ensures { IsFactsOf (nonzero p) result }
+pub fn nonzero(profile: Profile, p: Primitive) -> Facts
+    ensures { IsFactsOf (nonzero profile p) result }
 {
-    let size = primitive_size(p);
+    let size = primitive_size(profile, p);
     whole(true, size, size, size)
 }
 

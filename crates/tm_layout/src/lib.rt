@@ -15,8 +15,6 @@ mod placing;
 mod reached;
 mod refused;
 mod row;
-#[cfg(test)]
-mod tests;
 mod transparent;
 mod unions;
 mod weights;

@@ -3,7 +3,7 @@ ghost use Rattle.std.specs.Prelude.{◌≡◌, ℕ, ◌<◌, false, IfOk, None, 
 ghost use Rattle.tm_base.specs.declared.ground.Ground.{Named};
 ghost use Rattle.tm_base.specs.Worlds.{tables_of};
 ghost use Rattle.tm_layout.specs.Made.{AreRowsOf, EachIs, IsKnown, is_missing, row_at};
-ghost use Rattle.tm_layout.specs.Making.{AreKnown, AreRowsClosed, IsGrown, IsWhole};
+ghost use Rattle.tm_layout.specs.Making.{AreKnown, AreRowsClosed, IsGrown, IsWrittenOut};
 
 use crate::filling::row_of;
 use crate::row::{RowFacts, row_at};
@@ -25,9 +25,7 @@ fn no_rows(alloc: Global, count: usize) -> Result<Vec<Option<RowFacts>>, Memory>
 {
     let mut rows = Vec::new(alloc);
     for _ in 0..count {
-        let Ok(()) = rows.push(None) else {
-            return Err(Memory);
-        };
+        rows.push(None)?;
     }
     Ok(rows)
 }
@@ -53,7 +51,7 @@ fn make_type(
     g: &Ground,
 ) -> Result<(), Memory>
     requires closed { AreRowsClosed (tables_of world.now) rows.old }
-    requires whole { IsWhole (tables_of world.now) g.now }
+    requires whole { IsWrittenOut (tables_of world.now) g.now }
     ensures grown { OnOk result (IsGrown (tables_of world.now) rows.old rows.new) }
     ensures known { OnOk result (IsKnown (tables_of world.now) rows.new g.now) }
 {
@@ -82,7 +80,7 @@ fn make_types(
     types: &[Ground],
 ) -> Result<(), Memory>
     requires closed { AreRowsClosed (tables_of world.now) rows.old }
-    requires whole { EachIs (IsWhole (tables_of world.now)) types.now }
+    requires whole { EachIs (IsWrittenOut (tables_of world.now)) types.now }
     ensures grown { OnOk result (IsGrown (tables_of world.now) rows.old rows.new) }
     ensures known { OnOk result (EachIs (IsKnown (tables_of world.now) rows.new) types.now) }
 {
@@ -101,7 +99,7 @@ fn make_variants(
     variants: &[List<Ground>],
 ) -> Result<(), Memory>
     requires closed { AreRowsClosed (tables_of world.now) rows.old }
-    requires whole { EachIs (EachIs (IsWhole (tables_of world.now))) variants.now }
+    requires whole { EachIs (EachIs (IsWrittenOut (tables_of world.now))) variants.now }
     ensures grown { OnOk result (IsGrown (tables_of world.now) rows.old rows.new) }
     ensures known { OnOk result (AreKnown (tables_of world.now) rows.new variants.now) }
 {
@@ -120,7 +118,7 @@ fn make_row(
     id: NamedId,
 ) -> Result<(), Memory>
     requires closed { AreRowsClosed (tables_of world.now) rows.old }
-    requires whole { IsWhole (tables_of world.now) (Named id) }
+    requires whole { IsWrittenOut (tables_of world.now) (Named id) }
     ensures grown { OnOk result (IsGrown (tables_of world.now) rows.old rows.new) }
     ensures known { OnOk result (IsKnown (tables_of world.now) rows.new (Named id)) }
 {

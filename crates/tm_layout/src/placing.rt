@@ -1,11 +1,9 @@
 ghost use Rattle.std.specs.Prelude.{◌≡◌, ◌+◌, IfOk, IsTrue, None, map};
-ghost use Rattle.tm_base.specs.Expanded.{Variants, named};
 ghost use Rattle.tm_base.specs.Layout.{places};
 ghost use Rattle.tm_base.specs.Places.{at_front, places_of};
 ghost use Rattle.tm_base.specs.Whole.{is_def_in_form};
-ghost use Rattle.tm_base.specs.declared.ground.NamedId.{NamedId};
 ghost use Rattle.tm_layout.specs.Capped.{capped};
-ghost use Rattle.tm_layout.specs.Known.{AreVariantFacts, AreVariantsFor};
+ghost use Rattle.tm_layout.specs.Known.{OfDefined};
 ghost use Rattle.tm_layout.specs.Placed.{variant_places_in};
 ghost use Rattle.tm_layout.specs.Reckoned.{layouts_in, variant_layouts_in};
 ghost use Rattle.tm_layout.specs.Refusals.{refusal_of};
@@ -14,7 +12,7 @@ use crate::enums::{fields_begin, tag_layout};
 use crate::facts::Facts;
 use crate::fields::{layout_in, place_at};
 use std::alloc::Global;
-use tm_base::{Def, Kind, List, Memory, Repr};
+use tm_base::{Def, Kind, List, Memory, Profile, Repr};
 
 /// Where some fields stand, one after another from a place on, each counted from `begin`.
 fn in_order(
@@ -31,9 +29,7 @@ fn in_order(
     for field in fields {
         let layout = layout_in(field);
         let place = place_at(packed, end, layout);
-        let Ok(()) = found.push(begin.saturating_add(place)) else {
-            return Err(Memory);
-        };
+        found.add(begin.saturating_add(place))?;
         end = place.saturating_add(layout.size);
     }
     Ok(found)
@@ -45,9 +41,7 @@ fn at_front(alloc: Global, fields: &[Facts]) -> Result<List<u32>, Memory>
 {
     let mut found = List::new(alloc);
     for _ in fields {
-        let Ok(()) = found.push(0) else {
-            return Err(Memory);
-        };
+        found.add(0)?;
     }
     Ok(found)
 }
@@ -55,48 +49,53 @@ fn at_front(alloc: Global, fields: &[Facts]) -> Result<List<u32>, Memory>
 /// Where the fields of a variant stand.
 fn variant_places(
     alloc: Global,
+    profile: Profile,
     kind: Kind,
     repr: Repr,
     begin: u32,
     fields: &[Facts],
 ) -> Result<List<u32>, Memory>
-    ensures { IfOk result (λ found. found ≡ map capped (variant_places_in kind repr begin (layouts_in fields.now))) }
+    ensures { IfOk result (λ found. found ≡ map capped (variant_places_in profile kind repr begin (layouts_in fields.now))) }
 {
     match kind {
         Kind::Struct if repr.transparent => at_front(alloc, fields),
         Kind::Struct => in_order(alloc, repr.packed, 0, 0, fields),
         Kind::Union => at_front(alloc, fields),
         Kind::Enum if repr.c => in_order(alloc, None, begin, 0, fields),
-        Kind::Enum => in_order(alloc, None, 0, tag_layout(repr.tag).size, fields),
+        Kind::Enum => in_order(alloc, None, 0, tag_layout(profile, repr.tag).size, fields),
     }
 }
 
 /// Where the fields of a definition stand, for each variant, of which a layout is known.
 fn all_places(
     alloc: Global,
+    profile: Profile,
     kind: Kind,
     repr: Repr,
     begin: u32,
     parts: &[List<Facts>],
 ) -> Result<List<List<u32>>, Memory>
-    ensures { IfOk result (λ found. found ≡ map (λ ls. map capped (variant_places_in kind repr begin ls)) (variant_layouts_in parts.now)) }
+    ensures { IfOk result (λ found. found ≡ map (λ ls. map capped (variant_places_in profile kind repr begin ls)) (variant_layouts_in parts.now)) }
 {
     let mut found = List::new(alloc);
     for fields in parts {
-        let places = variant_places(alloc, kind, repr, begin, fields.as_slice())?;
-        let Ok(()) = found.push(places) else {
-            return Err(Memory);
-        };
+        let places = variant_places(alloc, profile, kind, repr, begin, fields.as_slice())?;
+        found.add(places)?;
     }
     Ok(found)
 }
 
 /// Where the fields of a named type that has a layout stand, for each variant, in bytes from the type's
 /// first. `Memory`: there wasn't enough memory.
-pub fn places(alloc: Global, def: &Def, parts: &[List<Facts>]) -> Result<List<List<u32>>, Memory>
-    requires { IsTrue (is_def_in_form def.now) }
-    ensures { IfOk result (λ found. (id : NamedId) (variants : Variants) → AreVariantsFor def.now.variants variants → AreVariantFacts variants parts.now → refusal_of (named id def.now.kind def.now.repr variants) ≡ None → found ≡ places_of (named id def.now.kind def.now.repr variants)) }
+pub fn places(
+    alloc: Global,
+    profile: Profile,
+    def: &Def,
+    parts: &[List<Facts>],
+) -> Result<List<List<u32>>, Memory>
+    requires { IsTrue (is_def_in_form profile def.now) }
+    ensures { IfOk result (λ found. OfDefined profile def.now parts.now (λ t. refusal_of t ≡ None → found ≡ places_of t)) }
 {
-    let begin = fields_begin(def.kind, def.repr, parts);
-    all_places(alloc, def.kind, def.repr, begin, parts)
+    let begin = fields_begin(profile, def.kind, def.repr, parts);
+    all_places(alloc, profile, def.kind, def.repr, begin, parts)
 }

@@ -26,10 +26,7 @@ fn add_types<'a>(types: &mut Vec<&'a Ground>, more: &'a [Ground]) -> Result<(), 
     ensures { OnOk result (types_at types.new.items ≡ types_at types.old.items ++ more.now) }
 {
     for g in more {
-        match types.push(g) {
-            Ok(()) => {}
-            Err(_) => return Err(Memory),
-        }
+        types.push(g)?;
     }
     Ok(())
 }
@@ -39,10 +36,7 @@ fn add_fields<'a>(types: &mut Vec<&'a Ground>, row: &'a NamedRow) -> Result<(), 
     ensures { OnOk result (types_at types.new.items ≡ types_at types.old.items ++ row_parts (Some row.now)) }
 {
     for variant in row.types.as_slice() {
-        match add_types(types, variant.as_slice()) {
-            Ok(()) => {}
-            Err(memory) => return Err(memory),
-        }
+        add_types(types, variant.as_slice())?;
     }
     Ok(())
 }
@@ -122,10 +116,7 @@ fn add_entered<'a>(
 fn no_marks(alloc: Global, count: usize) -> Result<Vec<bool>, Memory>
     ensures { IfOk result (λ marks. marks.items ≡ replicate count false) }
 {
-    match vec![in alloc; false; count] {
-        Ok(marks) => Ok(marks),
-        Err(_) => Err(Memory),
-    }
+    Ok(vec![in alloc; false; count]?)
 }
 
 /// All types that a type reaches: itself, its parts by value, the pointees of its references, and what
@@ -140,16 +131,10 @@ pub fn reached_types<'a>(
     let mut named = no_marks(alloc, world.named.len())?;
     let mut refs = no_marks(alloc, world.refs.len())?;
     let mut types = Vec::new(alloc);
-    match types.push(g) {
-        Ok(()) => {}
-        Err(_) => return Err(Memory),
-    }
+    types.push(g)?;
     let mut place = 0;
     while place < types.len() {
-        match add_entered(world, types[place], &mut named, &mut refs, &mut types) {
-            Ok(()) => {}
-            Err(memory) => return Err(memory),
-        }
+        add_entered(world, types[place], &mut named, &mut refs, &mut types)?;
         place += 1;
     }
     Ok(types)

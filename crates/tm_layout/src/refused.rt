@@ -87,10 +87,7 @@ fn least_of(
 {
     let mut least = None;
     for g in types {
-        match least_with(alloc, world, layouts, least, g) {
-            Ok(next) => least = next,
-            Err(memory) => return Err(memory),
-        }
+        least = least_with(alloc, world, layouts, least, g)?;
     }
     Ok(least)
 }
@@ -108,9 +105,9 @@ pub fn first_refused(
     ensures { IfOk result (IsRefusedAnswer (tables_of world.now) g.now) }
 {
     let types = reached_types(alloc, world, g)?;
-    match least_of(alloc, world, layouts, types.as_slice()) {
-        Ok(Some(refused)) => Ok(Some((refused.why, refused.found))),
-        Ok(None) => Ok(None),
-        Err(memory) => Err(memory),
+    let least = least_of(alloc, world, layouts, types.as_slice())?;
+    match least {
+        Some(refused) => Ok(Some((refused.why, refused.found))),
+        None => Ok(None),
     }
 }

@@ -1,15 +1,16 @@
 ghost use Rattle.std.specs.Prelude.{◌≡◌};
+ghost use Rattle.tm_base.specs.Weight.{named_weight, sum_from, variants_sum_from};
 ghost use Rattle.tm_layout.specs.Capped.{capped};
-ghost use Rattle.tm_layout.specs.Reckoned.{variant_sum, weight_in, weight_sum};
+ghost use Rattle.tm_layout.specs.Reckoned.{variant_weights_in, weights_in};
 
 use crate::enums::tag_layout;
 use crate::facts::Facts;
 use crate::fields::only;
-use tm_base::{Kind, List, Repr};
+use tm_base::{Kind, List, Profile, Repr};
 
 /// The weights of some fields together, each counted as `least` at least.
 fn weight_sum(least: u32, fields: &[Facts]) -> u32
-    ensures { result ≡ capped (weight_sum least fields.now) }
+    ensures { result ≡ capped (sum_from least (weights_in fields.now)) }
 {
     let mut sum: u32 = 0;
     for field in fields {
@@ -20,7 +21,7 @@ fn weight_sum(least: u32, fields: &[Facts]) -> u32
 
 /// The weights of some variants together, each with its tag and counted as `least` at least.
 fn variant_sum(least: u32, tag: u32, variants: &[List<Facts>]) -> u32
-    ensures { result ≡ capped (variant_sum least tag variants.now) }
+    ensures { result ≡ capped (variants_sum_from least tag (variant_weights_in variants.now)) }
 {
     let mut sum: u32 = 0;
     for fields in variants {
@@ -31,13 +32,19 @@ fn variant_sum(least: u32, tag: u32, variants: &[List<Facts>]) -> u32
 }
 
 /// The weight of a definition with so many bytes.
-pub fn weight_in(kind: Kind, repr: Repr, size: u32, variants: &[List<Facts>]) -> u32
-    ensures { result ≡ capped (weight_in kind repr size variants.now) }
+pub fn weight_in(
+    profile: Profile,
+    kind: Kind,
+    repr: Repr,
+    size: u32,
+    variants: &[List<Facts>],
+) -> u32
+    ensures { result ≡ capped (named_weight profile kind repr size (variant_weights_in variants.now)) }
 {
     let least = size.max(1);
     match kind {
         Kind::Struct => least.max(weight_sum(0, only(variants))),
         Kind::Union => weight_sum(least, only(variants)),
-        Kind::Enum => variant_sum(least, tag_layout(repr.tag).size, variants),
+        Kind::Enum => variant_sum(least, tag_layout(profile, repr.tag).size, variants),
     }
 }

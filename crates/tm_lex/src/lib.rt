@@ -9,8 +9,6 @@ mod lexing;
 mod numbers;
 mod opening;
 mod piece;
-#[cfg(test)]
-mod tests;
 mod token;
 mod words;
 

@@ -5,7 +5,7 @@ use Rattle.std.specs.List.{filter_map, position_from, range_with_len}
 use Rattle.std.proofs.lemmas.Bool.{cases_Bool, false≢true}
 use Rattle.std.proofs.lemmas.Bool.Decides.{nat_tests}
 use Rattle.std.proofs.lemmas.Option.{none-some, same_Some}
-use Rattle.tm_base.specs.Reaches.{LeadsIn}
+use Rattle.tm_base.specs.Reaches.{ChainIn}
 use Rattle.tm_names.proofs.Members.{Member, contained, from_filter_map, into_filter_map, member}
 use Rattle.tm_names.proofs.RowLemmas.{Admits, bit_within, closure_admits, length_map, row_of_map, row_within, some_at}
 use Rattle.tm_names.proofs.ThroughLemmas.{Way, through_is_way, way_is_through}
@@ -52,8 +52,8 @@ position_within test from (x ∷ xs) k e =
     (λ t. let later = position_within test (from + 1) xs k (sym (ap (λ b. if b then Some from else position_from test (from + 1) xs) t) ∙ e) in omega (arith, later))
     (cases_Bool (test x))
 
-lead_on : {X : Type 0} (S T : X → X → Type 0) → ((a b : X) → S a b → T a b) → (n : ℕ) (a b : X) → LeadsIn S n a b → LeadsIn T n a b
-unfolding LeadsIn
+lead_on : {X : Type 0} (S T : X → X → Type 0) → ((a b : X) → S a b → T a b) → (n : ℕ) (a b : X) → ChainIn S n a b → ChainIn T n a b
+unfolding ChainIn
 lead_on S T h zero a b e = e
 lead_on S T h (suc n) a b (next, s, more) = (next, h a next s, lead_on S T h n next b more)
 

@@ -1,7 +1,7 @@
 -- Ways that are found by admitting one number after another are the ways that there are.
 use Rattle.std.proofs.Common.{◌≡◌, ℕ, zero, suc, ◌<◌, refl, sym, ap, ◌∙◌, subst, arith, inl, inr, ◌⊎◌, ⊎_elim, Bool, true, false, ◌||◌, ◌&&◌}
 use Rattle.std.proofs.lemmas.Bool.{false≢true}
-use Rattle.tm_base.specs.Reaches.{Leads, LeadsIn}
+use Rattle.tm_base.specs.Reaches.{Chain, ChainIn}
 use Rattle.tm_names.specs.Closures.{through}
 
 -- parts of a test
@@ -27,24 +27,24 @@ both a b e f = ap (λ c. c && b) e ∙ f
 pub record Way {X : Type 0} (Step : X → X → Type 0) (a b : X) : Type 0 where
   pub next : X
   pub first : Step a next
-  pub rest : Leads Step next b
+  pub rest : Chain Step next b
 
 module _ {X : Type 0} (Step : X → X → Type 0) where
-  joined : (n : ℕ) (a b c : X) → LeadsIn Step n a b → Leads Step b c → Leads Step a c
-  unfolding LeadsIn
-  joined zero a b c e rest = subst (λ z. Leads Step z c) (sym e) rest
+  joined : (n : ℕ) (a b c : X) → ChainIn Step n a b → Chain Step b c → Chain Step a c
+  unfolding ChainIn
+  joined zero a b c e rest = subst (λ z. Chain Step z c) (sym e) rest
   joined (suc n) a b c (next, step, more) rest = let found = joined n next b c more rest in (suc found.0, (next, step, found.1))
 
-  one_step : (a b : X) → Step a b → Leads Step a b
-  unfolding LeadsIn
+  one_step : (a b : X) → Step a b → Chain Step a b
+  unfolding ChainIn
   one_step a b s = (1, (b, s, refl))
 
   pub way_of_step : (a b : X) → Step a b → Way Step a b
-  unfolding LeadsIn
+  unfolding ChainIn
   way_of_step a b s = record { next = b; first = s; rest = (0, refl) }
 
   pub ways : (a b c : X) → Way Step a b → Way Step b c → Way Step a c
-  unfolding LeadsIn
+  unfolding ChainIn
   ways a b c p q = record { next = p.next; first = p.first; rest = joined p.rest.0 p.next b c p.rest.1 (suc q.rest.0, (q.next, q.first, q.rest.1)) }
 
 module _ (edge : ℕ → ℕ → Bool) where
@@ -100,8 +100,8 @@ module _ (edge : ℕ → ℕ → Bool) where
       (or_cases (through edge k i m) (over k i m) p))
       (which m k l)
 
-  led : (n : ℕ) → ((a b : ℕ) → edge a b ≡ true → (a < n) × (b < n)) → (steps i m j : ℕ) → edge i m ≡ true → LeadsIn Edge steps m j → through edge n i j ≡ true
-  unfolding LeadsIn
+  led : (n : ℕ) → ((a b : ℕ) → edge a b ≡ true → (a < n) × (b < n)) → (steps i m j : ℕ) → edge i m ≡ true → ChainIn Edge steps m j → through edge n i j ≡ true
+  unfolding ChainIn
   led n within zero i m j p e = subst (λ z. through edge n i z ≡ true) e (one_way n i m p)
   led n within (suc steps) i m j p (next, q, more) =
       through_joins n i m j (within i m p).1 (one_way n i m p) (led n within steps m next j q more)

@@ -1,7 +1,7 @@
 -- Which definition holds which by value.
 use Rattle.std.specs.Prelude.{◌≡◌, ℕ, true, Option, Some, List, Contains, slice_get}
 use Rattle.std.specs.List.{position_from}
-use Rattle.tm_base.specs.Reaches.{Leads}
+use Rattle.tm_base.specs.Reaches.{Chain}
 use Rattle.tm_names.specs.declared.mentions.NameMention.{NameMention}
 use Rattle.tm_names.specs.declared.mentions.Mention.TheVariants.{Name}
 use Rattle.tm_names.specs.Scopes.{decl_mentions}
@@ -26,4 +26,4 @@ module _ (name : ℕ → List ℕ) (decls : List Decl) where
   pub record HoldsItself (i : ℕ) : Type 0 where
     pub next : ℕ
     pub first : Holds i next
-    pub back : Leads Holds next i
+    pub back : Chain Holds next i

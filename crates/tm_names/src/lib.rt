@@ -25,8 +25,6 @@ mod resolved;
 mod resolving;
 mod sight;
 mod source;
-#[cfg(test)]
-mod tests;
 mod typing;
 mod value;
 

@@ -8,7 +8,7 @@ use tm_base::{Primitive, Wrapper};
 ///
 /// Words that are keywords only in places, as `ask` and `union`, have classes of their own; elsewhere
 /// they are names.
-#[derive(Clone, Copy, Debug)]
+#[derive(Clone, Copy)]
 pub enum Class {
     OpenBrace,
     CloseBrace,

@@ -2,7 +2,7 @@
 ///
 /// `definitions`, `questions` and `lifetimes` are the file's; `parameters`, `fields` and `variants` are
 /// those of the definition that began last; `nodes` are the types in the outermost type that began last.
-#[derive(Clone, Copy, Debug)]
+#[derive(Clone, Copy)]
 pub struct Counts {
     pub definitions: u32,
     pub questions: u32,

@@ -21,8 +21,6 @@ mod reading;
 mod rule;
 mod stop;
 mod terminal;
-#[cfg(test)]
-mod tests;
 mod types;
 mod variants;
 mod vocabulary;

@@ -4,7 +4,7 @@ use tm_base::{Assume, Boxed, Kind, List, Primitive, Wrapper};
 ///
 /// `Array` has the element's type and the length. `Named` has the name and the lifetimes. `Ref` has the
 /// lifetime, whether it is `&mut`, and what it points to. The empty `Tuple` is `()`.
-#[derive(Debug, Drop)]
+#[derive(Drop)]
 pub enum Expr {
     Prim(Primitive),
     Never,
@@ -17,7 +17,7 @@ pub enum Expr {
 }
 
 /// An item of a `repr` attribute. `packed` alone is `Packed(1)`.
-#[derive(Clone, Copy, Debug)]
+#[derive(Clone, Copy)]
 pub enum ReprItem {
     C,
     Transparent,
@@ -29,7 +29,7 @@ pub enum ReprItem {
 /// A field: its name's place, whether plain `pub` is written before it, and its type.
 ///
 /// A field of a tuple has no name.
-#[derive(Debug, Drop)]
+#[derive(Drop)]
 pub struct DeclField {
     pub name: Option<u32>,
     pub public: bool,
@@ -39,7 +39,7 @@ pub struct DeclField {
 /// A variant of an enum: its name's place, its discriminant where one is written, and its fields.
 ///
 /// A struct or a union is one variant, with neither name nor discriminant.
-#[derive(Debug, Drop)]
+#[derive(Drop)]
 pub struct DeclVariant {
     pub name: Option<u32>,
     pub negative: bool,
@@ -48,7 +48,7 @@ pub struct DeclVariant {
 }
 
 /// An item of a `repr` attribute, with the place of the attribute's word `repr`.
-#[derive(Clone, Copy, Debug)]
+#[derive(Clone, Copy)]
 pub struct DeclRepr {
     pub token: u32,
     pub item: ReprItem,
@@ -56,7 +56,7 @@ pub struct DeclRepr {
 
 /// A definition: its name's place, the items of all its `repr` attributes, its parameters' places, and
 /// its variants.
-#[derive(Debug, Drop)]
+#[derive(Drop)]
 pub struct Decl {
     pub kind: Kind,
     pub name: u32,
@@ -66,14 +66,14 @@ pub struct Decl {
 }
 
 /// That one lifetime outlives another: the places of both.
-#[derive(Clone, Copy, Debug)]
+#[derive(Clone, Copy)]
 pub struct DeclBound {
     pub longer: u32,
     pub shorter: u32,
 }
 
 /// A question as it is written.
-#[derive(Debug, Drop)]
+#[derive(Drop)]
 pub struct DeclAsk {
     pub src: Expr,
     pub dst: Expr,
@@ -81,7 +81,7 @@ pub struct DeclAsk {
 }
 
 /// A file as it is written: its items by their sorts, each in the file's order.
-#[derive(Debug, Drop)]
+#[derive(Drop)]
 pub struct Parsed {
     pub lifetimes: List<u32>,
     pub bounds: List<DeclBound>,

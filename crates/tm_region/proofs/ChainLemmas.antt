@@ -5,23 +5,23 @@ use Rattle.std.proofs.lemmas.List.Elements.{Contains-append_left, Contains-appen
 use Rattle.tm_base.specs.declared.definition.Bound.{Bound}
 use Rattle.tm_base.specs.declared.definition.RegionId.{RegionId}
 use Rattle.tm_base.specs.Outlives.{IsBound}
-use Rattle.tm_base.specs.Reaches.{LeadsIn, Leads}
+use Rattle.tm_base.specs.Reaches.{ChainIn, Chain}
 
-Leads-after : {X : Type 0} (Step : X → X → Type 0) (n : ℕ) (a b c : X) → LeadsIn Step n a b → Leads Step b c → Leads Step a c
-unfolding LeadsIn
-Leads-after Step zero a b c e way = subst (λ x. Leads Step x c) (sym e) way
-Leads-after Step (suc n) a b c (next, step, rest) way =
-    let (m, whole) = Leads-after Step n next b c rest way in
+Chain-after : {X : Type 0} (Step : X → X → Type 0) (n : ℕ) (a b c : X) → ChainIn Step n a b → Chain Step b c → Chain Step a c
+unfolding ChainIn
+Chain-after Step zero a b c e way = subst (λ x. Chain Step x c) (sym e) way
+Chain-after Step (suc n) a b c (next, step, rest) way =
+    let (m, whole) = Chain-after Step n next b c rest way in
     (suc m, (next, step, whole))
 
-Leads-first : {X : Type 0} (Step : X → X → Type 0) (a next b : X) → Step a next → Leads Step next b → Leads Step a b
-unfolding LeadsIn
-Leads-first Step a next b step (n, way) = (suc n, (next, step, way))
+Chain-first : {X : Type 0} (Step : X → X → Type 0) (a next b : X) → Step a next → Chain Step next b → Chain Step a b
+unfolding ChainIn
+Chain-first Step a next b step (n, way) = (suc n, (next, step, way))
 
-LeadsIn-grows : {X : Type 0} (Less More : X → X → Type 0) → ((a b : X) → Less a b → More a b) → (n : ℕ) (a b : X) → LeadsIn Less n a b → LeadsIn More n a b
-unfolding LeadsIn
-LeadsIn-grows Less More grows zero a b e = e
-LeadsIn-grows Less More grows (suc n) a b (next, step, way) = (next, grows a next step, LeadsIn-grows Less More grows n next b way)
+ChainIn-grows : {X : Type 0} (Less More : X → X → Type 0) → ((a b : X) → Less a b → More a b) → (n : ℕ) (a b : X) → ChainIn Less n a b → ChainIn More n a b
+unfolding ChainIn
+ChainIn-grows Less More grows zero a b e = e
+ChainIn-grows Less More grows (suc n) a b (next, step, way) = (next, grows a next step, ChainIn-grows Less More grows n next b way)
 
 the-one : {X : Type 0} (x y : X) → Contains (x ∷ []) y → x ≡ y
 the-one x y (zero, below, e) = e
@@ -30,35 +30,35 @@ the-one x y (suc k, below, e) = absurd (omega arith)
 module _ (bounds : List Bound) (bound : Bound) where
   -- a chain without the bound, or one to it and one from it
   abbrev pub Through : RegionId → RegionId → Type 0
-  Through a b = Leads (IsBound bounds) a b ⊎ (Leads (IsBound bounds) a bound.longer × Leads (IsBound bounds) bound.shorter b)
+  Through a b = Chain (IsBound bounds) a b ⊎ (Chain (IsBound bounds) a bound.longer × Chain (IsBound bounds) bound.shorter b)
 
   steps : (a next b : RegionId) → IsBound (bounds ++ bound ∷ []) a next → Through next b → Through a b
-  unfolding LeadsIn
+  unfolding ChainIn
   steps a next b step rest = go (Contains-append_cases bounds (bound ∷ []) (record { longer = a; shorter = next }) step) rest where
     go : IsBound bounds a next ⊎ IsBound (bound ∷ []) a next → Through next b → Through a b
-    go (inl old) (inl way) = inl (Leads-first (IsBound bounds) a next b old way)
-    go (inl old) (inr (to, from)) = inr (Leads-first (IsBound bounds) a next bound.longer old to, from)
+    go (inl old) (inl way) = inl (Chain-first (IsBound bounds) a next b old way)
+    go (inl old) (inr (to, from)) = inr (Chain-first (IsBound bounds) a next bound.longer old to, from)
     go (inr new) way =
         let e = the-one bound (record { longer = a; shorter = next }) new in
         inr ((zero, sym (ap (λ x. x.longer) e)), from_shorter (ap (λ x. x.shorter) e) way)
       where
-        from_shorter : bound.shorter ≡ next → Through next b → Leads (IsBound bounds) bound.shorter b
-        from_shorter e (inl way) = subst (λ x. Leads (IsBound bounds) x b) (sym e) way
+        from_shorter : bound.shorter ≡ next → Through next b → Chain (IsBound bounds) bound.shorter b
+        from_shorter e (inl way) = subst (λ x. Chain (IsBound bounds) x b) (sym e) way
         from_shorter e (inr (to, from)) = from
 
-  pub Leads-through : (n : ℕ) (a b : RegionId) → LeadsIn (IsBound (bounds ++ bound ∷ [])) n a b → Through a b
-  unfolding LeadsIn
-  Leads-through zero a b e = inl (zero, e)
-  Leads-through (suc n) a b (next, step, way) = steps a next b step (Leads-through n next b way)
+  pub Chain-through : (n : ℕ) (a b : RegionId) → ChainIn (IsBound (bounds ++ bound ∷ [])) n a b → Through a b
+  unfolding ChainIn
+  Chain-through zero a b e = inl (zero, e)
+  Chain-through (suc n) a b (next, step, way) = steps a next b step (Chain-through n next b way)
 
-  grows : (a b : RegionId) → Leads (IsBound bounds) a b → Leads (IsBound (bounds ++ bound ∷ [])) a b
+  grows : (a b : RegionId) → Chain (IsBound bounds) a b → Chain (IsBound (bounds ++ bound ∷ [])) a b
   grows a b (n, way) =
-      (n, LeadsIn-grows (IsBound bounds) (IsBound (bounds ++ bound ∷ [])) (λ x y. Contains-append_left bounds (bound ∷ []) (record { longer = x; shorter = y })) n a b way)
+      (n, ChainIn-grows (IsBound bounds) (IsBound (bounds ++ bound ∷ [])) (λ x y. Contains-append_left bounds (bound ∷ []) (record { longer = x; shorter = y })) n a b way)
 
-  pub Leads-from_through : (a b : RegionId) → Through a b → Leads (IsBound (bounds ++ bound ∷ [])) a b
-  Leads-from_through a b (inl way) = grows a b way
-  Leads-from_through a b (inr (to, from)) =
+  pub Chain-from_through : (a b : RegionId) → Through a b → Chain (IsBound (bounds ++ bound ∷ [])) a b
+  Chain-from_through a b (inl way) = grows a b way
+  Chain-from_through a b (inr (to, from)) =
       let (n, way) = grows a bound.longer to in
       let last : IsBound (bounds ++ bound ∷ []) bound.longer bound.shorter = Contains-append_right bounds (bound ∷ []) bound (0, omega arith, refl) in
       let More = IsBound (bounds ++ bound ∷ []) in
-      Leads-after More n a bound.longer b way (Leads-first More bound.longer bound.shorter b last (grows bound.shorter b from))
+      Chain-after More n a bound.longer b way (Chain-first More bound.longer bound.shorter b last (grows bound.shorter b from))

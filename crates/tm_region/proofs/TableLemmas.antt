@@ -9,16 +9,16 @@ use Rattle.tm_base.specs.declared.definition.NamedRow.{NamedRow}
 use Rattle.tm_base.specs.declared.definition.RefRow.{RefRow}
 use Rattle.tm_base.specs.declared.definition.RegionId.{RegionId}
 use Rattle.tm_base.specs.Outlives.{static, IsBound, Outlives}
-use Rattle.tm_base.specs.Reaches.{LeadsIn, Leads}
+use Rattle.tm_base.specs.Reaches.{ChainIn, Chain}
 use Rattle.tm_base.specs.Whole.{is_bound_known, are_regions_known}
 use Rattle.tm_region.specs.Order.{IsOrderOf}
 use Rattle.tm_region.specs.Table.{IsAdded, has, lone_row, leads_in, outlives_in}
-use Rattle.tm_region.proofs.ChainLemmas.{Through, Leads-through, Leads-from_through}
+use Rattle.tm_region.proofs.ChainLemmas.{Through, Chain-through, Chain-from_through}
 
 -- the table tells where a chain of the bounds leads from each of its regions
 pub record IsTableOf (bounds : List Bound) (rows : List (List Bool)) : Type 0 where
-  pub sound : (a b : RegionId) → a.0 < length rows → has rows a.0 b.0 ≡ true → Leads (IsBound bounds) a b
-  pub complete : (a b : RegionId) → a.0 < length rows → Leads (IsBound bounds) a b → has rows a.0 b.0 ≡ true
+  pub sound : (a b : RegionId) → a.0 < length rows → has rows a.0 b.0 ≡ true → Chain (IsBound bounds) a b
+  pub complete : (a b : RegionId) → a.0 < length rows → Chain (IsBound bounds) a b → has rows a.0 b.0 ≡ true
 
 same_region : (a b : RegionId) → a.0 ≡ b.0 → a ≡ b
 same_region a b e = ap (λ (n : ℕ). let r : RegionId = record { 0 = n } in r) e
@@ -27,8 +27,8 @@ module _ (bounds : List Bound) (bound : Bound) (old new : List (List Bool)) wher
   -- with a bound more
   pub IsTableOf-add : IsTableOf bounds old → length new ≡ length old → bound.longer.0 < length old → bound.shorter.0 < length old → IsAdded bound old new → IsTableOf (bounds ++ bound ∷ []) new
   IsTableOf-add table long longer shorter added = record {
-    sound = λ a b below h. Leads-from_through bounds bound a b (through a b (omega arith) (or_cases _ _ (sym (added a.0 b.0) ∙ h)));
-    complete = λ a b below (n, way). added a.0 b.0 ∙ told a b (omega arith) (Leads-through bounds bound n a b way);
+    sound = λ a b below h. Chain-from_through bounds bound a b (through a b (omega arith) (or_cases _ _ (sym (added a.0 b.0) ∙ h)));
+    complete = λ a b below (n, way). added a.0 b.0 ∙ told a b (omega arith) (Chain-through bounds bound n a b way);
   } where
     through : (a b : RegionId) → a.0 < length old → (has old a.0 b.0 ≡ true) ⊎ ((has old a.0 bound.longer.0 && has old bound.shorter.0 b.0) ≡ true) → Through bounds bound a b
     through a b below (inl h) = inl (table.sound a b below h)
@@ -58,7 +58,7 @@ lone-itself : (a : ℕ) → a < 17 → slice_index_or (lone_row a) a false ≡ t
 lone-itself a below = get_or-set_same (replicate 17 false) a true false below
 
 pub IsTableOf-start : (count : ℕ) → count ≤ 17 → IsTableOf [] (map lone_row (range_with_len 0 count))
-unfolding LeadsIn
+unfolding ChainIn
 IsTableOf-start count few = record {
   sound = λ a b below h.
       let in_range : a.0 < count = omega (arith, length-map-range_with_len lone_row 0 count) in
@@ -70,7 +70,7 @@ IsTableOf-start count few = record {
   row_at : (a : RegionId) → a.0 < count → slice_index_or (map lone_row (range_with_len 0 count)) a.0 [] ≡ lone_row a.0
   row_at a below = get_or-map-range_with_len lone_row 0 count a.0 a.0 [] below (zero-add a.0)
 
-  only : (a b : RegionId) → Leads (IsBound []) a b → a ≡ b
+  only : (a b : RegionId) → Chain (IsBound []) a b → a ≡ b
   only a b (zero, e) = e
   only a b (suc n, (next, (k, below, e), way)) = absurd (omega arith)
 
@@ -80,23 +80,23 @@ known count (x ∷ bounds) zero bound h below e = subst (λ y. is_bound_known co
 known count (x ∷ bounds) (suc k) bound h below e = known count bounds k bound (and_parts (is_bound_known count x) _ h).1 (omega arith) e
 
 -- a region that no bound names leads to itself alone
-outside : (count : ℕ) (bounds : List Bound) → list_all (is_bound_known count) bounds ≡ true → (a b : RegionId) → count ≤ a.0 → Leads (IsBound bounds) a b → a ≡ b
-unfolding LeadsIn
+outside : (count : ℕ) (bounds : List Bound) → list_all (is_bound_known count) bounds ≡ true → (a b : RegionId) → count ≤ a.0 → Chain (IsBound bounds) a b → a ≡ b
+unfolding ChainIn
 outside count bounds h a b past (zero, e) = e
 outside count bounds h a b past (suc n, (next, (k, below, e), way)) =
     let in_range = ltb-true a.0 count (and_parts _ _ (known count bounds k (record { longer = a; shorter = next }) h below e)).0 in
     absurd (omega arith)
 
 module _ (bounds : List Bound) (rows : List (List Bool)) (table : IsTableOf bounds rows) (all_known : list_all (is_bound_known (length rows)) bounds ≡ true) where
-  leads-sound : (a b : RegionId) → leads_in rows a b ≡ true → Leads (IsBound bounds) a b
-  unfolding LeadsIn
+  leads-sound : (a b : RegionId) → leads_in rows a b ≡ true → Chain (IsBound bounds) a b
+  unfolding ChainIn
   leads-sound a b h = go (or_cases _ _ h) (cases_lt a.0 (length rows)) where
-    go : (nat_eq a.0 b.0 ≡ true) ⊎ (has rows a.0 b.0 ≡ true) → (a.0 < length rows) ⊎ (length rows ≤ a.0) → Leads (IsBound bounds) a b
+    go : (nat_eq a.0 b.0 ≡ true) ⊎ (has rows a.0 b.0 ≡ true) → (a.0 < length rows) ⊎ (length rows ≤ a.0) → Chain (IsBound bounds) a b
     go (inl e) side = (0, same_region a b (eqb-true a.0 b.0 e))
     go (inr told) (inl below) = table.sound a b below told
     go (inr told) (inr past) = absurd (both_ways _ (ap (λ row. slice_index_or row b.0 false) (get_or_past rows a.0 [] past)) told)
 
-  leads-complete : (a b : RegionId) → Leads (IsBound bounds) a b → leads_in rows a b ≡ true
+  leads-complete : (a b : RegionId) → Chain (IsBound bounds) a b → leads_in rows a b ≡ true
   leads-complete a b way = go (cases_lt a.0 (length rows)) where
     go : (a.0 < length rows) ⊎ (length rows ≤ a.0) → leads_in rows a b ≡ true
     go (inl below) = or_right (nat_eq a.0 b.0) _ (table.complete a b below way)

@@ -1,51 +1,17 @@
--- The line that a file gets in place of a report, as bytes. The words and the limits are this project's.
+-- The line that a file gets in place of a report, as bytes. The words are this project's.
 use Rattle.std.specs.Prelude.{ℕ, Option, Some, None, List, [], ◌∷◌, ◌++◌, codes}
 use Rattle.std.specs.Fmt.{decimal}
 use Rattle.tm_base.specs.declared.limit.LimitKind.{LimitKind}
-use Rattle.tm_base.specs.declared.limit.LimitKind.TheVariants.{FileBytes, Definitions, Questions, Lifetimes, Parameters, Fields, Variants, Nesting, TypeNodes, ArrayLength, NameBytes, NamedTypes, References, Depth}
 use Rattle.tm_base.specs.declared.limit.NameWhy.{NameWhy}
 use Rattle.tm_base.specs.declared.limit.NameWhy.TheVariants.{Twice, Unknown, Arity, Lifetime, Discriminant, Infinite, BadRepr}
+use Rattle.tm_base.specs.Limits.{limit_number, limit_word}
 use Rattle.tm_report.specs.declared.fault.At.{At}
 use Rattle.tm_report.specs.declared.fault.FileFault.{FileFault}
-use Rattle.tm_report.specs.declared.fault.FileFault.TheVariants.{NotUtf8, NoToken, BadNumber, OpenComment, Unexpected, EndOfFile, Passed, Names, NotYet}
+use Rattle.tm_report.specs.declared.fault.FileFault.TheVariants.{NotUtf8, NoToken, BadNumber, OpenComment, Unexpected, EndOfFile, Passed, Names, BadRefutation, NoQuestion, NotYet}
 
 -- the byte that ends a line
 abbrev pub line_end : List ℕ
 line_end = 0x0A ∷ []
-
--- the word of a limit
-abbrev pub limit_word : LimitKind → List ℕ
-limit_word FileBytes = codes "file-bytes"
-limit_word Definitions = codes "definitions"
-limit_word Questions = codes "questions"
-limit_word Lifetimes = codes "lifetimes"
-limit_word Parameters = codes "parameters"
-limit_word Fields = codes "fields"
-limit_word Variants = codes "variants"
-limit_word Nesting = codes "nesting"
-limit_word TypeNodes = codes "type-nodes"
-limit_word ArrayLength = codes "array-length"
-limit_word NameBytes = codes "name-bytes"
-limit_word NamedTypes = codes "named-types"
-limit_word References = codes "references"
-limit_word Depth = codes "depth"
-
--- the most that a limit lets pass
-abbrev pub limit_number : LimitKind → ℕ
-limit_number FileBytes = 1048576
-limit_number Definitions = 256
-limit_number Questions = 256
-limit_number Lifetimes = 16
-limit_number Parameters = 4
-limit_number Fields = 256
-limit_number Variants = 256
-limit_number Nesting = 32
-limit_number TypeNodes = 64
-limit_number ArrayLength = 4294967295
-limit_number NameBytes = 64
-limit_number NamedTypes = 1024
-limit_number References = 64
-limit_number Depth = 64
 
 -- the word of a name fault
 abbrev pub name_word : NameWhy → List ℕ
@@ -84,6 +50,8 @@ fault_text (Unexpected at) = codes "unexpected token" ++ place_text at
 fault_text (EndOfFile at) = codes "unexpected end" ++ place_text at
 fault_text (Passed kind place) = limit_text kind ++ place_if_some place
 fault_text (Names why at) = name_text why ++ place_text at
+fault_text (BadRefutation line) = codes "bad refutation at line " ++ decimal line
+fault_text (NoQuestion number) = codes "no question " ++ decimal number
 fault_text NotYet = codes "not built yet"
 
 -- the line of a fault

@@ -3,8 +3,6 @@
 
 mod fault;
 mod lines;
-#[cfg(test)]
-mod tests;
 mod words;
 
 pub use fault::{At, FileFault};

@@ -2,31 +2,21 @@ ghost use Rattle.std.specs.Prelude.{◌≡◌, ◌++◌, IfOk, string_bytes};
 ghost use Rattle.tm_report.specs.FaultLines.{line_end, line_of, limit_text, name_text, place_text};
 
 use crate::fault::{At, FileFault};
-use crate::words::{limit_number, limit_word, name_word};
+use crate::words::name_word;
 use std::alloc::{AllocError, Global};
 use tm_base::{LimitKind, Memory, NameWhy, Text};
 
 /// The line that says why a file gets no report, with the byte 0A at its end.
 ///
-/// The error comes where memory is wanting.
+/// `Memory`: there wasn't enough memory for the line.
 pub fn fault_line(alloc: Global, fault: &FileFault) -> Result<Text, Memory>
     ensures { IfOk result (λ line. line ≡ line_of fault.now) }
 {
-    match line(alloc, *fault) {
-        Ok(line) => text(alloc, line.as_str()),
-        Err(_) => Err(Memory),
-    }
+    let line = line(alloc, *fault)?;
+    Ok(Text::from(line))
 }
 
-/// A text of its own with the same bytes.
-fn text(alloc: Global, piece: &str) -> Result<Text, Memory>
-    ensures { IfOk result (λ text. text ≡ piece.now) }
-{
-    let mut text = Text::new(alloc);
-    text.push_str(piece)?;
-    Ok(text)
-}
-
+/// The line of a fault.
 fn line(alloc: Global, fault: FileFault) -> Result<String, AllocError>
     ensures { IfOk result (λ line. string_bytes line ≡ line_of fault) }
 {
@@ -40,6 +30,10 @@ fn line(alloc: Global, fault: FileFault) -> Result<String, AllocError>
         FileFault::Passed(kind, None) => format!(in alloc; "{}\n", limit(alloc, kind)?),
         FileFault::Passed(kind, Some(at)) => placed(alloc, limit(alloc, kind)?.as_str(), at),
         FileFault::Names(why, at) => placed(alloc, name(alloc, why)?.as_str(), at),
+        FileFault::BadRefutation(number) => {
+            format!(in alloc; "bad refutation at line {number}\n")
+        }
+        FileFault::NoQuestion(number) => format!(in alloc; "no question {number}\n"),
         FileFault::NotYet => String::from_str(alloc, "not built yet\n"),
     }
 }
@@ -55,7 +49,7 @@ fn placed(alloc: Global, what: &str, at: At) -> Result<String, AllocError>
 fn limit(alloc: Global, kind: LimitKind) -> Result<String, AllocError>
     ensures { IfOk result (λ text. string_bytes text ≡ limit_text kind) }
 {
-    format!(in alloc; "limit {} {} passed", limit_word(kind), limit_number(kind))
+    format!(in alloc; "limit {} {} passed", kind.word(), kind.number())
 }
 
 /// What is said of a name fault, up to its place.

@@ -11,8 +11,6 @@ mod report;
 mod running;
 mod status;
 mod stop;
-#[cfg(test)]
-mod tests;
 mod verdict;
 
 pub use running::run;

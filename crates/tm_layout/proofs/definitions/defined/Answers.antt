@@ -15,7 +15,7 @@ returns c id variants h k =
     let all = c.together-fields.ensures in
     let weight = c.weight_in-weight.result in
     let asked = c.layout_fault-asked.ensures ∙ ap (λ p. layout_fault_in kind repr facts p.aligned weight) all in
-    named-facts id kind repr c.args.def.now.variants variants facts _ (in_form c.args.def.now c.requires) h k (record {
+    named-facts c.args.profile id kind repr c.args.def.now.variants variants facts _ (in_form c.args.profile c.args.def.now c.requires) h k (record {
       fault = c.first_fault-fault.ensures ∙ ap (λ x. first_fault x c.together-fields.result.refusal c.layout_fault-asked.result) c.own_fault.ensures
           ∙ ap (λ p. first_fault (own_fault_in c.args.def.now) p.refusal c.layout_fault-asked.result) all
           ∙ ap (λ x. first_fault (own_fault_in c.args.def.now) (variants_together facts).refusal x) asked;

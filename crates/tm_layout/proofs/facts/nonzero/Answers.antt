@@ -5,4 +5,4 @@ use Rattle.tm_layout.proofs.FactLemmas.{nonzero-facts}
 use Rattle.tm_layout.proofs.facts.nonzero.Goals as goal
 
 pub returns : goal.returns
-returns c = subst (IsFactsOf (nonzero c.args.p)) (sym c.whole.ensures) (nonzero-facts c.args.p c.primitive_size-size.result c.primitive_size-size.ensures)
+returns c = subst (IsFactsOf (nonzero c.args.profile c.args.p)) (sym c.whole.ensures) (nonzero-facts c.args.profile c.args.p c.primitive_size-size.result c.primitive_size-size.ensures)

@@ -5,4 +5,4 @@ use Rattle.tm_layout.proofs.FactLemmas.{primitive-facts}
 use Rattle.tm_layout.proofs.facts.primitive.Goals as goal
 
 pub returns : goal.returns
-returns c = subst (IsFactsOf (prim c.args.p)) (sym c.whole.ensures) (primitive-facts c.args.p c.primitive_size-size.result c.primitive_size-size.ensures)
+returns c = subst (IsFactsOf (prim c.args.profile c.args.p)) (sym c.whole.ensures) (primitive-facts c.args.profile c.args.p c.primitive_size-size.result c.primitive_size-size.ensures)

@@ -5,4 +5,4 @@ use Rattle.tm_layout.proofs.FactLemmas.{ref-facts}
 use Rattle.tm_layout.proofs.facts.reference.Goals as goal
 
 pub returns : goal.returns
-returns c r = subst (IsFactsOf (ref r)) (sym c.whole.ensures) (ref-facts r)
+returns c r = subst (IsFactsOf (ref c.args.profile r)) (sym c.whole.ensures) (ref-facts c.args.profile r c.pointer_size-size.result c.pointer_size-size.ensures)

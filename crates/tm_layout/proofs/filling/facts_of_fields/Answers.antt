@@ -6,7 +6,7 @@ use Rattle.tm_layout.proofs.RowLemmas.{matches-more}
 use Rattle.tm_layout.proofs.filling.facts_of_fields.Goals as goal
 
 pub loop-g-preserved : goal.loop-g-preserved
-loop-g-preserved c = λ tables are known.
+loop-g-preserved c = λ tables same are known.
     let at = slice_get_read c.args.types.now (length c.args.types.now) c.loop-g.g-index c.g-item.result refl c.loop-g-test.true c.g-item.is in
-    rw c.in-Ok.ensures.added (matches-more (λ g facts. IsFactsOf (expanded_in tables g) facts) c.args.types.now c.loop-g.facts c.loop-g.g-index c.g-item.result c.facts_of.result c.loop-g-test.true c.g-item.is
-    (c.loop-g.invariant tables are known) (c.facts_of.ensures tables are (known c.loop-g.g-index c.g-item.result at)))
+    rw c.in_ok-add.ensures.added (matches-more (λ g facts. IsFactsOf (expanded_in tables g) facts) c.args.types.now c.loop-g.facts c.loop-g.g-index c.g-item.result c.facts_of.result c.loop-g-test.true c.g-item.is
+    (c.loop-g.invariant tables same are known) (c.facts_of.ensures tables same are (known c.loop-g.g-index c.g-item.result at)))

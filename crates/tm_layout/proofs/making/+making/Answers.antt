@@ -8,7 +8,7 @@ use Rattle.tm_base.specs.declared.ground.Wrapper.TheVariants as wrapper
 use Rattle.tm_base.specs.Parts.{some_part}
 use Rattle.tm_base.specs.Worlds.{tables_of}
 use Rattle.tm_layout.specs.Made.{EachIs, IsKnown}
-use Rattle.tm_layout.specs.Making.{AreKnown, IsGrown, IsWhole}
+use Rattle.tm_layout.specs.Making.{AreKnown, IsGrown, IsWrittenOut}
 use Rattle.tm_layout.proofs.MakingLemmas.{grown-more, known-from, known-grown, known-of-Array, known-of-Tuple, known-of-Wrap, nodes-Array, nodes-row, nodes-Tuple, nodes-Wrap, put-below, put-grown, put-known, row-in_form, row-whole, some-copied, whole-Array, whole-there, whole-Tuple, whole-Wrap}
 use Rattle.tm_layout.proofs.NodeLemmas.{all_nodes, nodes_at, nodes_in, row_nodes, row_nodes_at}
 use Rattle.tm_layout.proofs.FirstLemmas.{first-all, first-kept, first-more}
@@ -28,11 +28,15 @@ make_row-make_variants-requires t c =
     let at = sym c.in-Some.ensures.item in
     let nodes = nodes-row tables c.args.id c.in-Some.row.now c.requires.whole at (row-in_form c.args.world.now c.args.id.0 c.in-Some.row.now at) in
     let smaller : 3 + row_nodes tables c.as_slice.result.now < nodes_in tables (Named c.args.id) = rw (c.as_slice.ensures, nodes) (omega arith) in
-    let whole = subst (EachIs (EachIs (IsWhole tables))) (sym c.as_slice.ensures) (row-whole c.args.world.now c.args.id.0 c.in-Some.row.now at) in
+    let whole = subst (EachIs (EachIs (IsWrittenOut tables))) (sym c.as_slice.ensures) (row-whole c.args.world.now c.args.id.0 c.in-Some.row.now at) in
     search rules
 
 pub make_row-row_of-requires : goal.make_row-row_of-requires
-make_row-row_of-requires t c = row-in_form c.args.world.now c.args.id.0 c.in-Some.row.now (sym c.in-Some.ensures.item)
+make_row-row_of-requires t c = record {
+  in_form = row-in_form c.args.world.now c.args.id.0 c.in-Some.row.now (sym c.in-Some.ensures.item);
+  rows_are = c.in_ok-make_variants.ensures.grown.closed.right;
+  known = subst (AreKnown (tables_of c.args.world.now) c.make_variants.new.rows) c.as_slice.ensures c.in_ok-make_variants.ensures.known;
+}
 
 pub make_row-returns-clause-grown : goal.make_row-returns-clause-grown
 make_row-returns-clause-grown t c =
@@ -43,7 +47,7 @@ make_row-returns-clause-grown t c =
     let at = sym c.in-Some.ensures.item in
     let below : c.args.id.0 < length rows = put-below tables rows c.args.id row first.closed at in
     let known = subst (AreKnown tables rows) c.as_slice.ensures c.in_ok-make_variants.ensures.known in
-    let right = c.in_ok-made.ensures c.args.id at c.requires.whole first.closed.right known in
+    let right = c.in_ok-made.ensures c.args.id at c.requires.whole in
     subst (IsGrown tables c.args.rows.now) (sym c.put.ensures)
     (grown-more tables c.args.rows.now rows _ first (put-grown tables rows c.args.id row c.in_ok-made.made below first.closed c.requires.whole at (row-in_form c.args.world.now c.args.id.0 row at) known right))
 
@@ -56,7 +60,7 @@ make_row-returns-clause-known t c =
     let at = sym c.in-Some.ensures.item in
     let below : c.args.id.0 < length rows = put-below tables rows c.args.id row first.closed at in
     let known = subst (AreKnown tables rows) c.as_slice.ensures c.in_ok-make_variants.ensures.known in
-    let right = c.in_ok-made.ensures c.args.id at c.requires.whole first.closed.right known in
+    let right = c.in_ok-made.ensures c.args.id at c.requires.whole in
     subst (λ rows. IsKnown tables rows (Named c.args.id)) (sym c.put.ensures)
     (put-known tables rows c.args.id row c.in_ok-made.made below first.closed c.requires.whole at (row-in_form c.args.world.now c.args.id.0 row at) known right)
 
@@ -167,7 +171,7 @@ pub make_variants-make_types-requires : goal.make_variants-make_types-requires
 make_variants-make_types-requires t c =
     let tables = tables_of c.args.world.now in
     let at = slice_get_read c.args.variants.now (length c.args.variants.now) c.loop-types.types-index c.types-item.result refl c.loop-types-test.true c.types-item.is in
-    let whole = subst (EachIs (IsWhole tables)) (sym c.as_slice.ensures) (c.requires.whole c.loop-types.types-index c.types-item.result at) in
+    let whole = subst (EachIs (IsWrittenOut tables)) (sym c.as_slice.ensures) (c.requires.whole c.loop-types.types-index c.types-item.result at) in
     let below = row_nodes_at tables c.args.variants.now c.loop-types.types-index c.types-item.result c.loop-types-test.true in
     let smaller : 2 + all_nodes tables c.as_slice.result.now < 3 + row_nodes tables c.args.variants.now = rw (c.as_slice.ensures, c.types-item.is) (omega arith) in
     let closed = c.loop-types.invariant.grown.closed in

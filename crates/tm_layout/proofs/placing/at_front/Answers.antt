@@ -6,5 +6,5 @@ use Rattle.tm_layout.proofs.placing.at_front.Goals as goal
 
 pub loop-preserved : goal.loop-preserved
 loop-preserved c =
-    ap (λ ps. ps ++ at_front (layouts_in (drop (c.loop.index + 1) c.args.fields.now))) c.in-Ok.ensures.added
+    ap (λ ps. ps ++ at_front (layouts_in (drop (c.loop.index + 1) c.args.fields.now))) c.in_ok-add.ensures.added
     ∙ at_front-next c.args.fields.now c.loop.index c.loop.found _ c.loop-test.true c.loop.invariant

@@ -16,6 +16,6 @@ returns c =
     let def = c.args.def.now in
     let facts = c.args.parts.now in
     let begin = c.fields_begin-begin.result in
-    where_ok (λ found. found ≡ map (λ ls. map capped (variant_places_in def.kind def.repr begin ls)) (variant_layouts_in facts)) _ c.all_places.result
-    (λ found e id cases h k none. e ∙ places-exact id def.kind def.repr def.variants cases facts begin (in_form def c.requires) h k none c.fields_begin-begin.ensures)
+    where_ok (λ found. found ≡ map (λ ls. map capped (variant_places_in c.args.profile def.kind def.repr begin ls)) (variant_layouts_in facts)) _ c.all_places.result
+    (λ found e id cases h k none. e ∙ places-exact c.args.profile id def.kind def.repr def.variants cases facts begin (in_form c.args.profile def c.requires) h k none c.fields_begin-begin.ensures)
     c.all_places.ensures

@@ -9,7 +9,7 @@ pub loop-place-init : goal.loop-place-init
 loop-place-init c =
     let named : c.in_ok-named.named.items ≡ replicate (length c.args.world.now.named) false = c.in_ok-named.ensures ∙ ap (λ n. replicate n false) c.len.ensures in
     let refs : c.in_ok-refs.refs.items ≡ replicate (length c.args.world.now.refs) false = c.in_ok-refs.ensures ∙ ap (λ n. replicate n false) c.len-2.ensures in
-    let one : types_at c.push.new.self.items ≡ c.args.g.now ∷ [] = rw (c.in-Ok.ensures.items, c.new-types.ensures.items) refl in
+    let one : types_at c.push.new.self.items ≡ c.args.g.now ∷ [] = rw (c.in_ok-push.ensures.items, c.new-types.ensures.items) refl in
     reaching-begins (tables_of c.args.world.now) c.args.g.now _ _ _ named refs one
 
 pub loop-place-preserved : goal.loop-place-preserved
@@ -19,7 +19,7 @@ loop-place-preserved c =
     let is = item-at items c.loop-place.place c.index.result.now below c.index.ensures in
     reaching-step (tables_of c.args.world.now) c.args.g.now c.loop-place.place _ _ _ c.index.result.now.now _ _ _
     c.loop-place.invariant (omega (arith, below, length-map items (λ g. g.now))) is
-    c.in-Ok-add_entered.ensures.named c.in-Ok-add_entered.ensures.refs c.in-Ok-add_entered.ensures.types
+    c.in_ok-add_entered.ensures.named c.in_ok-add_entered.ensures.refs c.in_ok-add_entered.ensures.types
 
 pub returns : goal.returns
 returns c = reaching-ends (tables_of c.args.world.now) c.args.g.now c.loop-place.place _ _ _ c.loop-place.invariant (omega (arith, c.loop-place-test.false, c.len-in-loop-place.ensures, length-map c.loop-place.types.items (λ g. g.now)))

@@ -1,4 +1,4 @@
-use Rattle.std.proofs.Common.{sym, subst, All}
+use Rattle.std.proofs.Common.{sym, subst}
 use Rattle.tm_base.specs.Worlds.{IsTypeOver, tables_of}
 use Rattle.tm_layout.specs.Reached.{AreReached, types_at}
 use Rattle.tm_layout.proofs.LeastLemmas.{named-first, none-judged}
@@ -12,14 +12,14 @@ least_of-requires-clause-types_are c =
     All-contained (IsTypeOver (tables_of c.args.world.now)) (types_at c.as_slice.result.now)
     (λ h at. reached-over c.args.world.now c.args.g.now h c.requires.type_is (reached.each h at))
 
-pub returns-in-Ok-Some : goal.returns-in-Ok-Some
-returns-in-Ok-Some c =
+pub returns-in-Some : goal.returns-in-Some
+returns-in-Some c =
     let reached = subst (λ items. AreReached (tables_of c.args.world.now) c.args.g.now (types_at items)) (sym c.as_slice.ensures.value) c.in_ok-types.ensures in
-    let least = rw c.in-Ok-Some.field-0-is at c.in-Ok-Some.ensures in
-    named-first (tables_of c.args.world.now) c.args.g.now (types_at c.as_slice.result.now) c.in-Ok-Some.refused reached least
+    let least = rw c.in-Some.is at c.in_ok-least.ensures in
+    named-first (tables_of c.args.world.now) c.args.g.now (types_at c.as_slice.result.now) c.in-Some.refused reached least
 
-pub returns-in-Ok-None : goal.returns-in-Ok-None
-returns-in-Ok-None c =
+pub returns : goal.returns
+returns c =
     let reached = subst (λ items. AreReached (tables_of c.args.world.now) c.args.g.now (types_at items)) (sym c.as_slice.ensures.value) c.in_ok-types.ensures in
-    let sound = rw c.in-Ok-None.field-0-is at c.in-Ok-None.ensures in
+    let sound = rw c.in-None.is at c.in_ok-least.ensures in
     none-judged (tables_of c.args.world.now) c.args.g.now (types_at c.as_slice.result.now) reached sound

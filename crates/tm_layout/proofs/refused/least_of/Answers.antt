@@ -20,4 +20,4 @@ loop-g-preserved c =
     let types = types_at c.args.types.now in
     let more = take_more types place item.now (omega (arith, c.loop-g-test.true, length-map c.args.types.now (λ g. g.now))) in
     let last = ap (λ h. take place types ++ h ∷ []) (item-at c.args.types.now place item c.loop-g-test.true c.g-item.is) in
-    subst (λ some. IsLeastAnswer (tables_of c.args.world.now) some c.in-Ok.next) (sym (more ∙ last)) (c.in-Ok.ensures (take place types) c.loop-g.invariant)
+    subst (λ some. IsLeastAnswer (tables_of c.args.world.now) some c.in_ok-least.least) (sym (more ∙ last)) (c.in_ok-least.ensures (take place types) c.loop-g.invariant)

@@ -9,6 +9,6 @@ use Rattle.tm_layout.proofs.written.+written.Given as goal
 -- what was found, or what the other members give, is what all members give
 abbrev pub invariant-facts_of_tuple-loop-member : goal.invariant-facts_of_tuple-loop-member
 invariant-facts_of_tuple-loop-member l =
-    (tables : Tables) → AreRowsOf tables l.rows → EachIs (IsKnown tables l.rows) l.members
+    (tables : Tables) → l.profile ≡ tables.profile → AreRowsOf tables l.rows → EachIs (IsKnown tables l.rows) l.members
     → ((l.aligned || some_field has_align (elements (expanded_in tables) (drop l.member-index l.members))) ≡ some_field has_align (elements (expanded_in tables) l.members))
     × ((l.interior || some_field is_cell (elements (expanded_in tables) (drop l.member-index l.members))) ≡ some_field is_cell (elements (expanded_in tables) l.members))

@@ -1,0 +1,11 @@
+pub mod Types
+pub mod Layouts
+pub mod Words
+pub mod Faults
+pub mod Casts
+pub mod References
+pub mod WayBack
+pub mod Profiles
+pub mod Cycles
+pub mod Answers
+pub mod Texts

@@ -1,0 +1,12 @@
+//! Tests of what no contract and no row of `rows/` says. A crate with tests is proved twice, so they stand
+//! here, in a crate that has nothing else.
+#![tactic(auto)]
+
+#[cfg(test)]
+mod devices;
+#[cfg(test)]
+mod layouts;
+#[cfg(test)]
+mod marks;
+#[cfg(test)]
+mod runs;
