@@ -13,10 +13,7 @@ use tm_base::Memory;
 pub fn generate(alloc: Global, number: u64) -> Result<Vec<u8>, Memory>
     ensures { IfOk result (λ bytes. bytes.items ≡ generated_file number) }
 {
-    match file(alloc, number) {
-        Ok(text) => Ok(text.into_bytes()),
-        Err(AllocError) => Err(Memory),
-    }
+    Ok(file(alloc, number)?.into_bytes())
 }
 
 /// The file as a text.

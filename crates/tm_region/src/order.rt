@@ -7,7 +7,7 @@ ghost use Rattle.tm_region.specs.Order.{IsOrderOf};
 ghost use Rattle.tm_region.specs.Table.{IsAdded, leads_in, lone_row, outlives_in};
 
 use crate::row::{Row, join, lone_row};
-use std::alloc::{AllocError, Global};
+use std::alloc::Global;
 use std::marker::Model;
 use tm_base::{Bound, Memory, RegionId, World};
 
@@ -68,10 +68,9 @@ impl Order {
         requires { count ≤ 17 }
         ensures { IfOk result (λ order. order ≡ map lone_row (range_with_len 0 count)) }
     {
-        match (0..count).map(lone_row).collect(alloc) {
-            Ok(rows) => Ok(Order { rows }),
-            Err(AllocError) => Err(Memory),
-        }
+        Ok(Order {
+            rows: (0..count).map(lone_row).collect(alloc)?,
+        })
     }
 
     /// Takes a bound in: what leads to its longer region leads to all that its shorter one does.
