@@ -1,5 +1,5 @@
 -- Parts that are written one after the other.
-use Rattle.std.proofs.Common.{◌≡◌, ℕ, ◌+◌, [], ◌++◌, refl, add-one}
+use Rattle.std.proofs.Common.{◌≡◌, ℕ, ◌+◌, [], refl, add-one}
 use Rattle.tm_gen.specs.Written.{Written, plain, followed, numbered}
 
 pub numbered-none : (part : ℕ → ℕ → Written) (x : ℕ) → numbered part 0 x ≡ plain [] x

@@ -62,6 +62,10 @@ member_line Struct i j = field_line i j
 member_line Union i j = field_line i j
 member_line Enum i j = variant_line j
 
+-- in the definition i, the lines of so many members
+abbrev pub members_text : Kind → ℕ → ℕ → ℕ → Written
+members_text kind i = numbered (member_line kind i)
+
 -- the lines before the members of the definition i
 abbrev pub definition_head : Kind → ℕ → List ℕ
 definition_head kind i = codes "#[repr(" ++ kind_repr kind ++ codes ")]\n" ++ kind_word kind ++ codes " T" ++ decimal i ++ codes " {\n"
@@ -70,7 +74,7 @@ definition_head kind i = codes "#[repr(" ++ kind_repr kind ++ codes ")]\n" ++ ki
 abbrev pub definition_text : ℕ → ℕ → Written
 definition_text i x =
     let kind = kind_at (drawn x 3) in
-    let members = numbered (member_line kind i) (1 + drawn (next x) 4) (next (next x)) in
+    let members = members_text kind i (1 + drawn (next x) 4) (next (next x)) in
     record { text = definition_head kind i ++ members.text ++ codes "}\n"; state = members.state }
 
 -- what a question assumes
@@ -84,6 +88,14 @@ question_text x =
     let z = next y in
     record { text = codes "ask T" ++ decimal (drawn x 24) ++ codes " => T" ++ decimal (drawn y 24) ++ assumed (drawn z 4) ++ codes ";\n"; state = next z }
 
--- the file of a number: 24 definitions and 64 questions
+-- the 24 definitions
+abbrev pub definitions_text : ℕ → Written
+definitions_text = numbered definition_text 24
+
+-- the 64 questions, which are alike
+abbrev pub questions_text : ℕ → Written
+questions_text = numbered (λ q. question_text) 64
+
+-- the file of a number, from which the state begins
 unfoldable pub generated_file : ℕ → List ℕ
-generated_file number = (followed (numbered definition_text 24 number) (numbered (λ q. question_text) 64)).text
+generated_file number = (followed (definitions_text number) questions_text).text

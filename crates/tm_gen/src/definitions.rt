@@ -1,6 +1,5 @@
 ghost use Rattle.std.specs.Prelude.{◌≡◌, ◌<◌, ◌≤◌, IfOk, OnOk, string_bytes};
-ghost use Rattle.tm_gen.specs.Generated.{definition_text, kind_at, kind_repr, kind_word, member_line};
-ghost use Rattle.tm_gen.specs.Written.{numbered};
+ghost use Rattle.tm_gen.specs.Generated.{definition_text, definitions_text, kind_at, kind_repr, kind_word, member_line, members_text};
 
 use crate::draws::Draws;
 use crate::fields::{field, variant};
@@ -12,8 +11,8 @@ pub const DEFINITIONS: u64 = 24;
 
 /// All definitions of a file.
 pub fn definitions(alloc: Global, draws: &mut Draws) -> Result<String, AllocError>
-    ensures text { IfOk result (λ text. string_bytes text ≡ (numbered definition_text 24 draws.old).text) }
-    ensures state { OnOk result (draws.new ≡ (numbered definition_text 24 draws.old).state) }
+    ensures text { IfOk result (λ text. string_bytes text ≡ (definitions_text draws.old).text) }
+    ensures state { OnOk result (draws.new ≡ (definitions_text draws.old).state) }
 {
     let mut text = String::new(alloc);
     for number in 0..DEFINITIONS {
@@ -24,7 +23,8 @@ pub fn definitions(alloc: Global, draws: &mut Draws) -> Result<String, AllocErro
 
 /// The definition of that number.
 fn definition(alloc: Global, draws: &mut Draws, number: u64) -> Result<String, AllocError>
-    ensures text { IfOk result (λ text. string_bytes text ≡ (definition_text number draws.old).text) }
+    ensures text { IfOk result (λ text.
+        string_bytes text ≡ (definition_text number draws.old).text) }
     ensures state { OnOk result (draws.new ≡ (definition_text number draws.old).state) }
 {
     let kind = kind_at(draws.draw(3));
@@ -46,8 +46,9 @@ fn members(
     count: u64,
 ) -> Result<String, AllocError>
     requires { count ≤ 4 }
-    ensures text { IfOk result (λ text. string_bytes text ≡ (numbered (member_line kind definition) count draws.old).text) }
-    ensures state { OnOk result (draws.new ≡ (numbered (member_line kind definition) count draws.old).state) }
+    ensures text { IfOk result (λ text.
+        string_bytes text ≡ (members_text kind definition count draws.old).text) }
+    ensures state { OnOk result (draws.new ≡ (members_text kind definition count draws.old).state) }
 {
     let mut text = String::new(alloc);
     for place in 0..count {
@@ -65,7 +66,8 @@ fn member(
     place: u64,
 ) -> Result<String, AllocError>
     requires { place < 4 }
-    ensures text { IfOk result (λ line. string_bytes line ≡ (member_line kind definition place draws.old).text) }
+    ensures text { IfOk result (λ line.
+        string_bytes line ≡ (member_line kind definition place draws.old).text) }
     ensures state { OnOk result (draws.new ≡ (member_line kind definition place draws.old).state) }
 {
     match kind {

@@ -3,6 +3,12 @@ ghost use Rattle.tm_gen.specs.Draws.{drawn, next};
 
 use std::marker::Model;
 
+/// What each state is multiplied by to give the next one.
+const FACTOR: u64 = 6_364_136_223_846_793_005;
+
+/// What is then added.
+const SUMMAND: u64 = 1_442_695_040_888_963_407;
+
 /// A stream of numbers that its state determines, and that state. Contracts see it as the state.
 #[derive(Drop)]
 pub struct Draws {
@@ -32,10 +38,7 @@ impl Draws {
         ensures below { result < limit }
         ensures state { self.new ≡ next self.old }
     {
-        self.state = self
-            .state
-            .wrapping_mul(6_364_136_223_846_793_005)
-            .wrapping_add(1_442_695_040_888_963_407);
+        self.state = self.state.wrapping_mul(FACTOR).wrapping_add(SUMMAND);
         (self.state >> 33) % limit
     }
 }

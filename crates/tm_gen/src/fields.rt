@@ -11,7 +11,8 @@ pub fn field(
     definition: u64,
     place: u64,
 ) -> Result<String, AllocError>
-    ensures text { IfOk result (λ line. string_bytes line ≡ (field_line definition place draws.old).text) }
+    ensures text { IfOk result (λ line.
+        string_bytes line ≡ (field_line definition place draws.old).text) }
     ensures state { OnOk result (draws.new ≡ (field_line definition place draws.old).state) }
 {
     let typed = field_type(alloc, draws, definition)?;
@@ -28,7 +29,8 @@ fn visibility(number: u64) -> &'static str
 
 /// The type of a field in the definition.
 fn field_type(alloc: Global, draws: &mut Draws, definition: u64) -> Result<String, AllocError>
-    ensures text { IfOk result (λ typed. string_bytes typed ≡ (field_type definition draws.old).text) }
+    ensures text { IfOk result (λ typed.
+        string_bytes typed ≡ (field_type definition draws.old).text) }
     ensures state { draws.new ≡ (field_type definition draws.old).state }
 {
     match draws.draw(8) {
@@ -45,7 +47,8 @@ fn field_type(alloc: Global, draws: &mut Draws, definition: u64) -> Result<Strin
 
 /// The name of a definition before this one, or `u64` where there is none.
 fn earlier(alloc: Global, draws: &mut Draws, definition: u64) -> Result<String, AllocError>
-    ensures text { IfOk result (λ typed. string_bytes typed ≡ (earlier_type definition draws.old).text) }
+    ensures text { IfOk result (λ typed.
+        string_bytes typed ≡ (earlier_type definition draws.old).text) }
     ensures state { draws.new ≡ (earlier_type definition draws.old).state }
 {
     if definition == 0 {

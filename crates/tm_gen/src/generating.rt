@@ -7,14 +7,13 @@ use crate::questions::questions;
 use std::alloc::{AllocError, Global};
 use tm_base::Memory;
 
-/// The question file of a number: 24 definitions and 64 questions. `Memory`: there wasn't enough memory.
+/// The question file of a number: 24 definitions and 64 questions.
+///
+/// `Memory`: there wasn't enough memory.
 pub fn generate(alloc: Global, number: u64) -> Result<Vec<u8>, Memory>
     ensures { IfOk result (λ bytes. bytes.items ≡ generated_file number) }
 {
-    match file(alloc, number) {
-        Ok(text) => Ok(text.into_bytes()),
-        Err(AllocError) => Err(Memory),
-    }
+    Ok(file(alloc, number)?.into_bytes())
 }
 
 /// The file as a text.

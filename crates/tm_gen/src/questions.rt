@@ -1,6 +1,5 @@
 ghost use Rattle.std.specs.Prelude.{◌≡◌, ◌<◌, IfOk, OnOk, string_bytes};
-ghost use Rattle.tm_gen.specs.Generated.{assumed, question_text};
-ghost use Rattle.tm_gen.specs.Written.{numbered};
+ghost use Rattle.tm_gen.specs.Generated.{assumed, question_text, questions_text};
 
 use crate::definitions::DEFINITIONS;
 use crate::draws::Draws;
@@ -11,7 +10,7 @@ const QUESTIONS: u64 = 64;
 
 /// All questions of a file.
 pub fn questions(alloc: Global, draws: &mut Draws) -> Result<String, AllocError>
-    ensures { IfOk result (λ text. string_bytes text ≡ (numbered (λ q. question_text) 64 draws.old).text) }
+    ensures { IfOk result (λ text. string_bytes text ≡ (questions_text draws.old).text) }
 {
     let mut text = String::new(alloc);
     for _ in 0..QUESTIONS {

@@ -7,15 +7,17 @@ ghost use Rattle.tm_region.specs.Order.{IsOrderOf};
 ghost use Rattle.tm_region.specs.Table.{IsAdded, leads_in, lone_row, outlives_in};
 
 use crate::row::{Row, join, lone_row};
-use std::alloc::{AllocError, Global};
+use std::alloc::Global;
 use std::marker::Model;
 use tm_base::{Bound, Memory, RegionId, World};
 
 /// The region of what lives to the end.
 const STATIC: RegionId = RegionId(0);
 
-/// Which regions of a world outlive which. Contracts see it as a table: in the row of a region, whether a
-/// chain of bounds leads from it to each region.
+/// Which regions of a world outlive which.
+///
+/// Contracts see it as a table: in the row of a region, whether a chain of bounds leads from it to each
+/// region.
 #[derive(Debug, Drop)]
 pub struct Order {
     rows: Vec<Row>,
@@ -37,12 +39,13 @@ impl Order {
         Order::of_bounds(alloc, world.regions.len(), world.bounds.as_slice())
     }
 
-    /// Whether the one region outlives the other: a chain of bounds, of any length, leads from `longer` to
-    /// `shorter` or to `'static`. So each region outlives itself, and `'static` outlives all. A region that the
-    /// world doesn't have outlives itself alone.
+    /// Whether the one region outlives the other: a chain of bounds, of any length, leads from
+    /// `longer` to `shorter` or to `'static`. So each region outlives itself, and `'static` outlives
+    /// all. A region that the world doesn't have outlives itself alone.
     pub fn outlives(&self, longer: RegionId, shorter: RegionId) -> bool
         ensures answer { result ≡ outlives_in self.now longer shorter }
-        ensures exact { (bounds : List Bound) → IsOrderOf bounds self.now → IsTrue result ↔ Outlives bounds longer shorter }
+        ensures exact { (bounds : List Bound) → IsOrderOf bounds self.now
+            → IsTrue result ↔ Outlives bounds longer shorter }
     {
         self.leads(longer, shorter) || self.leads(longer, STATIC)
     }
@@ -65,13 +68,12 @@ impl Order {
         requires { count ≤ 17 }
         ensures { IfOk result (λ order. order ≡ map lone_row (range_with_len 0 count)) }
     {
-        match (0..count).map(lone_row).collect(alloc) {
-            Ok(rows) => Ok(Order { rows }),
-            Err(AllocError) => Err(Memory),
-        }
+        Ok(Order {
+            rows: (0..count).map(lone_row).collect(alloc)?,
+        })
     }
 
-    /// Takes a bound in: what leads to its longer region leads to all that its shorter one leads to.
+    /// Takes a bound in: what leads to its longer region leads to all that its shorter one does.
     fn add(&mut self, bound: Bound)
         requires longer { bound.longer.0 < length self.old }
         requires shorter { bound.shorter.0 < length self.old }
