@@ -14,6 +14,7 @@ pub mod WholeLeaves
 pub mod WholeTypes
 pub mod WholeWords
 pub mod WholeRuns
+pub mod SliceLemmas
 pub mod RefusalMoves
 pub mod RefusalSwaps
 pub mod RefusalLemmas
@@ -33,3 +34,5 @@ pub mod PlacesTypes
 pub mod JudgedPlaces
 pub mod PlacesRows
 pub mod JudgedRows
+pub mod StructLemmas
+pub mod EnumLemmas

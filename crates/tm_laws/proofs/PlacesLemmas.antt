@@ -146,10 +146,10 @@ tag-front tag =
     rw (zero-mod tag.align, whole, mod_self tag.align) refl
 
 -- where the union of the variants begins, which is behind the tag
-abbrev union_place : Layout → List (List Layout) → ℕ
+abbrev pub union_place : Layout → List (List Layout) → ℕ
 union_place tag variants = round_up tag.size (greatest_align None (structs [] variants))
 
-union-inside : (tag : Layout) (variants : List (List Layout)) → union_place tag variants + greatest_size (structs [] variants) ≤ (struct_layout None None (tag ∷ union_layout None None (structs [] variants) ∷ [])).size
+pub union-inside : (tag : Layout) (variants : List (List Layout)) → union_place tag variants + greatest_size (structs [] variants) ≤ (struct_layout None None (tag ∷ union_layout None None (structs [] variants) ∷ [])).size
 union-inside tag variants =
     let front : place_at None 0 tag + tag.size ≡ tag.size = rw (tag-front tag) (omega arith) in
     let end : end_of None 0 (tag ∷ union_layout None None (structs [] variants) ∷ []) ≡ union_place tag variants + (union_layout None None (structs [] variants)).size =

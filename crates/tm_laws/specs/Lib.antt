@@ -3,3 +3,4 @@ pub mod AnswerLaws
 pub mod Laws
 pub mod PlacesApart
 pub mod WordLaws
+pub mod SliceLaws

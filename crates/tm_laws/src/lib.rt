@@ -9,7 +9,9 @@ mod words;
 ghost use Rattle.tm_laws.specs.Laws.{TypesAreSettled, MoreMayBeAssumed, CompatibilityIsKnown, QuestionsHaveAnswers, QuestionsHaveOneAnswer};
 
 pub use answers::{answers_mean_what_they_say, noes_show_why};
-pub use places::{places_of_judged_types_stand_apart, places_stand_apart};
+pub use places::{
+    places_of_judged_types_stand_apart, places_stand_apart, structs_hold_their_fields,
+};
 use tm_base::World;
 pub use words::{
     a_word_is_refused_at_one_offset, source_words_have_whole_references,

@@ -1,6 +1,7 @@
 //! Where the fields of types stand.
 
 ghost use Rattle.tm_laws.specs.PlacesApart.{PlacesStandApart, PlacesOfJudgedTypesStandApart};
+ghost use Rattle.tm_laws.specs.SliceLaws.{StructsHoldTheirFields, EnumsHoldTheirFields};
 
 use tm_base::World;
 
@@ -14,4 +15,16 @@ pub fn places_stand_apart()
 /// value.
 pub fn places_of_judged_types_stand_apart(world: &World)
     ensures { PlacesOfJudgedTypesStandApart world.now }
+{}
+
+/// The value of a struct that isn't transparent holds a value of each field at the field's place, and what lies
+/// in no field is free; and nothing else is asked of it.
+pub fn structs_hold_their_fields()
+    ensures { StructsHoldTheirFields }
+{}
+
+/// The value of an enum holds the tag of one of its variants, and a value of each of that variant's fields at the
+/// field's place; what lies in neither is free, and nothing else is asked of it.
+pub fn enums_hold_their_fields()
+    ensures { EnumsHoldTheirFields }
 {}
