@@ -1,5 +1,5 @@
 -- What is built, case by case.
-use Rattle.std.proofs.Common.{◌≡◌, ◌≢◌, ℕ, zero, suc, ◌+◌, ◌<◌, ◌≤◌, ◌⊎◌, inl, inr, Bool, List, [], ◌∷◌, ◌++◌, length, take, drop, refl, sym, ap, ◌∙◌, subst, arith, ◌↔◌, append_assoc, append-nil, length-append}
+use Rattle.std.proofs.Common.{◌≡◌, ◌≢◌, ℕ, zero, suc, ◌+◌, ◌<◌, ◌≤◌, inl, inr, Bool, List, [], ◌∷◌, ◌++◌, length, take, drop, refl, sym, ap, ◌∙◌, subst, arith, ◌↔◌, append_assoc, append-nil, length-append}
 use Rattle.std.proofs.Math.Seq.{take-append_seam, drop-append_seam}
 use Rattle.std.proofs.lemmas.Bool.{cases_lt}
 use Rattle.tm_base.specs.Cells.{Word}
@@ -13,7 +13,7 @@ use Rattle.tm_auto.specs.Builds.{Words, edges_by, IsLedTo, IsForward, IsSound, I
 use Rattle.tm_auto.specs.Labels.{CanTake, Begins, Joins}
 use Rattle.tm_auto.specs.Paths.{Among, here}
 use Rattle.tm_auto.proofs.AmongLemmas.{among_left, among_right, among_either, none_among, among_edges, edges_among, ordered-append, ordered-edges_by, length-edges_by}
-use Rattle.tm_auto.proofs.GrowLemmas.{Kept, New, Both, Either, CellWords, only_way, leads_more, leads_less, grows_way, grows_before, grows_either, grows_same, sealed_new, sealed_forth, sealed_back}
+use Rattle.tm_auto.proofs.GrowLemmas.{Kept, New, Both, Either, CellWords, only_way, grows_way, grows_before, grows_either, grows_same, sealed_forth, sealed_back}
 
 pub begins_joins : (label l : Label) → Begins l → Joins label l
 begins_joins label (Bytes low high) h = tt
