@@ -1,5 +1,5 @@
 -- What the builder made is an automaton of the tree.
-use Rattle.std.proofs.Common.{◌≡◌, ◌≢◌, ℕ, zero, suc, ◌+◌, ◌^◌, ◌<◌, ◌≤◌, ◌⊎◌, inl, inr, ◌↔◌, Bool, true, List, [], ◌∷◌, ◌++◌, length, refl, sym, ap, ◌∙◌, subst, arith, append-nil}
+use Rattle.std.proofs.Common.{◌≡◌, ℕ, zero, suc, ◌+◌, ◌^◌, ◌<◌, ◌≤◌, ◌⊎◌, inl, inr, ◌↔◌, Bool, true, List, [], ◌∷◌, ◌++◌, length, refl, sym, ap, ◌∙◌, subst, arith, append-nil}
 use Rattle.std.proofs.lemmas.Bool.{cases_lt}
 use Rattle.tm_base.specs.declared.tree.Tree.{Tree}
 use Rattle.tm_base.specs.Cells.{Word}
@@ -11,10 +11,10 @@ use Rattle.tm_auto.specs.declared.edge.Edge.{Edge}
 use Rattle.tm_auto.specs.declared.extent.Extent.{Extent}
 use Rattle.tm_auto.specs.declared.extent.Extent.TheVariants.{Dead, Empty, Long}
 use Rattle.tm_auto.specs.Automata.{Automaton, AutoWord, HasOneStateALayer, IsAutomaton}
-use Rattle.tm_auto.specs.Builds.{IsForward, IsSound, IsReady, CanBegin, CanGrow, MakesTree, IsPlacedTree, IsSealed, HasNoLoose, any}
+use Rattle.tm_auto.specs.Builds.{IsForward, IsReady, CanBegin, CanGrow, MakesTree, IsPlacedTree, IsSealed, HasNoLoose}
 use Rattle.tm_auto.specs.Labels.{Begins}
 use Rattle.tm_auto.specs.Loose.{LooseWord}
-use Rattle.tm_auto.specs.Paths.{here, Leads, Reaches, Among, IsPath}
+use Rattle.tm_auto.specs.Paths.{here, Leads, Among, IsPath}
 use Rattle.tm_auto.specs.Shapes.{extent_of}
 use Rattle.tm_auto.proofs.AmongLemmas.{none_among, only}
 use Rattle.tm_auto.proofs.EvenLemmas.{sized_even}

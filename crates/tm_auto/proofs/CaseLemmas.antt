@@ -1,6 +1,5 @@
 -- What is built along a list of trees, turn by turn, and for a reference.
-use Rattle.std.proofs.Common.{◌≡◌, ◌≢◌, ℕ, zero, suc, ◌+◌, ◌-◌, ◌*◌, ◌^◌, ◌<◌, ◌≤◌, ◌⊎◌, inl, inr, Bool, List, [], ◌∷◌, ◌++◌, length, take, drop, get_or, refl, sym, ap, ◌∙◌, subst, arith, ◌↔◌, drop-cons, add-one, append-nil, length-append, Result, Ok, Err, OnOk}
-use Rattle.std.proofs.Math.Seq.{take-suc}
+use Rattle.std.proofs.Common.{◌≡◌, ◌≢◌, ℕ, zero, suc, ◌+◌, ◌-◌, ◌^◌, ◌<◌, ◌≤◌, ◌⊎◌, inl, inr, Bool, List, [], ◌∷◌, ◌++◌, length, take, drop, get_or, refl, sym, ap, ◌∙◌, subst, arith, ◌↔◌, drop-cons, length-append, Result, Ok, Err, OnOk}
 use Rattle.std.proofs.lemmas.Bool.{cases_lt}
 use Rattle.std.proofs.lemmas.List.{take_all}
 use Rattle.tm_base.specs.declared.cell.Cell.TheVariants.{Byte, Ptr}
@@ -11,20 +10,19 @@ use Rattle.tm_base.specs.Cells.{Word}
 use Rattle.tm_base.specs.Shapes.{leaves_of, all_leaves, HasNoPrivate, NonePrivate, HasNoAlternatives, NoneAlternative}
 use Rattle.tm_base.specs.Transmutes.{holds}
 use Rattle.tm_auto.specs.declared.build.Building.{Building}
-use Rattle.tm_auto.specs.declared.build.Way.{Way}
 use Rattle.tm_auto.specs.declared.edge.Edge.{Edge}
 use Rattle.tm_auto.specs.declared.edge.Label.{Label}
 use Rattle.tm_auto.specs.declared.edge.Label.TheVariants.{Bytes, Free, Leaf}
 use Rattle.tm_auto.specs.declared.extent.Extent.TheVariants.{Dead, Empty, Long}
-use Rattle.tm_auto.specs.Builds.{Words, MayFollow, IsSound, IsReady, IsGrowable, CanGrow, MakesBy, MakesTree, IsPlacedBy, IsAdded, IsSealed, AreEven, any}
-use Rattle.tm_auto.specs.Labels.{CanTake, Begins, Joins}
-use Rattle.tm_auto.specs.Loose.{LooseBytes, LooseWord, LooseInTurn, LooseOneOf}
+use Rattle.tm_auto.specs.Builds.{Words, MayFollow, IsReady, IsGrowable, CanGrow, MakesBy, MakesTree, IsPlacedBy, IsAdded, IsSealed, AreEven, any}
+use Rattle.tm_auto.specs.Labels.{CanTake, Begins}
+use Rattle.tm_auto.specs.Loose.{LooseBytes, LooseWord, LooseInTurn}
 use Rattle.tm_auto.specs.Paths.{Among}
-use Rattle.tm_auto.specs.Shapes.{extent_of, in_turn, one_of}
+use Rattle.tm_auto.specs.Shapes.{extent_of, in_turn}
 use Rattle.tm_auto.proofs.ExtentLemmas.{IsExtent, extent_is, turn_is, empty_alone, live_at, even_at}
 use Rattle.tm_auto.proofs.GrowLemmas.{Both, CellWords}
 use Rattle.tm_auto.proofs.LooseLemmas.{LooseWord-Seq, LooseWord-Ref, LooseWord-Range, LooseWord-Pad}
-use Rattle.tm_auto.proofs.MakeLemmas.{IsSame, begins_joins, makes_as, makes_way, makes_before, makes_either, placed_none, placed_some, ready_still}
+use Rattle.tm_auto.proofs.MakeLemmas.{IsSame, begins_joins, makes_as, makes_way, makes_before, placed_none, placed_some}
 use Rattle.tm_auto.proofs.ShapeLemmas.{extent_of-Seq, extent_of-no_range}
 use Rattle.tm_base.proofs.ShapeLemmas.{leaves_of-Seq, HasNoAlternatives-Seq, HasNoPrivate-Seq}
 

@@ -1,5 +1,5 @@
 -- Where the words of a tree have one size, so have its loose words.
-use Rattle.std.proofs.Common.{◌≡◌, ℕ, zero, suc, ◌+◌, inl, inr, Bool, true, [], ◌∷◌, ◌++◌, length, refl, sym, ap, ◌∙◌, arith, length-append}
+use Rattle.std.proofs.Common.{◌≡◌, ℕ, zero, suc, inl, inr, true, ◌++◌, length, refl, sym, ap, ◌∙◌, arith, length-append}
 use Rattle.tm_base.specs.declared.tree.Tree.{Tree, Row_of-Tree, end_of-Tree, more_of-Tree, Never, Range, Pad, Ref, Seq', Alt', Repeat', Private'}
 use Rattle.tm_base.specs.Cells.{Word, Times, pointer_of}
 use Rattle.tm_base.specs.Shapes.{HasSize}

@@ -1,5 +1,5 @@
 -- What the loose words of a tree are, at each kind of tree.
-use Rattle.std.proofs.Common.{◌≡◌, ℕ, sym, subst, List, [], ◌∷◌, ◌++◌, ◌↔◌, ◌⊎◌, inl, inr, ◌≤◌, ⊎_elim, refl}
+use Rattle.std.proofs.Common.{◌≡◌, ℕ, sym, subst, List, [], ◌∷◌, ◌++◌, ◌↔◌, ◌⊎◌, inl, inr, ◌≤◌, ⊎_elim}
 use Rattle.tm_base.specs.declared.cell.Cell.{Cell}
 use Rattle.tm_base.specs.declared.cell.Cell.TheVariants.{Byte}
 use Rattle.tm_base.specs.declared.cell.RefId.{RefId}

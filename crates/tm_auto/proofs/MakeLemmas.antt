@@ -1,5 +1,5 @@
 -- What is built, case by case.
-use Rattle.std.proofs.Common.{◌≡◌, ◌≢◌, ℕ, zero, suc, ◌+◌, ◌<◌, ◌≤◌, ◌⊎◌, inl, inr, Bool, List, [], ◌∷◌, ◌++◌, length, take, drop, refl, sym, ap, ◌∙◌, subst, arith, ◌↔◌, append_assoc, append-nil, length-append}
+use Rattle.std.proofs.Common.{◌≡◌, ◌≢◌, ℕ, zero, suc, ◌+◌, ◌<◌, ◌≤◌, inl, inr, Bool, List, [], ◌∷◌, ◌++◌, length, take, drop, refl, sym, ap, ◌∙◌, subst, arith, ◌↔◌, append_assoc, append-nil, length-append}
 use Rattle.std.proofs.Math.Seq.{take-append_seam, drop-append_seam}
 use Rattle.std.proofs.lemmas.Bool.{cases_lt}
 use Rattle.tm_base.specs.Cells.{Word}
@@ -13,7 +13,7 @@ use Rattle.tm_auto.specs.Builds.{Words, edges_by, IsLedTo, IsForward, IsSound, I
 use Rattle.tm_auto.specs.Labels.{CanTake, Begins, Joins}
 use Rattle.tm_auto.specs.Paths.{Among, here}
 use Rattle.tm_auto.proofs.AmongLemmas.{among_left, among_right, among_either, none_among, among_edges, edges_among, ordered-append, ordered-edges_by, length-edges_by}
-use Rattle.tm_auto.proofs.GrowLemmas.{Kept, New, Both, Either, CellWords, only_way, leads_more, leads_less, grows_way, grows_before, grows_either, grows_same, sealed_new, sealed_forth, sealed_back}
+use Rattle.tm_auto.proofs.GrowLemmas.{Kept, New, Both, Either, CellWords, only_way, grows_way, grows_before, grows_either, grows_same, sealed_forth, sealed_back}
 
 pub begins_joins : (label l : Label) → Begins l → Joins label l
 begins_joins label (Bytes low high) h = tt
@@ -119,8 +119,8 @@ placed_none q line room P target b c state none same at sound below opens = reco
 }
 
 -- the newest state has these ways
-sealed_sound : (p : ℕ) (q : Label → Type 0) (c : Building) (ways : List Way) → IsSound c.pointer c.edges.items c.states → ways ≢ [] → ((way : Way) → Among way ways → IsWay q c way) → IsSound c.pointer (c.edges.items ++ edges_by c.states ways) (c.states + 1)
-sealed_sound p q c ways sound some each = record {
+sealed_sound : (q : Label → Type 0) (c : Building) (ways : List Way) → IsSound c.pointer c.edges.items c.states → ways ≢ [] → ((way : Way) → Among way ways → IsWay q c way) → IsSound c.pointer (c.edges.items ++ edges_by c.states ways) (c.states + 1)
+sealed_sound q c ways sound some each = record {
   some = omega arith;
   from = λ e a. elim (among_either es news a) [ inl b ↦ (let h = sound.from e b in omega arith) | inr b ↦ (let h = (among_edges n ways e b).1 in omega arith) ];
   down = λ e a. elim (among_either es news a) [ inl b ↦ sound.down e b | inr b ↦ (let (m, f) = among_edges n ways e b in let x = (each _ m).below in omega arith) ];
@@ -181,7 +181,7 @@ placed_some {q = q} {target = target} {b = b} {c = c} next d state h sealed =
     let keep : Kept c.edges.items d.edges.items = (λ e a. subst (λ (xs : List Edge). Among e xs) (sym ed) (among_left news a)) in
     let by_way : (way : Way) → Among way ways → (e : Edge) × Among e d.edges.items × (e.to ≡ way.to) = (λ way a. (record { from = c.states; to = way.to; label = way.label }, subst (λ (xs : List Edge). Among (record { from = c.states; to = way.to; label = way.label }) xs) (sym ed) (among_right c.edges.items (edges_among c.states way ways a)), refl)) in
     let led : (s : ℕ) → IsLedTo ways c.edges.items s → (e : Edge) × Among e d.edges.items × (e.to ≡ s) = (λ s l. elim l [ inl (way, a, t) ↦ (let (e, m, f) = by_way way a in (e, m, f ∙ t)) | inr (e, a, t) ↦ (e, keep e a, t) ]) in
-    let made = sealed_sound 0 q c ways h.sound h.some h.each in
+    let made = sealed_sound q c ways h.sound h.some h.each in
     record {
       pointer = sealed.pointer ∙ h.pointer;
       later = let x = h.later in omega arith;

@@ -1,20 +1,19 @@
 -- What is built for members of an alternative, one by one.
-use Rattle.std.proofs.Common.{◌≡◌, ◌≢◌, ℕ, zero, suc, ◌+◌, ◌^◌, ◌<◌, ◌≤◌, ◌⊎◌, inl, inr, Bool, List, [], ◌∷◌, ◌++◌, length, take, get_or, refl, sym, ap, ◌∙◌, subst, arith, ◌↔◌, add-one, length-append, ⊎_elim}
+use Rattle.std.proofs.Common.{◌≡◌, ◌≢◌, ℕ, ◌+◌, ◌^◌, ◌<◌, ◌≤◌, ◌⊎◌, inl, inr, Bool, List, [], ◌∷◌, ◌++◌, length, take, get_or, refl, sym, ap, ◌∙◌, subst, arith, add-one, length-append}
 use Rattle.std.proofs.Math.Seq.{take-suc}
 use Rattle.tm_base.specs.declared.tree.Tree.{Tree, Alt}
 use Rattle.tm_base.specs.Cells.{Word}
-use Rattle.tm_base.specs.Shapes.{leaves_of, all_leaves, NonePrivate, HasNoAlternatives, NoneAlternative}
+use Rattle.tm_base.specs.Shapes.{leaves_of, all_leaves, HasNoAlternatives, NoneAlternative}
 use Rattle.tm_base.specs.Transmutes.{holds}
 use Rattle.tm_auto.specs.declared.build.Building.{Building}
 use Rattle.tm_auto.specs.declared.extent.Extent.{Extent}
 use Rattle.tm_auto.specs.declared.extent.Extent.TheVariants.{Dead, Empty, Long}
-use Rattle.tm_auto.specs.declared.edge.Label.{Label}
-use Rattle.tm_auto.specs.Builds.{Words, IsReady, IsGrowable, CanGrow, MakesBy, MakesTree, AreEven, any}
+use Rattle.tm_auto.specs.Builds.{IsGrowable, CanGrow, MakesBy, MakesTree, AreEven, any}
 use Rattle.tm_auto.specs.Labels.{Begins}
 use Rattle.tm_auto.specs.Loose.{LooseWord, LooseOneOf}
-use Rattle.tm_auto.specs.Shapes.{extent_of, one_of}
+use Rattle.tm_auto.specs.Shapes.{extent_of}
 use Rattle.tm_auto.proofs.CaseLemmas.{public_at, all_leaves-take, all_leaves-more, said_before}
-use Rattle.tm_auto.proofs.ExtentLemmas.{IsExtent, extent_is, one_is, even_member, no_empty}
+use Rattle.tm_auto.proofs.ExtentLemmas.{IsExtent, extent_is, even_member, no_empty}
 use Rattle.tm_auto.proofs.LooseLemmas.{LooseWord-Alt, LooseOneOf-more}
 use Rattle.tm_auto.proofs.MakeLemmas.{IsSame, makes_as, makes_from, makes_either, ready_still}
 use Rattle.tm_auto.proofs.ShapeLemmas.{extent_of-Alt}
@@ -107,9 +106,12 @@ module _ (ts : List Tree) (i : ℕ) (t : Tree) (target : ℕ) (b c : Building) (
     | inl (same, none) ↦ (
         let one = makes_from same (said_before b.pointer t target c d same.pointer made) in
         let size = all_leaves-more b.pointer (take i ts) t in
-        inr (more_some (take i ts) t, makes_as (omega arith) (last_line (take i ts) t) (λ A w.
-        let (x, y) = LooseOneOf-more b.pointer (holds A) (take i ts) t w in
-        (λ k. y (inr k), λ k. elim (x k) [ inl z ↦ absurd (none A w z) | inr z ↦ z ])) one))
+        inr (
+          more_some (take i ts) t,
+          makes_as (omega arith) (last_line (take i ts) t) (λ A w.
+              let (x, y) = LooseOneOf-more b.pointer (holds A) (take i ts) t w in
+              (λ k. y (inr k), λ k. elim (x k) [ inl z ↦ absurd (none A w z) | inr z ↦ z ])) one,
+        ))
     | inr (some, before) ↦ (
         let two = makes_either can.ready before (said_before b.pointer t target c d before.pointer made) in
         let size = all_leaves-more b.pointer (take i ts) t in
@@ -123,9 +125,12 @@ module _ (ts : List Tree) (i : ℕ) (t : Tree) (target : ℕ) (b c : Building) (
         | inl (same, none) ↦ inl (same, λ A w k. elim ((LooseOneOf-more b.pointer (holds A) (take i ts) t w).0 k) [ inl z ↦ none A w z | inr z ↦ never A w z ])
         | inr (some, before) ↦ (
             let size = all_leaves-more b.pointer (take i ts) t in
-            inr (more_some (take i ts) t, makes_as (omega arith) (less_line (take i ts) t) (λ A w.
-            let (x, y) = LooseOneOf-more b.pointer (holds A) (take i ts) t w in
-            (λ k. y (inl k), λ k. elim (x k) [ inl z ↦ z | inr z ↦ absurd (never A w z) ])) before))
+            inr (
+              more_some (take i ts) t,
+              makes_as (omega arith) (less_line (take i ts) t) (λ A w.
+                  let (x, y) = LooseOneOf-more b.pointer (holds A) (take i ts) t w in
+                  (λ k. y (inl k), λ k. elim (x k) [ inl z ↦ z | inr z ↦ absurd (never A w z) ])) before,
+            ))
       ])
 
   pub one_empty : extent_of t ≡ Empty → ⊥

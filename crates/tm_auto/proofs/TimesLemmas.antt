@@ -1,7 +1,7 @@
 -- What is built for a tree that is repeated, turn by turn.
-use Rattle.std.proofs.Common.{◌≡◌, ◌≢◌, ℕ, zero, suc, ◌+◌, ◌*◌, ◌^◌, ◌<◌, ◌≤◌, ◌⊎◌, inl, inr, Bool, [], ◌∷◌, refl, sym, ap, ◌∙◌, subst, arith, ◌↔◌, length}
+use Rattle.std.proofs.Common.{◌≡◌, ◌≢◌, ℕ, suc, ◌+◌, ◌*◌, ◌^◌, ◌<◌, ◌≤◌, inl, inr, [], ◌∷◌, refl, sym, ◌∙◌, subst, arith, length}
 use Rattle.tm_base.specs.declared.tree.Tree.{Tree, Repeat}
-use Rattle.tm_base.specs.Cells.{Word, Times}
+use Rattle.tm_base.specs.Cells.{Times}
 use Rattle.tm_base.specs.Shapes.{leaves_of, HasNoAlternatives}
 use Rattle.tm_base.specs.Transmutes.{holds}
 use Rattle.tm_auto.specs.declared.build.Building.{Building}
@@ -12,7 +12,7 @@ use Rattle.tm_auto.specs.Labels.{Begins}
 use Rattle.tm_auto.specs.Loose.{LooseWord}
 use Rattle.tm_auto.specs.Shapes.{extent_of}
 use Rattle.tm_auto.proofs.CaseLemmas.{Front, front_room, front_placed, placed_ready, said_before}
-use Rattle.tm_auto.proofs.ExtentLemmas.{IsExtent, extent_is, even_part, some_times}
+use Rattle.tm_auto.proofs.ExtentLemmas.{IsExtent, extent_is, even_part}
 use Rattle.tm_auto.proofs.LooseLemmas.{LooseWord-Repeat}
 use Rattle.tm_auto.proofs.MakeLemmas.{IsSame, makes_as, makes_before}
 use Rattle.tm_auto.proofs.ShapeLemmas.{extent_of-no_turn, extent_of-turns}

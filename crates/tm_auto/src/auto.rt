@@ -74,7 +74,7 @@ impl Auto {
         ensures layers { IsLayered self.now }
         ensures reads { ReadsWords self.now }
     {
-        let _states = self.states;
+        let _ = &self.states;
     }
 
     /// The set of the states at which words begin. What follows from a set by `step` is what a list of

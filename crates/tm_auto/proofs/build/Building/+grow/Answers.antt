@@ -1,9 +1,8 @@
-use Rattle.std.proofs.Common.{rules, ◌≡◌, ℕ, ◌+◌, ◌-◌, ◌<◌, length, arith, refl, sym, subst, ap, ◌∙◌, drop, take, List}
+use Rattle.std.proofs.Common.{rules, ◌≡◌, ℕ, ◌+◌, ◌-◌, ◌<◌, length, arith, sym, subst, ap, ◌∙◌, drop, take, List}
 use Rattle.std.proofs.lemmas.List.{take_all}
 use Rattle.tm_base.specs.declared.tree.Tree.{Tree, Range, Pad, Seq, Alt, Repeat}
-use Rattle.tm_auto.specs.declared.edge.Label.TheVariants.{Bytes, Free}
 use Rattle.tm_auto.specs.declared.extent.Extent.TheVariants.{Dead, Long}
-use Rattle.tm_auto.specs.Builds.{CanGrow, MakesTree, IsAdded}
+use Rattle.tm_auto.specs.Builds.{CanGrow}
 use Rattle.tm_auto.specs.Shapes.{extent_of, nodes_of, all_nodes}
 use Rattle.tm_auto.proofs.CaseLemmas as cases
 use Rattle.tm_auto.proofs.MemberLemmas as members

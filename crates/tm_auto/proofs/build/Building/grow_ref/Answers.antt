@@ -1,5 +1,4 @@
 use Rattle.std.proofs.Common.{◌≡◌, ◌<◌, ◌^◌, ◌-◌, arith, rules, length, refl, subst, ℕ}
-use Rattle.tm_base.specs.declared.tree.Tree.{Ref}
 use Rattle.tm_base.specs.Shapes.{leaves_of}
 use Rattle.tm_auto.proofs.CaseLemmas.{RefFront, ref_none, ref_turn, ref_done, front_mark, front_room}
 use Rattle.tm_auto.proofs.build.Building.grow_ref.Goals as goal

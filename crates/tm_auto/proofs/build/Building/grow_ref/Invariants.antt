@@ -1,4 +1,3 @@
-use Rattle.std.proofs.Common.{◌≤◌}
 use Rattle.tm_auto.proofs.CaseLemmas.{RefFront}
 use Rattle.tm_auto.proofs.build.Building.grow_ref.Given as goal
 
