@@ -40,5 +40,3 @@ pub use auto::Auto;
 pub use edge::{Edge, Label, Symbol};
 pub use set::StateSet;
 
-#[cfg(test)]
-mod tests;

@@ -1,8 +1,9 @@
 ghost use Rattle.std.specs.Prelude.{◌≡◌, ◌∷◌, [], IfOk};
 
-use crate::{Auto, StateSet, Symbol};
+
 use std::alloc::Global;
 use std::test::Fail;
+use tm_auto::{Auto, StateSet, Symbol};
 use tm_base::{Boxed, Equal, List, Memory, RefId, Tree};
 
 fn two(alloc: Global, first: Tree, second: Tree) -> Result<List<Tree>, Memory>

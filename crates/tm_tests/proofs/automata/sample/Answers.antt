@@ -2,7 +2,7 @@ use Rattle.std.proofs.Common.{◌≡◌, ◌<◌, ◌^◌, List, [], ◌∷◌, 
 use Rattle.tm_base.specs.declared.tree.Tree.{Tree, Range, Ref, Seq, Alt, Repeat}
 use Rattle.tm_base.specs.Shapes.{HasSize, HasNoPrivate, leaves_of}
 use Rattle.tm_base.proofs.ShapeLemmas.{HasNoPrivate-Seq, HasNoPrivate-Alt, HasNoPrivate-Repeat, leaves_of-Seq, leaves_of-Alt, leaves_of-Repeat, HasSize-Range, HasSize-Ref, HasSize-Seq-none, HasSize-Seq-more, HasSize-Alt-none, HasSize-Alt-more, HasSize-Repeat}
-use Rattle.tm_auto.proofs.tests.sample.Goals as goal
+use Rattle.tm_tests.proofs.automata.sample.Goals as goal
 
 abbrev byte : List Tree
 byte = Range 0 0 ∷ Range 2 2 ∷ []

@@ -1,5 +1,5 @@
 use Rattle.tm_auto.specs.Automata.{AreStates}
-use Rattle.tm_auto.proofs.tests.after.Given as goal
+use Rattle.tm_tests.proofs.automata.after.Given as goal
 
 abbrev pub invariant-loop-symbol : goal.invariant-loop-symbol
 invariant-loop-symbol l = AreStates l.auto' l.set
