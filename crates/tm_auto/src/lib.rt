@@ -39,4 +39,3 @@ mod set;
 pub use auto::Auto;
 pub use edge::{Edge, Label, Symbol};
 pub use set::StateSet;
-

@@ -1,6 +1,5 @@
 ghost use Rattle.std.specs.Prelude.{◌≡◌, ◌∷◌, [], IfOk};
 
-
 use std::alloc::Global;
 use std::test::Fail;
 use tm_auto::{Auto, StateSet, Symbol};
