@@ -68,3 +68,15 @@ pub adds_prefix : (a b : Option (List ℕ)) (bytes rest : List ℕ) → AddsUpTo
 adds_prefix None b bytes rest done = tt
 adds_prefix (Some told) None bytes rest done = absurd done.2
 adds_prefix (Some told) (Some now) bytes rest done = (done.0, rest, done.1, ap Some done.2)
+
+-- a write adds a front of its piece
+pub adds_front : (a b : Option (List ℕ)) (bytes : List ℕ) (n : ℕ) → Appends a b (take n bytes) → AddsPrefix a b bytes
+adds_front None b bytes n more = tt
+adds_front (Some told) None bytes n more = absurd more
+adds_front (Some told) (Some now) bytes n more = (take n bytes, drop n bytes, sym (take-append-drop n bytes), ap Some more)
+
+-- with nothing added, the prefix is empty
+pub adds_nothing : (a b : Option (List ℕ)) (bytes : List ℕ) → Keeps a b → AddsPrefix a b bytes
+adds_nothing None b bytes same = tt
+adds_nothing (Some told) None bytes same = absurd same
+adds_nothing (Some told) (Some now) bytes same = ([], bytes, refl, ap Some (same ∙ sym (append-nil told)))

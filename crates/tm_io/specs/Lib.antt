@@ -1,3 +1,6 @@
+pub mod Calls
 pub mod Faults
+pub mod Flaky
 pub mod Told
 pub mod MemSink
+pub mod Over

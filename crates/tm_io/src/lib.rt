@@ -2,7 +2,10 @@
 //! over std's readers and writers, and how all bytes are read and written.
 #![tactic(auto)]
 
+mod calls;
 mod failed;
+mod flaky_sink;
+mod flaky_source;
 mod mem_sink;
 mod mem_source;
 mod reading;
@@ -13,6 +16,8 @@ mod std_source;
 mod writing;
 
 pub use failed::Failed;
+pub use flaky_sink::FlakySink;
+pub use flaky_source::FlakySource;
 pub use mem_sink::MemSink;
 pub use mem_source::MemSource;
 pub use reading::{ReadErr, read_all};

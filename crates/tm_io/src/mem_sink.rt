@@ -1,7 +1,7 @@
-ghost use Rattle.std.specs.Prelude.{◌≡◌, ℕ, ◌-◌, ◌<◌, ◌↔◌, [], Some, IsErr, IfOk, OnErr, length, min};
+ghost use Rattle.std.specs.Prelude.{◌≡◌, ℕ, ◌-◌, ◌<◌, ◌≤◌, ◌↔◌, [], Some, IsErr, IfOk, OnErr, length, min};
 ghost use Rattle.std.specs.Io.{WritesAtMost};
 ghost use Rattle.std.specs.Io.KnownBytes.{WriteAppends};
-ghost use Rattle.tm_io.specs.Faults.{HasCause, raised};
+ghost use Rattle.tm_io.specs.Faults.{HasCause, Rose, raised};
 
 use crate::failed::Failed;
 use crate::sink::Sink;
@@ -51,6 +51,20 @@ impl MemSink {
     {
         self.bytes.as_slice()
     }
+
+    /// Counts a failure, and is that failure. What was written stays.
+    pub(crate) fn fail(&mut self) -> Failed
+        ensures counted { self.new ≡ record {
+          written = self.old.written;
+          room = self.old.room;
+          faults = raised self.old.faults;
+        } }
+        ensures later { self.old.faults ≤ self.new.faults }
+        ensures rose { Rose self.old.faults self.new.faults }
+    {
+        self.faults = self.faults.saturating_add(1);
+        Failed
+    }
 }
 
 impl Sink for MemSink {
@@ -74,8 +88,7 @@ impl Sink for MemSink {
     {
         let count = piece.len().min(self.room - self.bytes.len());
         if count == 0 && !piece.is_empty() {
-            self.faults = self.faults.saturating_add(1);
-            return Err(Failed);
+            return Err(self.fail());
         }
         self.bytes.extend_from_slice(&piece[..count]).unwrap();
         Ok(count)

@@ -1,7 +1,9 @@
 use std::io;
 use std::io::{Read, Write};
 use std::test::Fail;
-use tm_io::{Failed, ReadErr, Sink, SinkErr, StdSink, StdSource, read_all, write_all};
+use tm_io::{
+    Failed, FlakySink, FlakySource, ReadErr, Sink, SinkErr, StdSink, StdSource, read_all, write_all,
+};
 
 /// A reader that gives three bytes and then fails.
 #[derive(Drop)]
@@ -74,6 +76,53 @@ fn a_writer_that_stops_is_a_fault(rt: HostRuntime) -> Result<(), Fail> {
     assert_eq!(rt; write_all(&mut sink, b"0 yes\n"), Err(SinkErr::Fault));
     let mut sink = StdSink::new(NeverFlushes);
     assert_eq!(rt; write_all(&mut sink, b"0 yes\n"), Err(SinkErr::Fault));
+    Ok(())
+}
+
+/// A sink with ample room that takes one byte a call and fails at one call.
+fn fails_at(rt: &HostRuntime, call: u64) -> Result<FlakySink, Fail> {
+    let fail_calls = Vec::from_slice(rt.alloc(), &[call])?;
+    let sink = FlakySink::with_room(rt.alloc(), 100, 1, fail_calls)
+        .ok()
+        .ok_or("no memory")?;
+    Ok(sink)
+}
+
+#[test]
+fn each_call_that_fails_is_a_fault(rt: HostRuntime) -> Result<(), Fail> {
+    let alloc = rt.alloc();
+    for moved in 0..4 {
+        let call = moved as u64 + 1;
+        let bytes = Vec::from_slice(alloc, b"ask ")?;
+        let mut source = FlakySource::new(bytes, 1, Vec::from_slice(alloc, &[call])?);
+        let read = read_all(alloc, &mut source, 100);
+        assert_eq!(rt; read.err(), Some(ReadErr::Fault));
+        let mut sink = fails_at(&rt, call)?;
+        assert_eq!(rt; write_all(&mut sink, b"ask "), Err(SinkErr::Fault));
+        assert_eq!(rt; sink.written(), &b"ask "[..moved]);
+    }
+    Ok(())
+}
+
+#[test]
+fn a_call_that_is_never_made_fails_nothing(rt: HostRuntime) -> Result<(), Fail> {
+    let alloc = rt.alloc();
+    let bytes = Vec::from_slice(alloc, b"ask ")?;
+    let mut source = FlakySource::new(bytes, 1, Vec::from_slice(alloc, &[6])?);
+    let read = read_all(alloc, &mut source, 100)?;
+    assert_eq!(rt; read.as_slice(), b"ask ".as_slice());
+    let mut sink = fails_at(&rt, 5)?;
+    assert_eq!(rt; write_all(&mut sink, b"ask "), Ok(()));
+    assert_eq!(rt; sink.written(), b"ask ".as_slice());
+    Ok(())
+}
+
+#[test]
+fn what_was_written_before_a_fault_stays(rt: HostRuntime) -> Result<(), Fail> {
+    let mut sink = fails_at(&rt, 4)?;
+    let report = b"0 yes, 0 no, 0 refused\n";
+    assert_eq!(rt; write_all(&mut sink, report), Err(SinkErr::Fault));
+    assert_eq!(rt; sink.written(), b"0 y".as_slice());
     Ok(())
 }
 
