@@ -32,11 +32,13 @@
 
 mod auto;
 mod build;
+mod class;
 mod edge;
 mod extent;
 mod set;
 
 pub use auto::Auto;
+pub use class::classes;
 pub use edge::{Edge, Label, Symbol};
 pub use set::StateSet;
 

@@ -1,0 +1,6 @@
+use Rattle.std.proofs.Common.{◌≡◌, ◌++◌, ◌-◌, ◌<◌, ◌≤◌, [], drop, take}
+use Rattle.tm_auto.specs.Classes.{AreRanges, AreUncut, passes_some, labels_in, labels_from, with_ids, places_of, references_of}
+use Rattle.tm_auto.proofs.class.passes_any.Given as goal
+
+abbrev pub invariant-loop-label : goal.invariant-loop-label
+invariant-loop-label l = passes_some (drop l.label-index l.labels) l.symbol ≡ passes_some l.labels l.symbol
