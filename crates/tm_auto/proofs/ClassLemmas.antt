@@ -1,16 +1,19 @@
 -- Why the classes that are made are those of two sets.
-use Rattle.std.proofs.Common.{◌≡◌, ◌≢◌, ℕ, zero, suc, ◌+◌, ◌-◌, ◌*◌, ◌<◌, ◌≤◌, ◌⊎◌, inl, inr, ◌↔◌, Bool, true, false, ◌&&◌, nat_le, nat_lt, List, [], ◌∷◌, ◌++◌, refl, sym, ap, ◌∙◌, subst, arith, append-nil}
+use Rattle.std.proofs.Common.{◌≡◌, ◌≢◌, ℕ, zero, suc, ◌+◌, ◌-◌, ◌*◌, ◌<◌, ◌≤◌, ◌⊎◌, inl, inr, ◌↔◌, Bool, true, false, ◌&&◌, nat_le, nat_lt, List, [], ◌∷◌, ◌++◌, refl, sym, ap, ◌∙◌, subst, arith, append-nil, append_assoc, length, take, drop, get_or, add-one, drop-cons}
 use Rattle.std.specs.Prelude.{◌||◌, ◌==◌}
+use Rattle.std.proofs.Math.Seq.{take-suc}
 use Rattle.std.proofs.lemmas.Bool.{cases_lt, or_left, or_right}
 use Rattle.tm_base.specs.declared.cell.Cell.{Cell}
 use Rattle.tm_base.specs.declared.cell.Cell.TheVariants as cell
+use Rattle.tm_base.specs.declared.cell.RefId.{RefId}
 use Rattle.tm_base.specs.Orders.{cell_less}
+use Rattle.tm_auto.specs.declared.edge.Edge.{Edge}
 use Rattle.tm_auto.specs.declared.edge.Label.{Label}
 use Rattle.tm_auto.specs.declared.edge.Label.TheVariants as label
 use Rattle.tm_auto.specs.declared.edge.Symbol.{Symbol}
 use Rattle.tm_auto.specs.declared.edge.Symbol.TheVariants as symbol
-use Rattle.tm_auto.specs.Automata.{equal}
-use Rattle.tm_auto.specs.Classes.{HasCell, AreInOrder, IsUncut, AreUncut, passes_some, IsRange, AreRanges, places_of}
+use Rattle.tm_auto.specs.Automata.{edges_from, equal}
+use Rattle.tm_auto.specs.Classes.{HasCell, AreInOrder, IsUncut, AreUncut, passes_some, IsRange, AreRanges, labels_in, labels_from, places_of}
 use Rattle.tm_auto.specs.Paths.{Among, here, there}
 use Rattle.tm_auto.specs.Sets.{passes}
 use Rattle.tm_auto.proofs.AmongLemmas.{among_left, among_right, among_either, none_among}
@@ -104,7 +107,7 @@ module _ (src dst : List Label) (at end : ℕ) (xs : List Symbol) (h : AreRanges
   above : (b : ℕ) → at ≤ b → b < end → passes_some src (symbol.Bytes at at) ≡ passes_some src (symbol.Bytes b b)
   above b lo hi = some_same src at b (all_less src at end (b + 1) (omega arith) su) lo (omega arith)
 
-  new : Symbol
+  abbrev new : Symbol
   new = symbol.Bytes at (end - 1)
 
   pub ranges_skip : passes_some src (symbol.Bytes at at) ≡ false → AreRanges src dst end xs
@@ -161,7 +164,7 @@ some_to (l ∷ ls) x e = elim (both_or (passes equal l x) (passes_some ls x) e) 
 
 pub to_some : (ls : List Label) (x : Symbol) (l : Label) → Among l ls → passes equal l x ≡ true → passes_some ls x ≡ true
 to_some [] x l a p = absurd (none_among a)
-to_some (m ∷ ls) x m here p = or_left (passes equal m x) (passes_some ls x) p
+to_some (m ∷ ls) x l here p = or_left (passes equal l x) (passes_some ls x) p
 to_some (m ∷ ls) x l (there a) p = or_right (passes equal m x) (passes_some ls x) (to_some ls x l a p)
 
 -- under the test of equal references a label passes a reference's byte where it is that byte's own
@@ -190,3 +193,30 @@ places_has ls id (suc n) k l p = elim (cases_lt k n) [
   | inl lt ↦ among_left _ (places_has ls id n k lt p)
   | inr ge ↦ (let e : n ≡ k = omega arith in rw (e, p) (among_right (places_of ls id k) here))
 ]
+
+-- ---- turn by turn
+
+pub uncut_turn : (ls : List Label) (i : ℕ) (d : Label) (a e f : ℕ) → i < length ls → f ≤ e → AreUncut (take i ls) a e → IsUncut (get_or ls i d) a f → AreUncut (take (i + 1) ls) a f
+uncut_turn ls i d a e f l le h k = subst (λ (z : List Label). AreUncut z a f) (sym (take_at ls i d l)) (uncut_more (take i ls) (get_or ls i d) a e f le h k)
+  where
+    take_at : (ls : List Label) (i : ℕ) (d : Label) → i < length ls → take (i + 1) ls ≡ take i ls ++ get_or ls i d ∷ []
+    take_at ls i d l = rw add-one (take-suc ls i d l)
+
+pub among_at : (xs : List ℕ) (i d : ℕ) → i < length xs → Among (get_or xs i d) xs
+among_at [] i d h = absurd (omega arith)
+among_at (x ∷ xs) zero d h = here
+among_at (x ∷ xs) (suc i) d h = there (among_at xs i d (omega arith))
+
+pub labels_turn : (ls : List Label) (es : List Edge) (ss : List ℕ) (i : ℕ) → i < length ss → (ls ++ labels_in (edges_from (get_or ss i 0) es)) ++ labels_from es (drop (i + 1) ss) ≡ ls ++ labels_from es (drop i ss)
+labels_turn ls es ss i l =
+    let step : drop i ss ≡ get_or ss i 0 ∷ drop (i + 1) ss = rw add-one (drop-cons ss i 0 l) in
+    append_assoc ls (labels_in (edges_from (get_or ss i 0) es)) (labels_from es (drop (i + 1) ss)) ∙ ap (λ (z : List ℕ). ls ++ labels_from es z) (sym step)
+
+pub labels_done : (ls all : List Label) (es : List Edge) (ss : List ℕ) (i : ℕ) → length ss ≤ i → ls ++ labels_from es (drop i ss) ≡ all → ls ≡ all
+labels_done ls all es ss i l h = sym (append-nil ls) ∙ ap (λ (z : List ℕ). ls ++ labels_from es z) (sym (none ss i l)) ∙ h
+  where
+    none : (ss : List ℕ) (i : ℕ) → length ss ≤ i → drop i ss ≡ []
+    none [] zero l = refl
+    none [] (suc i) l = refl
+    none (s ∷ ss) zero l = absurd (omega arith)
+    none (s ∷ ss) (suc i) l = none ss i (omega arith)
