@@ -1,5 +1,5 @@
 -- Why the classes that are made are those of two sets.
-use Rattle.std.proofs.Common.{◌≡◌, ◌≢◌, ℕ, zero, suc, ◌+◌, ◌-◌, ◌*◌, ◌<◌, ◌≤◌, ◌⊎◌, inl, inr, ◌↔◌, Bool, true, false, ◌&&◌, nat_le, nat_lt, List, [], ◌∷◌, ◌++◌, refl, sym, ap, ◌∙◌, subst, arith, append-nil, append_assoc, length, take, drop, get_or, add-one, drop-cons}
+use Rattle.std.proofs.Common.{◌≡◌, ℕ, zero, suc, ◌+◌, ◌-◌, ◌<◌, ◌≤◌, ◌⊎◌, inl, inr, Bool, true, false, ◌&&◌, nat_le, nat_lt, List, [], ◌∷◌, ◌++◌, refl, sym, ap, ◌∙◌, subst, arith, append-nil, append_assoc, length, take, drop, get_or, add-one, drop-cons}
 use Rattle.std.specs.Prelude.{◌||◌, ◌==◌}
 use Rattle.std.proofs.Math.Seq.{take-suc}
 use Rattle.std.proofs.lemmas.Bool.{cases_lt, or_left, or_right}
@@ -29,7 +29,7 @@ le_holds a b h = grind arith
 le_fails : (a b : ℕ) → b < a → nat_le a b ≡ false
 le_fails a b h = grind arith
 
-lt_holds : (a b : ℕ) → a < b → nat_lt a b ≡ true
+pub lt_holds : (a b : ℕ) → a < b → nat_lt a b ≡ true
 lt_holds a b h = grind arith
 
 le_same : (p q r s : ℕ) → (p ≤ q → r ≤ s) → (r ≤ s → p ≤ q) → nat_le p q ≡ nat_le r s
@@ -98,7 +98,7 @@ range_more : (src dst : List Label) (at end : ℕ) (x : Symbol) → at ≤ end �
 range_more src dst at end x le r = record { first = r.first; last = r.last; is = r.is; formed = r.formed; below = let y = r.below in omega arith; source = r.source; target = r.target }
 
 -- the bytes of a range
-range_byte : (src dst : List Label) (at : ℕ) (x : Symbol) (c : Cell) → IsRange src dst at x → HasCell x c → (b : ℕ) × (c ≡ cell.Byte b) × (b < at)
+pub range_byte : (src dst : List Label) (at : ℕ) (x : Symbol) (c : Cell) → IsRange src dst at x → HasCell x c → (b : ℕ) × (c ≡ cell.Byte b) × (b < at)
 range_byte src dst at x (cell.Byte b) r h = let (lo, hi) = subst (λ (s : Symbol). HasCell s (cell.Byte b)) r.is h in (b, refl, (let y = r.below in omega arith))
 range_byte src dst at x cell.Uninit r h = absurd (subst (λ (s : Symbol). HasCell s cell.Uninit) r.is h)
 range_byte src dst at x (cell.Ptr t k) r h = absurd (subst (λ (s : Symbol). HasCell s (cell.Ptr t k)) r.is h)
@@ -124,7 +124,7 @@ module _ (src dst : List Label) (at end : ℕ) (xs : List Symbol) (h : AreRanges
   }
 
   pub ranges_add : passes_some src (symbol.Bytes at at) ≡ true → AreRanges src dst end (xs ++ symbol.Bytes at (end - 1) ∷ [])
-  ranges_add some = 
+  ranges_add some =
       let last : (end - 1) + 1 ≡ end = omega arith in
       record {
         each = λ x m. elim (among_either xs (new ∷ []) m) [
@@ -168,7 +168,7 @@ to_some (m ∷ ls) x l here p = or_left (passes equal l x) (passes_some ls x) p
 to_some (m ∷ ls) x l (there a) p = or_right (passes equal m x) (passes_some ls x) (to_some ls x l a p)
 
 -- under the test of equal references a label passes a reference's byte where it is that byte's own
-passes_own : (l : Label) (r : RefId) (k : ℕ) → passes equal l (symbol.Ptr r k) ≡ true → l ≡ label.Leaf r k
+pub passes_own : (l : Label) (r : RefId) (k : ℕ) → passes equal l (symbol.Ptr r k) ≡ true → l ≡ label.Leaf r k
 passes_own (label.Bytes low high) r k e = cc
 passes_own label.Free r k e = cc
 passes_own (label.Leaf t j) r k e =
@@ -177,7 +177,7 @@ passes_own (label.Leaf t j) r k e =
     rw (same, ← same_at k j p) refl
 
 -- where they begin, and that they rise
-places_is : (ls : List Label) (id n : ℕ) (x : Symbol) → Among x (places_of ls id n) → (k : ℕ) × (k < n) × (x ≡ symbol.Ptr (record { 0 = id }) k) × (passes_some ls x ≡ true)
+pub places_is : (ls : List Label) (id n : ℕ) (x : Symbol) → Among x (places_of ls id n) → (k : ℕ) × (k < n) × (x ≡ symbol.Ptr (record { 0 = id }) k) × (passes_some ls x ≡ true)
 places_is ls id zero x a = absurd (none_among a)
 places_is ls id (suc k) x a = elim (bool_cases (passes_some ls (symbol.Ptr (record { 0 = id }) k))) [
   | inl p ↦ elim (among_either (places_of ls id k) (symbol.Ptr (record { 0 = id }) k ∷ []) (rw p at a)) [
@@ -187,7 +187,7 @@ places_is ls id (suc k) x a = elim (bool_cases (passes_some ls (symbol.Ptr (reco
   | inr p ↦ (let (j, l, e, q) = places_is ls id k x (subst (λ z. Among x z) (append-nil (places_of ls id k)) (rw p at a)) in (j, omega arith, e, q))
 ]
 
-places_has : (ls : List Label) (id n k : ℕ) → k < n → passes_some ls (symbol.Ptr (record { 0 = id }) k) ≡ true → Among (symbol.Ptr (record { 0 = id }) k) (places_of ls id n)
+pub places_has : (ls : List Label) (id n k : ℕ) → k < n → passes_some ls (symbol.Ptr (record { 0 = id }) k) ≡ true → Among (symbol.Ptr (record { 0 = id }) k) (places_of ls id n)
 places_has ls id zero k l p = absurd (omega arith)
 places_has ls id (suc n) k l p = elim (cases_lt k n) [
   | inl lt ↦ among_left _ (places_has ls id n k lt p)

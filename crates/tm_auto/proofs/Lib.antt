@@ -16,3 +16,4 @@ pub mod MemberLemmas
 pub mod EvenLemmas
 pub mod BuiltLemmas
 pub mod ClassLemmas
+pub mod ClassedLemmas

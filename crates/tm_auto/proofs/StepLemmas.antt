@@ -20,13 +20,13 @@ pub both_true : (a b : Bool) → (a && b) ≡ true → (a ≡ true) × (b ≡ tr
 both_true true b e = (refl, e)
 both_true false b e = cc
 
-lt_test : (a b : ℕ) → nat_lt a b ≡ true → a < b
+pub lt_test : (a b : ℕ) → nat_lt a b ≡ true → a < b
 lt_test a b e = grind arith
 
 lt_holds : (a b : ℕ) → a < b → nat_lt a b ≡ true
 lt_holds a b h = grind arith
 
-le_test : (a b : ℕ) → nat_le a b ≡ true → a ≤ b
+pub le_test : (a b : ℕ) → nat_le a b ≡ true → a ≤ b
 le_test a b e = grind arith
 
 le_holds : (a b : ℕ) → a ≤ b → nat_le a b ≡ true

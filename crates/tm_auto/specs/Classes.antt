@@ -2,7 +2,6 @@
 use Rattle.std.specs.Prelude.{◌≡◌, ℕ, zero, suc, Bool, true, false, if◌then◌else◌, ◌||◌, ◌+◌, ◌<◌, ◌≤◌, ◌⊎◌, ◌↔◌, List, [], ◌∷◌, ◌++◌}
 use Rattle.tm_base.specs.declared.cell.Cell.{Cell}
 use Rattle.tm_base.specs.declared.cell.Cell.TheVariants as cell
-use Rattle.tm_base.specs.declared.cell.RefId.{RefId}
 use Rattle.tm_base.specs.Orders.{cell_less}
 use Rattle.tm_base.specs.Transmutes.{holds}
 use Rattle.tm_auto.specs.declared.edge.Edge.{Edge}
@@ -88,6 +87,10 @@ pub record AreRanges (src dst : List Label) (end : ℕ) (symbols : List Symbol) 
   pub each : (x : Symbol) → Among x symbols → IsRange src dst end x
   pub ordered : AreInOrder symbols
   pub covers : (b : ℕ) → b < end → (passes_some src (symbol.Bytes b b) ≡ true) ↔ ((x : Symbol) × Among x symbols × HasCell x (cell.Byte b))
+
+-- the uninitialised byte, where some label takes it
+abbrev pub uninit_of : List Label → List Symbol
+uninit_of labels = if passes_some labels symbol.Uninit then symbol.Uninit ∷ [] else []
 
 -- the bytes of a reference below a place that some label takes
 abbrev pub places_of : List Label → ℕ → ℕ → List Symbol

@@ -1,7 +1,7 @@
 //! Classes of symbols: by each of them two sets of states are walked at once.
 ghost use Rattle.std.specs.Prelude.{◌≡◌, ◌<◌, ◌≤◌, ◌++◌, ◌∷◌, [], IfOk, OnOk};
 ghost use Rattle.tm_auto.specs.Automata.{AreStates};
-ghost use Rattle.tm_auto.specs.Classes.{AreClasses, IsUncut, AreUncut, AreRanges, passes_some, labels_in, labels_from, with_ids, places_of, references_of};
+ghost use Rattle.tm_auto.specs.Classes.{AreClasses, IsUncut, AreUncut, AreRanges, passes_some, labels_in, labels_from, with_ids, uninit_of, places_of, references_of};
 
 use crate::auto::Auto;
 use crate::edge::{Edge, Label, Symbol};
@@ -23,13 +23,12 @@ pub fn classes(
     requires to { AreStates dst.now to.now }
     ensures { IfOk result (λ symbols. AreClasses src.now from.now dst.now to.now symbols) }
 {
+    src.law();
     let source = labels_of(alloc, src, from)?;
     let target = labels_of(alloc, dst, to)?;
     let mut symbols = List::new(alloc);
     add_ranges(&mut symbols, source.as_slice(), target.as_slice())?;
-    if passes_any(source.as_slice(), Symbol::Uninit) {
-        add(&mut symbols, Symbol::Uninit)?;
-    }
+    add_uninit(&mut symbols, source.as_slice())?;
     add_references(alloc, &mut symbols, source.as_slice())?;
     Ok(symbols)
 }
@@ -114,7 +113,11 @@ fn nearer(at: u16, place: u16, end: u16) -> u16
     ensures most { result ≤ end }
     ensures place { at < place → result ≤ place }
 {
-    if at < place && place < end { place } else { end }
+    if at < place && place < end {
+        place
+    } else {
+        end
+    }
 }
 
 // Whether one of the labels passes the symbol, where each reference holds itself alone.
@@ -139,12 +142,18 @@ fn add(symbols: &mut List<Symbol>, symbol: Symbol) -> Result<(), Memory>
     }
 }
 
+// Adds the uninitialised byte, where a label takes it.
+fn add_uninit(symbols: &mut List<Symbol>, labels: &[Label]) -> Result<(), Memory>
+    ensures { OnOk result (symbols.new ≡ symbols.old ++ uninit_of labels.now) }
+{
+    if passes_any(labels, Symbol::Uninit) {
+        add(symbols, Symbol::Uninit)?;
+    }
+    Ok(())
+}
+
 // Adds the bytes of references that the labels take, in order. A reference has at most 8.
-fn add_references(
-    alloc: Global,
-    symbols: &mut List<Symbol>,
-    labels: &[Label],
-) -> Result<(), Memory>
+fn add_references(alloc: Global, symbols: &mut List<Symbol>, labels: &[Label]) -> Result<(), Memory>
     ensures { OnOk result (symbols.new ≡ symbols.old ++ references_of labels.now (with_ids labels.now [])) }
 {
     let ids = ids_of(alloc, labels)?;

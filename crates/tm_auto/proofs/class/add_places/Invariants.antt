@@ -1,5 +1,5 @@
-use Rattle.std.proofs.Common.{◌≡◌, ◌++◌, ◌-◌, ◌<◌, ◌≤◌, [], drop, take}
-use Rattle.tm_auto.specs.Classes.{AreRanges, AreUncut, passes_some, labels_in, labels_from, with_ids, places_of, references_of}
+use Rattle.std.proofs.Common.{◌≡◌, ◌++◌}
+use Rattle.tm_auto.specs.Classes.{places_of}
 use Rattle.tm_auto.proofs.class.add_places.Given as goal
 
 abbrev pub invariant-loop-place : goal.invariant-loop-place

@@ -1,4 +1,4 @@
-use Rattle.std.proofs.Common.{◌≡◌, ◌+◌, ◌-◌, ◌<◌, ◌≤◌, true, false, arith, sym, ◌∙◌}
+use Rattle.std.proofs.Common.{arith, sym, ◌∙◌}
 use Rattle.tm_auto.proofs.ClassLemmas.{all_less, ranges_add, ranges_skip}
 use Rattle.tm_auto.proofs.class.add_ranges.Goals as goal
 

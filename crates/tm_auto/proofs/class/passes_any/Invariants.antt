@@ -1,5 +1,5 @@
-use Rattle.std.proofs.Common.{◌≡◌, ◌++◌, ◌-◌, ◌<◌, ◌≤◌, [], drop, take}
-use Rattle.tm_auto.specs.Classes.{AreRanges, AreUncut, passes_some, labels_in, labels_from, with_ids, places_of, references_of}
+use Rattle.std.proofs.Common.{◌≡◌, drop}
+use Rattle.tm_auto.specs.Classes.{passes_some}
 use Rattle.tm_auto.proofs.class.passes_any.Given as goal
 
 abbrev pub invariant-loop-label : goal.invariant-loop-label
