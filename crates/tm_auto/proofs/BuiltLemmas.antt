@@ -85,9 +85,10 @@ forward_path es f (suc k) a s t (d, da, df, p) (e, ea, ef, q) =
     forward_path es f k e.to s t (subst (λ (z : ℕ). IsPath es k z s) same p) q
 
 -- where no word begins
-pub built_none : (t : Tree) (size pointer : ℕ) → 0 < pointer → HasNoPrivate t → HasNoLoose pointer t → IsAutomatonOf t (record { states = 0; edges = []; starts = []; size = size; pointer = pointer })
-built_none t size pointer some g none = record {
+pub built_none : (t : Tree) (size pointer : ℕ) → (0 < pointer) × (pointer ≤ 8) → HasNoPrivate t → HasNoLoose pointer t → IsAutomatonOf t (record { states = 0; edges = []; starts = []; size = size; pointer = pointer })
+built_none t size pointer small g none = record {
   automaton = record {
+    small = small;
     down = λ e a. absurd (none_among a);
     ordered = tt;
     left = λ s lo hi. absurd (omega arith);
@@ -102,7 +103,7 @@ built_none t size pointer some g none = record {
     whole = λ A w word. absurd (none_among word.reaches.among);
   };
   words = λ A keep w. (
-    λ x. absurd (none A w ((words_are pointer (holds A) keep some t g w).0 x).1),
+    λ x. absurd (none A w ((words_are pointer (holds A) keep small.0 t g w).0 x).1),
     λ word. absurd (none_among word.reaches.among),
   );
   single = λ l k s t2 p q. absurd (none_among p.among);
@@ -112,6 +113,7 @@ built_none t size pointer some g none = record {
 pub built_some : (t : Tree) (size : ℕ) (b c : Building) (state : ℕ) → CanBegin t b → HasSize b.pointer size t → IsPlacedTree t 0 b c state → IsAutomatonOf t (record { states = c.states; edges = c.edges.items; starts = state ∷ []; size = size; pointer = b.pointer })
 built_some t size b c state can sized h = record {
   automaton = record {
+    small = can.pointer;
     down = λ e a. (h.sound.down e a, h.sound.from e a);
     ordered = h.sound.ordered;
     left = h.sound.left;
@@ -166,7 +168,7 @@ begin t b size pointer which public leaves sized ee es eh ep = record {
 }
 
 pub of_none : (t : Tree) (b : Building) (size pointer : ℕ) (edges : List Edge) (starts : List ℕ) → CanBegin t b → b.pointer ≡ pointer → HasNoLoose b.pointer t → edges ≡ [] → starts ≡ [] → IsAutomatonOf t (record { states = 0; edges = edges; starts = starts; size = size; pointer = pointer })
-of_none t b size pointer edges starts can ep none ee es = rw (ee, es, ← ep) (built_none t size b.pointer can.pointer.0 can.public none)
+of_none t b size pointer edges starts can ep none ee es = rw (ee, es, ← ep) (built_none t size b.pointer can.pointer can.public none)
 
 pub of_some : (t : Tree) (b c : Building) (size pointer state : ℕ) (starts : List ℕ) → CanBegin t b → b.pointer ≡ pointer → HasSize pointer size t → IsPlacedTree t 0 b c state → starts ≡ state ∷ [] → IsAutomatonOf t (record { states = c.states; edges = c.edges.items; starts = starts; size = size; pointer = pointer })
 of_some t b c size pointer state starts can ep sized h es = rw (es, ← ep) (built_some t size b c state can (rw (← ep) at sized) h)

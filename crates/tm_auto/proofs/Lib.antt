@@ -15,3 +15,5 @@ pub mod TimesLemmas
 pub mod MemberLemmas
 pub mod EvenLemmas
 pub mod BuiltLemmas
+pub mod ClassLemmas
+pub mod ClassedLemmas

@@ -109,7 +109,7 @@ with_state_from : (s z : ℕ) (xs : List ℕ) → z < s → RisesFrom z xs → R
 with_state_from s z [] l h = (l, tt)
 with_state_from s z (x ∷ xs) l h = with_state_cases s x xs (λ ys. RisesFrom z ys) (λ k. (l, (k, h.1))) (λ e. h) (λ k. (h.0, with_state_from s x xs k h.1))
 
-with_state_rises : (s : ℕ) (xs : List ℕ) → Rises xs → Rises (with_state s xs)
+pub with_state_rises : (s : ℕ) (xs : List ℕ) → Rises xs → Rises (with_state s xs)
 with_state_rises s [] h = tt
 with_state_rises s (x ∷ xs) h = with_state_cases s x xs (λ ys. Rises ys) (λ k. (k, h)) (λ e. h) (λ k. with_state_from s x xs k h)
 
@@ -118,7 +118,7 @@ with_state-IsStrictlyIncreasing s xs h = rises_increasing (with_state s xs) (wit
 
 -- ---- two sets with the same states are one
 
-above_all : (x : ℕ) (xs : List ℕ) → RisesFrom x xs → (t : ℕ) → Among t xs → x < t
+pub above_all : (x : ℕ) (xs : List ℕ) → RisesFrom x xs → (t : ℕ) → Among t xs → x < t
 above_all x [] h t a = elim a [ ]
 above_all x (y ∷ ys) h t here = h.0
 above_all x (y ∷ ys) h t (there a) = let l = above_all y ys h.1 t a in let k = h.0 in omega arith

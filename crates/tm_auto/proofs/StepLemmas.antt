@@ -20,19 +20,19 @@ pub both_true : (a b : Bool) → (a && b) ≡ true → (a ≡ true) × (b ≡ tr
 both_true true b e = (refl, e)
 both_true false b e = cc
 
-lt_test : (a b : ℕ) → nat_lt a b ≡ true → a < b
+pub lt_test : (a b : ℕ) → nat_lt a b ≡ true → a < b
 lt_test a b e = grind arith
 
 lt_holds : (a b : ℕ) → a < b → nat_lt a b ≡ true
 lt_holds a b h = grind arith
 
-le_test : (a b : ℕ) → nat_le a b ≡ true → a ≤ b
+pub le_test : (a b : ℕ) → nat_le a b ≡ true → a ≤ b
 le_test a b e = grind arith
 
 le_holds : (a b : ℕ) → a ≤ b → nat_le a b ≡ true
 le_holds a b h = grind arith
 
-byte_at : Cell → ℕ
+abbrev pub byte_at : Cell → ℕ
 byte_at (Byte b) = b
 byte_at Uninit = 0
 byte_at (Ptr r k) = 0
@@ -49,7 +49,6 @@ place_at (Ptr r k) = k
 
 -- a label passes what it takes
 pub passes_takes : (A : ℕ → ℕ → Bool) (l : Label) (c : Cell) → (passes A l (symbol_of c) ≡ true) ↔ Takes (holds A) l c
-unfolding byte_at
 passes_takes A (Bytes low high) (Byte b) = (
   λ e. let (p, q) = both_true (nat_le low b) (nat_le b high) e in (b, le_test low b p, le_test b high q, refl),
   λ (y, p, q, e). let z = ap byte_at e in and_from _ _ (le_holds low b (omega arith)) (le_holds b high (omega arith)),

@@ -67,6 +67,7 @@ pub record IsAutomaton (auto : Automaton) : Type 0 where
   pub takes : (e : Edge) → Among e auto.edges → CanTake auto.pointer e.label
   pub joins : (e f : Edge) → Among e auto.edges → Among f auto.edges → e.to ≡ f.from → Joins e.label f.label
   pub begins : (e : Edge) → Among e auto.edges → Among e.from auto.starts → Begins e.label
+  pub small : (0 < auto.pointer) × (auto.pointer ≤ 8)
   pub rising : IsStrictlyIncreasing auto.starts
   pub one : (s t : ℕ) → Among s auto.starts → Among t auto.starts → s ≡ t
   pub below : (s : ℕ) → Among s auto.starts → s < auto.states

@@ -19,6 +19,10 @@
 //! a state that begins a word, and what it reaches is joined. Where a byte of a reference is passed so
 //! is the next one: a refused reference is refused at its first byte.
 //!
+//! `classes` answers the symbols by which two sets are walked together: in the order of cells, each cell
+//! that the source's set can take in exactly one, and each passing the same edges of both sets as any of
+//! its cells. A byte begins a class where a label of either set begins or has ended.
+//!
 //! Crates above prove from `Auto::law`, which promises what holds of every automaton.
 //!
 //! The builder goes from the end of the words to their beginning, in front of one state. A tree's words
@@ -32,10 +36,12 @@
 
 mod auto;
 mod build;
+mod class;
 mod edge;
 mod extent;
 mod set;
 
 pub use auto::Auto;
+pub use class::classes;
 pub use edge::{Edge, Label, Symbol};
 pub use set::StateSet;

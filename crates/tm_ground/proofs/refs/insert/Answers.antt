@@ -7,10 +7,10 @@ use Rattle.tm_ground.proofs.refs.insert.Goals as goal
 pub returns-in-Some : goal.returns-in-Some
 returns-in-Some c = adds-there (put_in []) ref_limit _ _ _ (rw c.as_slice.ensures at c.in-Some.ensures.found)
 
-pub returns-then-len-eq-ref_limit : goal.returns-then-len-eq-ref_limit
-returns-then-len-eq-ref_limit c =
-    overflows-full (put_in []) ref_limit _ _ (rw c.as_slice.ensures at c.in-None.ensures.absent) (sym c.len.ensures ∙ c.if-len-eq-ref_limit.true ∙ c.ref_limit.ensures)
+pub returns-then-len-ref_limit : goal.returns-then-len-ref_limit
+returns-then-len-ref_limit c =
+    overflows-full (put_in []) ref_limit _ _ (rw c.as_slice.ensures at c.in-None.ensures.absent) (sym c.len.ensures ∙ c.if-len-ref_limit.true ∙ c.ref_limit.ensures)
 
 pub returns : goal.returns
 returns c =
-    adds-pushed (put_in []) ref_limit _ _ _ _ c.in-Ok.ensures c.in-Ok-push.ensures.added (rw c.as_slice.ensures at c.in-None.ensures.absent) (λ e. c.if-len-eq-ref_limit.false (c.len.ensures ∙ e ∙ sym c.ref_limit.ensures))
+    adds-pushed (put_in []) ref_limit _ _ _ _ c.in-Ok.ensures c.in-Ok-push.ensures.added (rw c.as_slice.ensures at c.in-None.ensures.absent) (λ e. c.if-len-ref_limit.false (c.len.ensures ∙ e ∙ sym c.ref_limit.ensures))

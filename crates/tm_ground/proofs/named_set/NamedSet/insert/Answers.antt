@@ -8,11 +8,11 @@ use Rattle.tm_ground.proofs.named_set.NamedSet.insert.Goals as goal
 pub returns-in-Some : goal.returns-in-Some
 returns-in-Some c = adds-there type_of_key type_limit _ _ _ (rw c.in-Ok.ensures at c.in-Some.ensures.found)
 
-pub returns-then-len-eq-type_limit : goal.returns-then-len-eq-type_limit
-returns-then-len-eq-type_limit c =
-    overflows-full type_of_key type_limit _ _ (rw c.in-Ok.ensures at c.in-None.ensures.absent) (sym c.len.ensures.len ∙ c.if-len-eq-type_limit.true ∙ c.type_limit.ensures)
+pub returns-then-len-type_limit : goal.returns-then-len-type_limit
+returns-then-len-type_limit c =
+    overflows-full type_of_key type_limit _ _ (rw c.in-Ok.ensures at c.in-None.ensures.absent) (sym c.len.ensures.len ∙ c.if-len-type_limit.true ∙ c.type_limit.ensures)
 
 pub returns : goal.returns
 returns c =
     let grown = c.in-Ok-insert.ensures.keys ∙ key-new c.in-Ok.key c.args.self.now.keys.keys c.in-None.ensures.absent in
-    adds-pushed type_of_key type_limit _ _ _ _ c.in-Ok.ensures grown (rw c.in-Ok.ensures at c.in-None.ensures.absent) (λ e. c.if-len-eq-type_limit.false (c.len.ensures.len ∙ e ∙ sym c.type_limit.ensures))
+    adds-pushed type_of_key type_limit _ _ _ _ c.in-Ok.ensures grown (rw c.in-Ok.ensures at c.in-None.ensures.absent) (λ e. c.if-len-type_limit.false (c.len.ensures.len ∙ e ∙ sym c.type_limit.ensures))
