@@ -74,9 +74,3 @@ pub adds_front : (a b : Option (List ℕ)) (bytes : List ℕ) (n : ℕ) → Appe
 adds_front None b bytes n more = tt
 adds_front (Some told) None bytes n more = absurd more
 adds_front (Some told) (Some now) bytes n more = (take n bytes, drop n bytes, sym (take-append-drop n bytes), ap Some more)
-
--- with nothing added, the prefix is empty
-pub adds_nothing : (a b : Option (List ℕ)) (bytes : List ℕ) → Keeps a b → AddsPrefix a b bytes
-adds_nothing None b bytes same = tt
-adds_nothing (Some told) None bytes same = absurd same
-adds_nothing (Some told) (Some now) bytes same = ([], bytes, refl, ap Some (same ∙ sym (append-nil told)))
