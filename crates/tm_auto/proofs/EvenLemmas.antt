@@ -7,7 +7,7 @@ use Rattle.tm_base.specs.Transmutes.{holds}
 use Rattle.tm_base.specs.Trees.{TreeWord, RowInTurn, RowOneOf, RowTimes}
 use Rattle.tm_auto.specs.Builds.{AreEven, any}
 use Rattle.tm_auto.specs.Loose.{LooseBytes, LooseWord, RowLooseInTurn, RowLooseOneOf, RowLooseTimes}
-use Rattle.tm_base.proofs.ShapeLemmas.{length-pointer_of}
+use Rattle.tm_base.proofs.CellLemmas.{length-pointer_of}
 
 -- some word of P is as long
 abbrev AsLong : (Word → Type 0) → Word → Type 0

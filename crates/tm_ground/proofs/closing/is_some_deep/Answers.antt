@@ -34,4 +34,4 @@ loop-place-preserved c =
 pub returns : goal.returns
 returns c =
     let asked = ap (λ asks. list_any (deep_within c.args.tables.now) (asked_in asks)) (sym c.as_slice.ensures) ∙ sym c.are_asks_deep.ensures ∙ c.if-are_asks_deep.false in
-    shallow-ends c.args.resolved.now c.args.tables.now c.requires.exact _ c.requires.whole c.loop-place.place asked c.loop-place.invariant (omega (arith, c.type_limit.ensures, c.loop-place-test.false, c.requires.whole.few))
+    shallow-ends c.args.resolved.now c.args.tables.now c.requires.exact _ c.requires.whole c.loop-place.place asked c.loop-place.invariant (omega (arith, c.type_limit-place-end.ensures, c.loop-place-test.false, c.requires.whole.few))
