@@ -26,4 +26,4 @@ returns-in-Err-add_fields_named c =
     closing-stops c.args.resolved.now _ _ (named_types c.add_fields_named.new.found) c.in-Err-add_fields_named.stop (λ o. passes (rw c.as_slice-in-loop-place.ensures at o)) c.in-Err-add_fields_named.ensures
 
 pub returns : goal.returns
-returns c = closing-ends c.args.resolved.now c.loop-place.place _ c.loop-place.invariant (omega (arith, c.type_limit.ensures, c.loop-place-test.false, c.loop-place.invariant.few))
+returns c = closing-ends c.args.resolved.now c.loop-place.place _ c.loop-place.invariant (omega (arith, c.type_limit-place-end.ensures, c.loop-place-test.false, c.loop-place.invariant.few))

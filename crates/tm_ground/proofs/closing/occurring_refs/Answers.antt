@@ -27,4 +27,4 @@ returns-in-Err-add_fields_refs c =
     collecting-stops c.args.resolved.now (named_types c.args.found.now) c.requires _ _ (closed_types c.add_fields_refs.new.refs) c.in-Err-add_fields_refs.stop (λ o. passes (rw c.as_slice-in-loop-place.ensures at o)) c.in-Err-add_fields_refs.ensures
 
 pub returns : goal.returns
-returns c = collecting-ends c.args.resolved.now (named_types c.args.found.now) c.requires c.loop-place.place _ c.loop-place.invariant (omega (arith, c.type_limit.ensures, c.loop-place-test.false, c.requires.few))
+returns c = collecting-ends c.args.resolved.now (named_types c.args.found.now) c.requires c.loop-place.place _ c.loop-place.invariant (omega (arith, c.type_limit-place-end.ensures, c.loop-place-test.false, c.requires.few))
