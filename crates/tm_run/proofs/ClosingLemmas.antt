@@ -40,6 +40,7 @@ module _ (resolved : Resolved) where
   by_kind P types refs depth limit.Questions h = absurd h
   by_kind P types refs depth limit.Lifetimes h = absurd h
   by_kind P types refs depth limit.Parameters h = absurd h
+  by_kind P types refs depth limit.TypeParameters h = absurd h
   by_kind P types refs depth limit.Fields h = absurd h
   by_kind P types refs depth limit.Variants h = absurd h
   by_kind P types refs depth limit.Nesting h = absurd h
@@ -47,8 +48,12 @@ module _ (resolved : Resolved) where
   by_kind P types refs depth limit.ArrayLength h = absurd h
   by_kind P types refs depth limit.NameBytes h = absurd h
   by_kind P types refs depth limit.NamedTypes h = types h
+  by_kind P types refs depth limit.ClosedNodes h = absurd h
   by_kind P types refs depth limit.References h = refs h
   by_kind P types refs depth limit.Depth h = depth h
+  by_kind P types refs depth limit.RefutationCells h = absurd h
+  by_kind P types refs depth limit.TextBytes h = absurd h
+  by_kind P types refs depth limit.MatrixTypes h = absurd h
 
   -- a file has one first limit, and none where it is within the limits
   one_limit : (kind other : LimitKind) → IsFirstLimit resolved kind → IsFirstLimit resolved other → other ≡ kind
