@@ -1,5 +1,5 @@
 -- The least sets below a number, while they are found one after the other.
-use Rattle.std.proofs.Common.{◌≡◌, ℕ, ◌+◌, ◌<◌, ◌≤◌, ◌⊎◌, inl, inr, sym, subst, List, [], ◌∷◌, ◌++◌, arith}
+use Rattle.std.proofs.Common.{◌≡◌, ℕ, ◌+◌, ◌<◌, ◌≤◌, ◌⊎◌, inl, inr, sym, subst, Bool, true, false, if◌then◌else◌, List, [], ◌∷◌, ◌++◌, arith}
 use Rattle.std.specs.Prelude.{AllPairs, Contains}
 use Rattle.std.proofs.lemmas.Bool.{cases_lt}
 use Rattle.std.proofs.lemmas.List.Elements.{Contains-append_left, Contains-append_right, Contains-append_cases}
@@ -10,7 +10,7 @@ use Rattle.tm_base.specs.Asked.{HoldsOf}
 use Rattle.tm_base.specs.Assumptions.{Includes}
 use Rattle.tm_base.specs.Tables.{Tables}
 use Rattle.tm_base.proofs.JudgedLemmas.{Contains-none, Contains-one}
-use Rattle.tm_needs.specs.Least.{AreLeast, HoldsUnder, IncludesSome, IsLeast, LeastAreUnique}
+use Rattle.tm_needs.specs.Least.{AreLeast, HoldsUnder, IncludesSome, IsLeast, IsNew, LeastAreUnique}
 use Rattle.tm_needs.specs.Numbers.{number_of}
 use Rattle.tm_needs.proofs.NumberLemmas.{number-small, number-tells, subset-whole}
 use Rattle.tm_needs.proofs.RisingLemmas.{AllPairs-more, Contains-here, rising-unique}
@@ -98,6 +98,14 @@ module _ (tables : Tables) (src dst : Ground) where
     pub holds-there : HoldsUnder tables src dst ask.assume → HoldsOf now ask
     holds-there h =
         subst (λ x. HoldsUnder now x ask.dst ask.assume) (sym source) (subst (λ y. HoldsUnder now src y ask.assume) (sym target) (subst (λ t. HoldsUnder t src dst ask.assume) (sym world) h))
+
+  -- the next set joins those found, where it is new
+  pub Found-next : (n : ℕ) (sets : List Assume) (now : Tables) (ask : Ask) → now ≡ tables → ask.src ≡ src → ask.dst ≡ dst → Found n sets → number_of ask.assume ≡ n
+      → (new : Bool) → IsNew now ask sets new → Found (n + 1) (if new then sets ++ ask.assume ∷ [] else sets)
+  Found-next n sets now ask world source target found numbered true (holds, apart) =
+      Found-added n sets ask.assume found numbered apart (holds-here now ask world source target holds)
+  Found-next n sets now ask world source target found numbered false covered =
+      Found-kept n sets ask.assume found numbered (λ h. covered (holds-there now ask world source target h))
 
   pub Found-all : (sets : List Assume) → Found 16 sets → AreLeast tables src dst sets
   Found-all sets found = record { exact = λ a. (found.least a, all a); rising = found.rising } where

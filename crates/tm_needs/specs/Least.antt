@@ -1,6 +1,7 @@
 -- The least sets of assumptions that a cast between two types needs: the flags are those of the
 -- documentation of `core::mem::Assume`, what is least is this project's.
-use Rattle.std.specs.Prelude.{◌≡◌, ◌<◌, ◌↔◌, List, AllPairs, Contains}
+use Rattle.std.specs.Prelude.{◌≡◌, ◌<◌, ◌↔◌, Bool, true, false, List, AllPairs, Contains}
+use Rattle.tm_base.specs.declared.ask.Ask.{Ask}
 use Rattle.tm_base.specs.declared.assume.Assume.{Assume}
 use Rattle.tm_base.specs.declared.ground.Ground.{Ground}
 use Rattle.tm_base.specs.Asked.{HoldsOf}
@@ -11,6 +12,11 @@ use Rattle.tm_needs.specs.Numbers.{number_of}
 -- the set has each flag of one of some sets
 abbrev pub IncludesSome : Assume → List Assume → Type 0
 IncludesSome a sets = (b : Assume) × Contains sets b × Includes a b
+
+-- the answer is yes, and the set that is assumed includes none of some sets
+abbrev pub IsNew : Tables → Ask → List Assume → Bool → Type 0
+IsNew tables ask sets true = HoldsOf tables ask × ¬ IncludesSome ask.assume sets
+IsNew tables ask sets false = HoldsOf tables ask → IncludesSome ask.assume sets
 
 module _ (tables : Tables) (src dst : Ground) where
   -- the answer is yes where so much is assumed
