@@ -1,0 +1,3 @@
+pub mod Parts
+pub mod Fit
+pub mod Law
