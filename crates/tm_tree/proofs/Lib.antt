@@ -1,3 +1,5 @@
 pub mod PlainLemmas
 pub mod PlaceLemmas
 pub mod PartLemmas
+pub mod LeafLemmas
+pub mod SingleLemmas
