@@ -3,3 +3,4 @@ pub mod PlaceLemmas
 pub mod PartLemmas
 pub mod LeafLemmas
 pub mod SingleLemmas
+pub mod PruneLemmas

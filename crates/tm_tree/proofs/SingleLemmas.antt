@@ -93,7 +93,7 @@ either-single true ts ss h k = h
 either-single false ts ss h k = k
 
 -- ways of which there is one at most are no alternative
-one_way : (ways : List Tree) → length ways ≤ 1 → NoneAlternative ways → HasNoAlternatives (one_of ways)
+pub one_way : (ways : List Tree) → length ways ≤ 1 → NoneAlternative ways → HasNoAlternatives (one_of ways)
 one_way [] n h = one_of-none
 one_way (t ∷ []) n h = one_of-single t h.0
 one_way (t ∷ s ∷ ways) n h = absurd (omega arith)

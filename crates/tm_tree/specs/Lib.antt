@@ -1,3 +1,3 @@
 pub mod Parts
 pub mod Fit
-pub mod Law
+pub mod Pruned

@@ -1,14 +1,8 @@
-//! The trees of types: which words each has.
+//! The trees of types, which say what words each type has, and the trees without what only a holder of private
+//! fields may make.
 #![tactic(auto)]
 
-ghost use Rattle.tm_tree.specs.Law.{AlternativesAreKept, WordsAreSaid};
+mod pruning;
+mod rows;
 
-/// A type's tree says its valid words.
-pub fn words_are_said()
-    ensures { WordsAreSaid }
-{}
-
-/// A type's tree has no alternatives where the type has none.
-pub fn alternatives_are_kept()
-    ensures { AlternativesAreKept }
-{}
+pub use pruning::prune;
