@@ -1,3 +1,4 @@
 pub mod Parts
 pub mod Fit
+pub mod Built
 pub mod Pruned

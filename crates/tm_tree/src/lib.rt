@@ -2,7 +2,10 @@
 //! fields may make.
 #![tactic(auto)]
 
+mod building;
+mod pieces;
 mod pruning;
 mod rows;
 
+pub use building::tree_of;
 pub use pruning::prune;
