@@ -1,5 +1,5 @@
 -- The tree of a type has no more leaves than some times its weight.
-use Rattle.std.proofs.Common.{◌≡◌, ℕ, zero, suc, ◌+◌, ◌-◌, ◌*◌, ◌==◌, ◌<◌, ◌≤◌, refl, sym, ap, subst, ◌∙◌, max, Bool, true, false, if◌then◌else◌, Option, None, Some, List, [], ◌∷◌, ◌++◌, length, arith}
+use Rattle.std.proofs.Common.{◌≡◌, ℕ, zero, suc, ◌+◌, ◌-◌, ◌*◌, ◌==◌, ◌≤◌, refl, ap, ◌∙◌, max, Bool, true, false, if◌then◌else◌, Option, None, List, [], ◌∷◌, ◌++◌, arith}
 use Rattle.std.proofs.Math.Nat.{mul-le-mul_right, add-mul}
 use Rattle.tm_base.specs.declared.definition.Kind.TheVariants.{Struct, Union, Enum}
 use Rattle.tm_base.specs.declared.definition.Repr.{Repr}
@@ -18,14 +18,14 @@ use Rattle.tm_base.specs.Profiles.{pointer_size}
 use Rattle.tm_base.specs.Shapes.{leaves_of, all_leaves}
 use Rattle.tm_base.specs.Valid.{all_public}
 use Rattle.tm_base.specs.Weight.{field_weights, sum_from, variant_weights, variants_sum_from, weight_of, wrapper_weight}
-use Rattle.tm_niche.specs.Forms.{char_form, is_never, joined, nonzero_form, null_form, one_of, repeated, tag_form}
+use Rattle.tm_niche.specs.Forms.{is_never, joined, nonzero_form, null_form, one_of, repeated, tag_form}
 use Rattle.tm_niche.proofs.CharLemmas.{char-leaves}
 use Rattle.tm_niche.proofs.FormLemmas.{all_leaves-append, joined-leaves, one_of-leaves, one-Pad, one-Range, repeated-leaves}
 use Rattle.tm_niche.proofs.NonzeroLemmas.{nonzero-leaves-all, null-leaves}
 use Rattle.tm_niche.proofs.TagLemmas.{tag-leaves}
 use Rattle.tm_niche.proofs.WordLemmas.{one-is}
 use Rattle.tm_tree.specs.Fit.{IsFit, AreFit, AreVariantsFit}
-use Rattle.tm_tree.specs.Parts.{bare_parts, field_parts, guarded, hidden, pads, parts_of, prim_parts, struct_parts, tree_for, turns_of, union_parts, union_ways, variant_ways, wrap_parts}
+use Rattle.tm_tree.specs.Parts.{bare_parts, field_parts, guarded, hidden, pads, parts_of, prim_parts, struct_parts, tree_for, union_parts, union_ways, variant_ways, wrap_parts}
 use Rattle.tm_tree.proofs.PlaceLemmas.{place-above, end-above, struct-end, tag-below, variants-end, VariantsEnd}
 
 -- how deep a type holds others by value
@@ -262,7 +262,7 @@ module _ (profile : Profile) where
         let within = end-above packed (place_at packed at (layout_of t) + size_of t) (field_layouts rest) in
         let all = all_leaves-append pointer (pads (place_at packed at (layout_of t) - at)) (parts_of t ++ field_parts packed end (place_at packed at (layout_of t) + size_of t) rest) in
         let behind = both-leaves (parts_of t) (field_parts packed end (place_at packed at (layout_of t) + size_of t) rest) (weight_of t) (sum_from 0 (field_weights rest)) (end - (place_at packed at (layout_of t) + size_of t))
-            (sum_from 0 (field_weights (field public t rest))) m (parts-leaves m t (omega arith) fit) (fields-leaves m packed end (place_at packed at (layout_of t) + size_of t) rest (omega arith) ends more) refl in
+        (sum_from 0 (field_weights (field public t rest))) m (parts-leaves m t (omega arith) fit) (fields-leaves m packed end (place_at packed at (layout_of t) + size_of t) rest (omega arith) ends more) refl in
         omega arith
 
     union-leaves : (m : ℕ) (variants : Variants) (size : ℕ) → 16 + variants_height variants ≤ m → AreVariantsFit profile variants → all_leaves pointer (union_parts size variants) ≤ sum_from (max 1 size) (only (variant_weights variants)) * suc m

@@ -4,3 +4,4 @@ pub mod PartLemmas
 pub mod LeafLemmas
 pub mod SingleLemmas
 pub mod PruneLemmas
+pub mod FitLemmas

@@ -1,12 +1,11 @@
 -- The words of a type's tree are its valid words.
-use Rattle.std.proofs.Common.{◌≡◌, ℕ, zero, suc, ◌+◌, ◌-◌, ◌*◌, ◌<◌, ◌≤◌, ◌^◌, refl, sym, ap, subst, ◌∙◌, Bool, true, false, ◌||◌, if◌then◌else◌, IsTrue, Option, None, Some, List, [], ◌∷◌, ◌++◌, length, ◌⊎◌, inl, inr, ⊎_elim, ◌↔◌, arith, All, append-nil, append_assoc, length-append}
+use Rattle.std.proofs.Common.{◌≡◌, ℕ, ◌+◌, ◌-◌, ◌<◌, ◌≤◌, ◌^◌, refl, sym, ap, subst, ◌∙◌, Bool, true, false, ◌||◌, if◌then◌else◌, IsTrue, Option, None, List, [], ◌∷◌, ◌++◌, length, inl, inr, ⊎_elim, ◌↔◌, arith, All, length-append}
 use Rattle.std.proofs.lemmas.List.Elements.{All-nil}
 use Rattle.tm_base.specs.declared.definition.Kind.TheVariants.{Struct, Union, Enum}
 use Rattle.tm_base.specs.declared.definition.Repr.{Repr}
-use Rattle.tm_base.specs.declared.ground.NamedId.{NamedId}
 use Rattle.tm_base.specs.declared.ground.Primitive.{Primitive}
 use Rattle.tm_base.specs.declared.profile.Profile.{Profile}
-use Rattle.tm_base.specs.declared.tree.Tree.{Tree, Never, Ref}
+use Rattle.tm_base.specs.declared.tree.Tree.{Tree, Ref}
 use Rattle.tm_base.specs.Cells.{Word, IsFree, pointer_of}
 use Rattle.tm_base.specs.Expanded.{Expanded, Fields, Variants, too_deep, prim, never, unit, tuple, array, nonzero, phantom, wrap, ref, named, no_fields, field, no_variants, variant}
 use Rattle.tm_base.specs.Faults.{sized_count}
@@ -14,7 +13,7 @@ use Rattle.tm_base.specs.Layout.{end_of, field_layouts, greatest_size, layout_of
 use Rattle.tm_base.specs.Places.{fields_place, first_place}
 use Rattle.tm_base.specs.Profiles.{pointer_size}
 use Rattle.tm_base.specs.Trees.{TreeWord, InTurn, OneOf}
-use Rattle.tm_base.specs.Valid.{Valid, StructValid, UnionValid, FieldsValid, SomeFieldValid, SomeVariantValid, AreFree, IsTag, all_public}
+use Rattle.tm_base.specs.Valid.{Valid, StructValid, UnionValid, FieldsValid, SomeFieldValid, SomeVariantValid, IsTag, all_public}
 use Rattle.tm_base.proofs.ValidLemmas.{Valid-length}
 use Rattle.tm_niche.specs.Forms.{joined, magnitude, one_of, tag_form}
 use Rattle.tm_niche.proofs.NonzeroLemmas.{nonzero-words}
@@ -98,8 +97,13 @@ module _ (profile : Profile) (A : ℕ → ℕ → Type 0) (keep : Bool) where
     back (ends, (gap, here, left, whole, at_place, free, valid, behind)) =
         let size = Valid-length A keep t here valid in
         let total : length w ≡ length gap + (length here + length left) = ap length whole ∙ length-append gap (here ++ left) ∙ ap (λ (n : ℕ). length gap + n) (length-append here left) in
-        outer.1 (gap, here ++ left, whole, (pads-words pointer A keep (place_at packed at (layout_of t) - at) gap).1 (omega arith, free),
-          (InTurn-append pointer A keep ts ss (here ++ left)).1 (here, left, refl, (first here).1 valid, (others left).1 (omega arith, behind)))
+        outer.1 (
+          gap,
+          here ++ left,
+          whole,
+          (pads-words pointer A keep (place_at packed at (layout_of t) - at) gap).1 (omega arith, free),
+          (InTurn-append pointer A keep ts ss (here ++ left)).1 (here, left, refl, (first here).1 valid, (others left).1 (omega arith, behind)),
+        )
 
   -- where no field leaves a gap, fields in their places are fields one behind the other
   bare-fields : (packed : Option ℕ) (at end : ℕ) (members : Fields) → NoGap packed at (field_layouts members) → end_of packed at (field_layouts members) ≡ end
@@ -149,7 +153,7 @@ module _ (profile : Profile) (A : ℕ → ℕ → Type 0) (keep : Bool) where
       → SaysFields None (first + (size - begin)) first members ts → (w : Word)
       → TreeWord pointer A keep (joined (tag_form own (tag_layout own tag).size value ∷ (pads (begin - (tag_layout own tag).size) ++ ts))) w
       ↔ ((length w ≡ size) × ((front : Word) × (gap : Word) × (others : Word) × (w ≡ front ++ (gap ++ others)) × IsTag own (tag_layout own tag).size value front
-        × (length front + length gap ≡ begin) × All IsFree gap × FieldsValid A keep None first members others))
+      × (length front + length gap ≡ begin) × All IsFree gap × FieldsValid A keep None first members others))
   variant-one own tag begin first size value members ts small below inside says w =
       let all = joined-words pointer A keep (tag_form own (tag_layout own tag).size value ∷ (pads (begin - (tag_layout own tag).size) ++ ts)) w in (
         λ h.
@@ -165,9 +169,14 @@ module _ (profile : Profile) (A : ℕ → ℕ → Type 0) (keep : Bool) where
         λ (sized, (front, gap, others, whole, is_tag, at, free, valid)).
             let long = is_tag.0.0 in
             let total : length w ≡ length front + (length gap + length others) = ap length whole ∙ length-append front (gap ++ others) ∙ ap (λ (n : ℕ). length front + n) (length-append gap others) in
-            all.1 (front, gap ++ others, whole, (tag-words pointer A keep own (tag_layout own tag).size value front small).1 is_tag,
+            all.1 (
+              front,
+              gap ++ others,
+              whole,
+              (tag-words pointer A keep own (tag_layout own tag).size value front small).1 is_tag,
               (InTurn-append pointer A keep (pads (begin - (tag_layout own tag).size)) ts (gap ++ others)).1
-              (gap, others, refl, (pads-words pointer A keep (begin - (tag_layout own tag).size) gap).1 (omega arith, free), (says others).1 (omega arith, valid))),
+                  (gap, others, refl, (pads-words pointer A keep (begin - (tag_layout own tag).size) gap).1 (omega arith, free), (says others).1 (omega arith, valid)),
+            ),
       )
 
   struct-one : (size : ℕ) (repr : Repr) (members : Fields) (ts : List Tree) → ((w : Word) → InTurn pointer A keep ts w ↔ ((0 + length w ≡ size) × FieldsValid A keep repr.packed 0 members w))
@@ -267,7 +276,7 @@ module _ (profile : Profile) (A : ℕ → ℕ → Type 0) (keep : Bool) where
     ways-words own tag begin first size no_variants below ends holds fit w = (λ h. absurd h, λ (long, h). absurd h)
     ways-words own tag begin first size (variant value members rest) below (inside, end, ends) (small, holds) (fit, more) w =
         let here = variant-one own tag begin first size value members (field_parts None (first + (size - begin)) first members) small below inside
-            (λ u. fields-words None (first + (size - begin)) first members end fit u) w in
+        (λ u. fields-words None (first + (size - begin)) first members end fit u) w in
         let others = ways-words own tag begin first size rest below ends holds more w in (
           ⊎_elim (λ p. let (long, valid) = here.0 p in (long, inl valid)) (λ q. let (long, valid) = others.0 q in (long, inr valid)),
           λ (long, h). ⊎_elim (λ valid. inl (here.1 (long, valid))) (λ valid. inr (others.1 (long, valid))) h,

@@ -1,14 +1,13 @@
 -- Fields end inside the type that they are in.
-use Rattle.std.proofs.Common.{◌≡◌, ℕ, zero, suc, ◌+◌, ◌-◌, ◌*◌, ◌%◌, ◌<◌, ◌≤◌, refl, sym, ap, subst, ◌∙◌, max, min, Bool, true, false, if◌then◌else◌, Option, None, Some, List, [], ◌∷◌, ◌++◌, arith}
+use Rattle.std.proofs.Common.{◌≡◌, ℕ, zero, suc, ◌+◌, ◌-◌, ◌≤◌, refl, sym, ap, subst, ◌∙◌, Bool, true, false, if◌then◌else◌, Option, None, Some, List, [], ◌∷◌, arith}
 use Rattle.std.proofs.lemmas.Bool.Decides.{nat_tests}
 use Rattle.tm_base.specs.declared.definition.Kind.TheVariants.{Struct, Union, Enum}
 use Rattle.tm_base.specs.declared.definition.Repr.{Repr}
 use Rattle.tm_base.specs.declared.ground.NamedId.{NamedId}
-use Rattle.tm_base.specs.declared.ground.Primitive.{Primitive}
 use Rattle.tm_base.specs.declared.profile.Profile.{Profile}
-use Rattle.tm_base.specs.Expanded.{Expanded, Fields, Variants, named, no_fields, field, no_variants, variant}
+use Rattle.tm_base.specs.Expanded.{Variants, named}
 use Rattle.tm_base.specs.Faults.{sized_count}
-use Rattle.tm_base.specs.Layout.{Layout, end_of, greatest_align, greatest_size, is_trivial, layout_of, lowered, only, place_at, round_up, size_of, struct_layout, structs, tag_layout, transparent_layout, union_layout, variant_layouts, field_layouts}
+use Rattle.tm_base.specs.Layout.{Layout, end_of, greatest_align, greatest_size, is_trivial, layout_of, lowered, only, place_at, round_up, size_of, struct_layout, structs, tag_layout, transparent_layout, union_layout, variant_layouts}
 use Rattle.tm_base.specs.Places.{fields_place, first_place}
 use Rattle.tm_base.proofs.LayoutLemmas.{first-front, round_up-exact, round_up-zero, tagged-end}
 
@@ -83,7 +82,7 @@ trivial-step packed at l ls false e rest h = absurd (omega arith)
 
 all-trivial : (packed : Option ℕ) (at : ℕ) (ls : List Layout) → sized_count ls ≡ 0 → AreBare packed at 0 ls
 unfolding NoGap
-all-trivial packed at [] h = record { gapless = tt; sizes = omega arith; }
+all-trivial packed at [] h = record { gapless = tt; sizes = omega arith }
 all-trivial packed at (l ∷ ls) h = trivial-step packed at l ls (is_trivial l) refl (all-trivial packed at ls) h
 
 bare-step : (packed : Option ℕ) (l : Layout) (ls : List Layout) (b : Bool) → is_trivial l ≡ b → (sized_count ls ≤ 1 → AreBare packed 0 (transparent_layout ls).size ls)
@@ -110,7 +109,7 @@ bare-step packed l ls false e rest h =
 
 bare : (packed : Option ℕ) (ls : List Layout) → sized_count ls ≤ 1 → AreBare packed 0 (transparent_layout ls).size ls
 unfolding NoGap
-bare packed [] h = record { gapless = tt; sizes = refl; }
+bare packed [] h = record { gapless = tt; sizes = refl }
 bare packed (l ∷ ls) h = bare-step packed l ls (is_trivial l) refl (bare packed ls) h
 
 pub bare-gapless : (packed : Option ℕ) (ls : List Layout) → sized_count ls ≤ 1 → NoGap packed 0 ls
@@ -160,7 +159,7 @@ module _ (profile : Profile) (id : NamedId) (repr : Repr) (variants : Variants) 
   by_repr true e =
       let front : place_at None 0 tag ≡ 0 = first-front tag in
       let begin : place_at None (place_at None 0 tag + tag.size) inner ≡ round_up tag.size (greatest_align None (structs [] (variant_layouts variants))) =
-          ap (λ (n : ℕ). round_up n (greatest_align None (structs [] (variant_layouts variants)))) (ap (λ (n : ℕ). n + tag.size) front ∙ omega arith) in
+      ap (λ (n : ℕ). round_up n (greatest_align None (structs [] (variant_layouts variants)))) (ap (λ (n : ℕ). n + tag.size) front ∙ omega arith) in
       let outer = round_up-above (place_at None (place_at None 0 tag + tag.size) inner + inner.size) (greatest_align None (tag ∷ inner ∷ [])) in
       let within = round_up-above (greatest_size (structs [] (variant_layouts variants))) inner.align in
       rw e (union-variants (round_up tag.size (greatest_align None (structs [] (variant_layouts variants)))) (struct_layout None None (tag ∷ inner ∷ [])).size (variant_layouts variants) (omega arith))

@@ -1,7 +1,6 @@
 -- The words of the trees of types that hold no others.
-use Rattle.std.proofs.Common.{◌≡◌, ℕ, zero, suc, ◌+◌, ◌*◌, ◌==◌, ◌<◌, ◌≤◌, refl, sym, ap, subst, ◌∙◌, Bool, true, false, ◌||◌, if◌then◌else◌, IsTrue, List, [], ◌∷◌, ◌++◌, length, ◌⊎◌, inl, inr, ⊎_elim, ◌↔◌, arith, All, append-nil}
+use Rattle.std.proofs.Common.{◌≡◌, ℕ, ◌==◌, ◌<◌, ◌≤◌, refl, sym, ap, subst, ◌∙◌, Bool, true, false, ◌||◌, if◌then◌else◌, IsTrue, List, [], ◌∷◌, ◌++◌, length, inl, inr, ⊎_elim, ◌↔◌, arith, All, append-nil}
 use Rattle.std.proofs.lemmas.List.Elements.{All-cons, All-head, All-nil}
-use Rattle.tm_base.specs.declared.cell.Cell.{Cell}
 use Rattle.tm_base.specs.declared.cell.Cell.TheVariants.{Byte}
 use Rattle.tm_base.specs.declared.ground.Primitive.{Primitive}
 use Rattle.tm_base.specs.declared.ground.Primitive.TheVariants as primitive
@@ -13,7 +12,7 @@ use Rattle.tm_base.specs.declared.tree.Tree.{Tree, Never, Range, Private}
 use Rattle.tm_base.specs.Cells.{Word, IsByte, Times}
 use Rattle.tm_base.specs.Profiles.{number_of, pointer_size}
 use Rattle.tm_base.specs.Trees.{TreeWord, InTurn}
-use Rattle.tm_base.specs.Valid.{AreBytes, PrimValid, WrapValid}
+use Rattle.tm_base.specs.Valid.{PrimValid, WrapValid}
 use Rattle.tm_base.proofs.TreeLemmas.{TreeWord-Private}
 use Rattle.tm_base.proofs.ValidLemmas.{Times-grows}
 use Rattle.tm_niche.specs.Forms.{is_never, joined, repeated}

@@ -1,11 +1,11 @@
 -- What a pruned tree is, and its words, leaves, private parts and alternatives.
-use Rattle.std.proofs.Common.{◌≡◌, ℕ, zero, suc, ◌+◌, ◌*◌, ◌≤◌, refl, sym, ap, subst, ◌∙◌, Bool, true, false, if◌then◌else◌, IsTrue, List, [], ◌∷◌, ◌++◌, length, ◌↔◌, inl, inr, ⊎_elim, arith}
+use Rattle.std.proofs.Common.{◌≡◌, ℕ, ◌+◌, ◌*◌, ◌≤◌, refl, ap, ◌∙◌, Bool, true, false, if◌then◌else◌, IsTrue, List, [], ◌∷◌, ◌++◌, length, ◌↔◌, inl, inr, ⊎_elim, arith}
 use Rattle.std.proofs.Math.Nat.{mul-le-mul_right}
 use Rattle.tm_base.specs.declared.tree.Tree.{Tree, Row_of-Tree, end_of-Tree, more_of-Tree, items-the_row-Tree, items_hidden-the_row-Tree-0, Never, Range, Pad, Ref, Seq, Alt, Repeat, Private, Seq', Alt', Repeat', Private'}
 use Rattle.tm_base.specs.declared.tree.Tree.TheBlock.{hidden-the_row-Tree-0, shape-the_row-Tree-1, hidden-the_row-Tree-1}
-use Rattle.tm_base.specs.Cells.{Word, Times}
+use Rattle.tm_base.specs.Cells.{Word}
 use Rattle.tm_base.specs.Shapes.{leaves_of, row_leaves, all_leaves, row_length, HasNoPrivate, NonePrivate, HasNoAlternatives, RowHasNoAlternatives, NoneAlternative}
-use Rattle.tm_base.specs.Trees.{TreeWord, RowInTurn, RowOneOf, RowTimes, InTurn, OneOf}
+use Rattle.tm_base.specs.Trees.{TreeWord, RowInTurn, RowOneOf, InTurn, OneOf}
 use Rattle.tm_base.proofs.ValidLemmas.{Times-grows}
 use Rattle.tm_niche.specs.Forms.{joined, one_of, repeated}
 use Rattle.tm_niche.proofs.FormLemmas.{joined-leaves, joined-private, joined-single, one_of-leaves, one_of-private, repeated-leaves, repeated-private, repeated-single}

@@ -1,5 +1,5 @@
 -- The tree of a type without alternatives has none.
-use Rattle.std.proofs.Common.{◌≡◌, ℕ, zero, suc, ◌+◌, ◌-◌, ◌==◌, ◌≤◌, refl, sym, ap, subst, ◌∙◌, nat_le, Bool, true, false, ◌||◌, if◌then◌else◌, Option, None, List, [], ◌∷◌, ◌++◌, length, arith}
+use Rattle.std.proofs.Common.{◌≡◌, ℕ, ◌+◌, ◌-◌, ◌==◌, ◌≤◌, refl, nat_le, Bool, true, false, ◌||◌, if◌then◌else◌, Option, None, List, [], ◌∷◌, ◌++◌, length, arith}
 use Rattle.std.proofs.lemmas.Bool.Decides.{nat_tests}
 use Rattle.tm_base.specs.declared.definition.Kind.TheVariants.{Struct, Union, Enum}
 use Rattle.tm_base.specs.declared.definition.Repr.{Repr}
@@ -8,10 +8,10 @@ use Rattle.tm_base.specs.declared.ground.Primitive.TheVariants as primitive
 use Rattle.tm_base.specs.declared.ground.Wrapper.{Wrapper}
 use Rattle.tm_base.specs.declared.ground.Wrapper.TheVariants as wrapper
 use Rattle.tm_base.specs.declared.profile.Profile.{Profile}
-use Rattle.tm_base.specs.declared.tree.Tree.{Tree, Never, Range, Pad, Ref, Private}
+use Rattle.tm_base.specs.declared.tree.Tree.{Tree, Range, Pad, Ref, Private}
 use Rattle.tm_base.specs.declared.tree.Tree.TheBlock.{shape-the_row-Tree-1, hidden-the_row-Tree-1}
 use Rattle.tm_base.specs.Expanded.{Expanded, Fields, Variants, too_deep, prim, never, unit, tuple, array, nonzero, phantom, wrap, ref, named, no_fields, field, no_variants, variant}
-use Rattle.tm_base.specs.Layout.{layout_of, place_at, prim_size, size_of, tag_layout}
+use Rattle.tm_base.specs.Layout.{layout_of, place_at, size_of, tag_layout}
 use Rattle.tm_base.specs.Parts.{field_count, has_alternatives, is_char, is_maybe_uninit, is_option, some_part, some_field, some_variant, some_within, total_fields, variant_count}
 use Rattle.tm_base.specs.Places.{fields_place, first_place}
 use Rattle.tm_base.specs.Profiles.{pointer_size}
@@ -133,9 +133,11 @@ mutual
   parts-single (named own id Enum repr variants) h =
       let end = first_place own repr + (size_of (named own id Enum repr variants) - fields_place own repr variants) in
       let several = few (variant_count variants) (first_none (nat_le 2 (variant_count variants)) (some_variant has_alternatives variants) h) in
-      let count = variant-count own repr.tag (fields_place own repr variants) (first_place own repr) end variants in
-      (one_way (variant_ways own repr.tag (fields_place own repr variants) (first_place own repr) end variants) (omega arith)
-        (ways-single own repr.tag (fields_place own repr variants) (first_place own repr) end variants (second_none (nat_le 2 (variant_count variants)) (some_variant has_alternatives variants) h)), tt)
+      let count = variant-count own repr.tag (fields_place own repr variants) (first_place own repr) end variants in (
+        one_way (variant_ways own repr.tag (fields_place own repr variants) (first_place own repr) end variants) (omega arith)
+            (ways-single own repr.tag (fields_place own repr variants) (first_place own repr) end variants (second_none (nat_le 2 (variant_count variants)) (some_variant has_alternatives variants) h)),
+        tt,
+      )
 
   struct-single : (repr : Repr) (size : ℕ) (variants : Variants) → some_variant has_alternatives variants ≡ false → NoneAlternative (struct_parts repr size variants)
   struct-single repr size no_variants h = (single-Never, tt)
@@ -154,8 +156,8 @@ mutual
   fields-single packed end at (field public t rest) h =
       NoneAlternative-append (pads (place_at packed at (layout_of t) - at)) (parts_of t ++ field_parts packed end (place_at packed at (layout_of t) + size_of t) rest) (single-pads (place_at packed at (layout_of t) - at))
       (NoneAlternative-append (parts_of t) (field_parts packed end (place_at packed at (layout_of t) + size_of t) rest)
-        (parts-single t (first_none (some_within has_alternatives t) (some_field has_alternatives rest) h))
-        (fields-single packed end (place_at packed at (layout_of t) + size_of t) rest (second_none (some_within has_alternatives t) (some_field has_alternatives rest) h)))
+      (parts-single t (first_none (some_within has_alternatives t) (some_field has_alternatives rest) h))
+      (fields-single packed end (place_at packed at (layout_of t) + size_of t) rest (second_none (some_within has_alternatives t) (some_field has_alternatives rest) h)))
 
   union-single : (size : ℕ) (variants : Variants) → total_fields variants ≤ 1 → some_variant has_alternatives variants ≡ false → NoneAlternative (union_parts size variants)
   union-single size no_variants n h = (single-Never, tt)
@@ -166,18 +168,21 @@ mutual
 
   union-each : (size : ℕ) (members : Fields) → some_field has_alternatives members ≡ false → NoneAlternative (union_ways size members)
   union-each size no_fields h = tt
-  union-each size (field public t rest) h =
-      (joined-single (parts_of t ++ pads (size - size_of t)) (NoneAlternative-append (parts_of t) (pads (size - size_of t)) (parts-single t (first_none (some_within has_alternatives t) (some_field has_alternatives rest) h)) (single-pads (size - size_of t))),
-        union-each size rest (second_none (some_within has_alternatives t) (some_field has_alternatives rest) h))
+  union-each size (field public t rest) h = (
+    joined-single (parts_of t ++ pads (size - size_of t)) (NoneAlternative-append (parts_of t) (pads (size - size_of t)) (parts-single t (first_none (some_within has_alternatives t) (some_field has_alternatives rest) h)) (single-pads (size - size_of t))),
+    union-each size rest (second_none (some_within has_alternatives t) (some_field has_alternatives rest) h),
+  )
 
   ways-single : (own : Profile) (tag : Option Primitive) (begin first end : ℕ) (variants : Variants) → some_variant has_alternatives variants ≡ false → NoneAlternative (variant_ways own tag begin first end variants)
   ways-single own tag begin first end no_variants h = tt
-  ways-single own tag begin first end (variant value members rest) h =
-      (joined-single (tag_form own (tag_layout own tag).size value ∷ (pads (begin - (tag_layout own tag).size) ++ field_parts None end first members))
-        (tag-single own (tag_layout own tag).size value,
-          NoneAlternative-append (pads (begin - (tag_layout own tag).size)) (field_parts None end first members) (single-pads (begin - (tag_layout own tag).size))
-          (fields-single None end first members (first_none (some_field has_alternatives members) (some_variant has_alternatives rest) h))),
-        ways-single own tag begin first end rest (second_none (some_field has_alternatives members) (some_variant has_alternatives rest) h))
+  ways-single own tag begin first end (variant value members rest) h = (
+    joined-single (tag_form own (tag_layout own tag).size value ∷ (pads (begin - (tag_layout own tag).size) ++ field_parts None end first members)) (
+      tag-single own (tag_layout own tag).size value,
+      NoneAlternative-append (pads (begin - (tag_layout own tag).size)) (field_parts None end first members) (single-pads (begin - (tag_layout own tag).size))
+          (fields-single None end first members (first_none (some_field has_alternatives members) (some_variant has_alternatives rest) h)),
+    ),
+    ways-single own tag begin first end rest (second_none (some_field has_alternatives members) (some_variant has_alternatives rest) h),
+  )
 
 -- the tree of a type without alternatives has none
 pub tree-single : (t : Expanded) → some_within has_alternatives t ≡ false → HasNoAlternatives (tree_for t)

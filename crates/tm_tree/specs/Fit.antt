@@ -1,12 +1,11 @@
 -- Of which types the tree says the valid words: those of one profile whose tags hold their values and whose
 -- transparent structs have one field at most that takes room.
-use Rattle.std.specs.Prelude.{◌≡◌, ◌≤◌, ◌<◌, ◌^◌, ℕ, true, Bool, Option}
+use Rattle.std.specs.Prelude.{◌≡◌, ◌≤◌, ◌<◌, ◌^◌, ℕ, true}
 use Rattle.tm_base.specs.declared.definition.Kind.{Kind}
 use Rattle.tm_base.specs.declared.definition.Kind.TheVariants.{Struct, Union, Enum}
 use Rattle.tm_base.specs.declared.definition.Repr.{Repr}
-use Rattle.tm_base.specs.declared.ground.Primitive.{Primitive}
 use Rattle.tm_base.specs.declared.profile.Profile.{Profile}
-use Rattle.tm_base.specs.Expanded.{Expanded, Fields, Variants, too_deep, prim, never, unit, tuple, array, nonzero, phantom, wrap, ref, named, no_fields, field, no_variants, variant}
+use Rattle.tm_base.specs.Expanded.{Expanded, Fields, Variants, array, wrap, ref, named, no_fields, field, no_variants, variant}
 use Rattle.tm_base.specs.Faults.{sized_count}
 use Rattle.tm_base.specs.Layout.{only, tag_layout, variant_layouts}
 use Rattle.tm_niche.specs.Forms.{magnitude}

@@ -1,4 +1,4 @@
 pub mod Parts
 pub mod Fit
-pub mod Built
+pub mod Laws
 pub mod Pruned

@@ -1,6 +1,6 @@
 -- The tree of a type. Trees in a row say what stands behind one another in memory. Which form they take is
 -- this project's.
-use Rattle.std.specs.Prelude.{ℕ, ◌+◌, ◌-◌, ◌*◌, ◌==◌, Bool, true, false, if◌then◌else◌, Option, None, Some, List, [], ◌∷◌, ◌++◌}
+use Rattle.std.specs.Prelude.{ℕ, ◌+◌, ◌-◌, ◌==◌, Bool, if◌then◌else◌, Option, None, List, [], ◌∷◌, ◌++◌}
 use Rattle.tm_base.specs.declared.definition.Kind.TheVariants.{Struct, Union, Enum}
 use Rattle.tm_base.specs.declared.definition.Repr.{Repr}
 use Rattle.tm_base.specs.declared.ground.Primitive.{Primitive}
@@ -58,7 +58,7 @@ unfoldable mutual
   parts_of (named profile id Union repr variants) = union_parts (size_of (named profile id Union repr variants)) variants
   parts_of (named profile id Enum repr variants) =
       one_of (variant_ways profile repr.tag (fields_place profile repr variants) (first_place profile repr)
-        (first_place profile repr + (size_of (named profile id Enum repr variants) - fields_place profile repr variants)) variants) ∷ []
+      (first_place profile repr + (size_of (named profile id Enum repr variants) - fields_place profile repr variants)) variants) ∷ []
 
   -- a struct of so many bytes
   pub struct_parts : Repr → ℕ → Variants → List Tree

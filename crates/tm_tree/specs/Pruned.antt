@@ -1,5 +1,5 @@
 -- A tree without its private parts: they stay as what they hold, or go with all that stands with them in a row.
-use Rattle.std.specs.Prelude.{ℕ, Bool, if◌then◌else◌, List, [], ◌∷◌}
+use Rattle.std.specs.Prelude.{Bool, if◌then◌else◌, List, [], ◌∷◌}
 use Rattle.tm_base.specs.declared.tree.Tree.{Tree, Row_of-Tree, end_of-Tree, more_of-Tree, Never, Range, Pad, Ref, Seq', Alt', Repeat', Private'}
 use Rattle.tm_niche.specs.Forms.{joined, one_of, repeated}
 

@@ -2,10 +2,9 @@
 //! fields may make.
 #![tactic(auto)]
 
-mod building;
-mod pieces;
+mod laws;
 mod pruning;
 mod rows;
 
-pub use building::tree_of;
+pub use laws::type_trees_are_exact;
 pub use pruning::prune;

@@ -1,4 +1,4 @@
-use Rattle.std.proofs.Common.{arith, ap, subst, sym, ◌∙◌, ◌≡◌, ◌∷◌, ◌++◌, [], Bool, if◌then◌else◌, IfOk}
+use Rattle.std.proofs.Common.{arith, ap, subst, sym, ◌∙◌, ◌≡◌, if◌then◌else◌, IfOk}
 use Rattle.std.proofs.lemmas.Grind.{common_steps}
 use Rattle.tm_base.specs.declared.tree.Tree.{Never}
 use Rattle.tm_niche.specs.Forms.{joined, one_of, repeated}

@@ -1,5 +1,4 @@
 use Rattle.std.proofs.Common.{ℕ, Bool, ◌≤◌, ◌↔◌}
-use Rattle.tm_base.specs.declared.tree.Tree.{Tree}
 use Rattle.tm_base.specs.Cells.{Word}
 use Rattle.tm_base.specs.Shapes.{leaves_of, HasNoAlternatives, HasNoPrivate}
 use Rattle.tm_base.specs.Transmutes.{holds}
