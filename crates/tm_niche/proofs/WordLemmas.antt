@@ -57,7 +57,7 @@ module _ (pointer : ℕ) (A : ℕ → ℕ → Type 0) (keep : Bool) where
         (x, y ++ v, e ∙ ap (λ z. z ++ v) e2 ∙ append_assoc x y v, p, (InTurn-append ts ss (y ++ v)).1 (y, v, refl, p2, q)),
   )
 
-  InTurn-one : (t : Tree) (w : Word) → TreeWord pointer A keep t w ↔ InTurn pointer A keep (t ∷ []) w
+  pub InTurn-one : (t : Tree) (w : Word) → TreeWord pointer A keep t w ↔ InTurn pointer A keep (t ∷ []) w
   InTurn-one t w = (
     λ h. (w, [], sym (append-nil w), h, refl),
     λ (u, v, e, p, q). subst (TreeWord pointer A keep t) (sym (e ∙ ap (λ z. u ++ z) q ∙ append-nil u)) p,

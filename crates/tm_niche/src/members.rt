@@ -68,6 +68,16 @@ impl Members {
         Ok(())
     }
 
+    /// Adds other trees behind these.
+    pub fn append(&mut self, others: Members) -> Result<(), Memory>
+        ensures { OnOk result (self.new ≡ self.old ++ others) }
+    {
+        for tree in others.trees {
+            self.push(tree)?;
+        }
+        Ok(())
+    }
+
     /// Adds so many turns of a tree: nothing for none, and the tree itself for one.
     pub fn repeat(&mut self, alloc: Global, count: u32, tree: Tree) -> Result<(), Memory>
         ensures { OnOk result (self.new ≡ self.old ++ repeated count tree) }

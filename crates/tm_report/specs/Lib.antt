@@ -1,1 +1,4 @@
+pub mod AnswerLines
 pub mod FaultLines
+pub mod Runs
+pub mod WordTexts

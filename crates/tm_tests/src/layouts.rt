@@ -7,7 +7,7 @@ use tm_names::check;
 use tm_parse::parse;
 
 /// The world of a text, where that is a file within all limits.
-fn world(alloc: Global, text: &str) -> Option<World> {
+pub fn world(alloc: Global, text: &str) -> Option<World> {
     if text.len() > 1_048_576 {
         return None;
     }

@@ -9,6 +9,8 @@ mod devices;
 #[cfg(test)]
 mod layouts;
 #[cfg(test)]
+mod lines;
+#[cfg(test)]
 mod marks;
 #[cfg(test)]
 mod runs;

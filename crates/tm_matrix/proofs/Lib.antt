@@ -1,0 +1,3 @@
+mod HeldLemmas
+mod MarkLemmas
+mod ZipLemmas

@@ -1,0 +1,10 @@
+//! The trees of types, which say what words each type has, and the trees without what only a holder of private
+//! fields may make.
+#![tactic(auto)]
+
+mod laws;
+mod pruning;
+mod rows;
+
+pub use laws::type_trees_are_exact;
+pub use pruning::prune;
