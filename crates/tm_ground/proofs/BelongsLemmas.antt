@@ -1,5 +1,5 @@
 -- A world whose references are in the order of their texts belongs to the file.
-use Rattle.std.proofs.Common.{◌≡◌, ℕ, suc, ◌+◌, refl, sym, ap, subst, ◌∙◌, List, [], ◌∷◌, map, length, All, Some, slice_get, arith}
+use Rattle.std.proofs.Common.{◌≡◌, ℕ, suc, ◌+◌, refl, sym, ap, subst, ◌∙◌, List, [], ◌∷◌, map, length, Some, slice_get, arith}
 use Rattle.std.specs.List.{AllZip, range_with_len}
 use Rattle.std.specs.Cmp.Lexicographic.{slice_cmp}
 use Rattle.std.specs.List.Sorted.{IsSorted}
@@ -13,7 +13,7 @@ use Rattle.tm_base.specs.Texts.{text_of}
 use Rattle.tm_base.specs.Whole.{AreDistinct}
 use Rattle.tm_base.specs.Worlds.{tables_of}
 use Rattle.tm_names.specs.declared.resolved.Resolved.{Resolved}
-use Rattle.tm_ground.specs.Belongs.{type_of_row, StandsFor, ListsAll, IsQuestionOf, HasItsTypes, HasNoArgs, IsRowOf, ref_texts, BelongsToFile}
+use Rattle.tm_ground.specs.Belongs.{type_of_row, numbers_of, StandsFor, ListsAll, IsQuestionOf, HasItsTypes, HasNoArgs, IsRowOf, ref_texts, BelongsToFile}
 use Rattle.tm_ground.specs.Closed.{Closed}
 use Rattle.tm_ground.specs.ClosedTexts.{closed_text, AreInOrder}
 use Rattle.tm_ground.specs.Closing.{AreWhole}
@@ -44,7 +44,7 @@ zip-same R g f (x ∷ xs) [] h = absurd h
 zip-same R g f (x ∷ xs) (y ∷ ys) h = rw (f x y h.0, zip-same R g f xs ys h.1) refl
 
 -- what the places of a list give, where each gives what the item there does
-by-places : {A X : Type 0} (f : ℕ → X) (g : A → X) (a : ℕ) (xs : List A) → ((k : ℕ) (x : A) → slice_get xs k ≡ Some x → f (a + k) ≡ g x) → map f (range_with_len a (length xs)) ≡ map g xs
+pub by-places : {A X : Type 0} (f : ℕ → X) (g : A → X) (a : ℕ) (xs : List A) → ((k : ℕ) (x : A) → slice_get xs k ≡ Some x → f (a + k) ≡ g x) → map f (range_with_len a (length xs)) ≡ map g xs
 by-places f g a [] h = refl
 by-places f g a (x ∷ xs) h =
     let here : a + 0 ≡ a = omega arith in
@@ -75,14 +75,18 @@ module _ (resolved : Resolved) (form : IsInForm resolved) (types refs : List Clo
       let count : length world.refs ≡ length refs = AllZip-long _ refs world.refs w.ref_rows in
       ap (λ n. map text-of-number (range_with_len 0 n)) count ∙ by-places text-of-number (closed_text resolved) 0 refs text-at
 
-  pub belongs : HasApartNames resolved → AreInOrder resolved refs → BelongsToFile resolved world
-  belongs names sorted = record {
+  rows-are : types ≡ map type_of_row world.named
+  rows-are = zip-same (IsNamedRow types refs resolved) type_of_row (λ c row r. r.type) types world.named w.named
+
+  pub belongs : HasApartNames resolved → IsSorted (slice_cmp nat_cmp) (map numbers_of types) → AreInOrder resolved refs → BelongsToFile resolved world
+  belongs names named_sorted sorted = record {
     profile = w.profile;
     defs = w.defs;
     regions = w.regions;
     bounds = w.bounds;
     questions = zip-weaken (IsAsk types refs) (IsQuestionOf resolved world) (λ asked ask r. record { src = numbers-stand _ _ r.src; dst = numbers-stand _ _ r.dst; assume = r.assume }) resolved.asks world.questions w.questions;
-    named = subst (ListsAll (OccursAs is_named resolved)) (zip-same (IsNamedRow types refs resolved) type_of_row (λ c row r. r.type) types world.named w.named) whole.rows.all;
+    named = subst (ListsAll (OccursAs is_named resolved)) rows-are whole.rows.all;
+    named_in_order = subst (λ cs. IsSorted (slice_cmp nat_cmp) (map numbers_of cs)) rows-are named_sorted;
     no_args = zip-second (IsNamedRow types refs resolved) HasNoArgs (λ c row r. r.args) types world.named w.named;
     field_types = zip-second (IsNamedRow types refs resolved) (HasItsTypes resolved world) (λ c row r. zip-weaken (AllZip (IsNumbered types refs)) (AllZip (StandsFor world.named world.refs)) (zip-weaken (IsNumbered types refs) (StandsFor world.named world.refs) numbers-stand) (field_types resolved row.def row.regions) row.types r.fields) types world.named w.named;
     ref_types = refs;

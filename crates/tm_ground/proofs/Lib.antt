@@ -32,3 +32,6 @@ pub mod NameLemmas
 pub mod ApartTexts
 pub mod ApartRefs
 pub mod SharedTexts
+pub mod SortedKeys
+pub mod SortedOnce
+pub mod OneWorldLemmas

@@ -57,7 +57,7 @@ texts-of resolved (texted ∷ all) h =
     rw (first, texts-of resolved all (λ k d l. h (suc k) d (omega (arith, l)))) refl
 
 -- the keys of a list that is sorted by them
-sorted-keys : {X K : Type 0} (key : X → K) (cmp : K → K → Ordering) (xs : List X) → IsSortedByKey key cmp xs → IsSorted cmp (map key xs)
+pub sorted-keys : {X K : Type 0} (key : X → K) (cmp : K → K → Ordering) (xs : List X) → IsSortedByKey key cmp xs → IsSorted cmp (map key xs)
 sorted-keys key cmp [] h = λ k d a b. absurd (omega (arith, b))
 sorted-keys key cmp (x ∷ xs) h = λ k d a b.
     let l : k + 1 < length (x ∷ xs) = omega (arith, b, length-map (x ∷ xs) key) in

@@ -33,10 +33,10 @@ without-contains zero (y ∷ ys) x z at (suc j, l, e) apart = (j, omega (arith, 
 without-contains (suc k) (y ∷ ys) x z at (zero, l, e) apart = (0, omega arith, e)
 without-contains (suc k) (y ∷ ys) x z at (suc j, l, e) apart = contains-behind y _ z (without-contains k ys x z at (j, omega (arith, l), e) apart)
 
-distinct-tail : (x : Closed) (xs : List Closed) → AreDistinct (x ∷ xs) → AreDistinct xs
+pub distinct-tail : (x : Closed) (xs : List Closed) → AreDistinct (x ∷ xs) → AreDistinct xs
 distinct-tail x xs h = record { apart = λ i j d k l. h.apart (suc i) (suc j) d (omega (arith, k)) (omega (arith, l)) }
 
-distinct-head : (x : Closed) (xs : List Closed) → AreDistinct (x ∷ xs) → (z : Closed) → Contains xs z → z ≢ x
+pub distinct-head : (x : Closed) (xs : List Closed) → AreDistinct (x ∷ xs) → (z : Closed) → Contains xs z → z ≢ x
 distinct-head x xs h z (j, l, e) = λ same. h.apart 0 (suc j) z (omega arith) (omega (arith, l)) (sym same ∙ sym e)
 
 pub at-most : (xs ys : List Closed) → AreDistinct xs → IsWithin xs ys → length xs ≤ length ys

@@ -61,7 +61,7 @@ no-more : {X : Type 0} (xs : List X) (x : X) → Contains (xs ++ []) x → Conta
 no-more xs x i = ⊎_elim (λ j. j) (λ j. absurd (contains-nothing x j)) (Contains-append_cases xs [] x i)
 
 -- two places of a list give the same only where they are one, if it gives distinct things
-one-place : {A X : Type 0} (f : A → X) (xs : List A) (i j : ℕ) (a b : A) → AreDistinct (map f xs) → slice_get xs i ≡ Some a → slice_get xs j ≡ Some b → f a ≡ f b → i ≡ j
+pub one-place : {A X : Type 0} (f : A → X) (xs : List A) (i j : ℕ) (a b : A) → AreDistinct (map f xs) → slice_get xs i ≡ Some a → slice_get xs j ≡ Some b → f a ≡ f b → i ≡ j
 one-place {A = A} f xs i j a b distinct at there same =
     ⊎_elim (λ l. absurd (ordered i j a b at there same l)) (λ l. ⊎_elim (λ m. absurd (ordered j i b a there at (sym same) m)) (λ m. omega (arith, l, m)) (cases_lt j i)) (cases_lt i j)
   where

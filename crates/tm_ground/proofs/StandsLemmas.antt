@@ -1,5 +1,5 @@
 -- A type with its numbers stands for the closed type, where rows are of the lists.
-use Rattle.std.proofs.Common.{◌≡◌, ℕ, zero, suc, Bool, refl, sym, subst, List, [], ◌∷◌, length, All, Some, slice_get, arith}
+use Rattle.std.proofs.Common.{◌≡◌, ℕ, zero, suc, Bool, refl, sym, subst, List, [], ◌∷◌, All, Some, slice_get, arith}
 use Rattle.std.specs.List.{AllZip}
 use Rattle.std.proofs.lemmas.List.Elements.{All-cons}
 use Rattle.tm_base.specs.declared.definition.NamedRow.{NamedRow}

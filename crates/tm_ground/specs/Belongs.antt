@@ -23,6 +23,11 @@ use Rattle.tm_ground.specs.Occurs.{field_types}
 abbrev pub type_of_row : NamedRow → Closed
 type_of_row row = named row.def row.regions
 
+-- the number of a named type's definition, and those of its regions
+abbrev pub numbers_of : Closed → List ℕ
+numbers_of (named def regions) = def.0 ∷ map (λ region. region.0) regions
+numbers_of c = []
+
 -- a named row has no arguments
 abbrev pub HasNoArgs : NamedRow → Type 0
 HasNoArgs row = row.args ≡ []
@@ -80,8 +85,10 @@ module _ (resolved : Resolved) (world : World) where
     pub regions : world.regions ≡ resolved.regions
     pub bounds : world.bounds ≡ resolved.bounds
     pub questions : AllZip IsQuestionOf resolved.asks world.questions
-    -- the named rows are the named types that occur, in some order, each with its fields' types
+    -- the named rows are the named types that occur, each with its fields' types, in the order of their
+    -- definitions and, of one definition, of their regions
     pub named : ListsAll (OccursAs is_named resolved) (map type_of_row world.named)
+    pub named_in_order : IsSorted (slice_cmp nat_cmp) (map numbers_of (map type_of_row world.named))
     -- no definition has type parameters
     pub no_args : All HasNoArgs world.named
     pub field_types : All HasItsTypes world.named

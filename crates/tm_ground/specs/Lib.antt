@@ -10,3 +10,4 @@ pub mod Depths
 pub mod Numbered
 pub mod Rows
 pub mod ClosedTexts
+pub mod OneWorld

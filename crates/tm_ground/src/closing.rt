@@ -1,6 +1,10 @@
-ghost use Rattle.std.specs.Prelude.{◌≡◌, List, [], flat_map, IfOk};
+ghost use Rattle.std.specs.Prelude.{◌≡◌, List, [], flat_map, map, IfOk};
+ghost use Rattle.std.specs.Cmp.Lexicographic.{slice_cmp};
 ghost use Rattle.std.specs.List.{list_any};
+ghost use Rattle.std.specs.List.Sorted.{IsSorted};
+ghost use Rattle.std.specs.Ordering.{nat_cmp};
 ghost use Rattle.tm_base.specs.declared.definition.RegionId.{RegionId};
+ghost use Rattle.tm_ground.specs.Belongs.{numbers_of};
 ghost use Rattle.tm_ground.specs.Depths.{deep_within, AreDepths};
 ghost use Rattle.tm_ground.specs.Closing.{FindsNamed, FindsRefs, IsWhole, TellsDepth};
 ghost use Rattle.tm_ground.specs.Growing.{Adding};
@@ -57,8 +61,8 @@ fn add_fields_named(
     }
 }
 
-/// The named types that occur.
-pub fn occurring_named(alloc: Global, resolved: &Resolved) -> Result<NamedSet, Stop>
+/// The named types that occur, in the order in which they are found.
+fn found_named(alloc: Global, resolved: &Resolved) -> Result<NamedSet, Stop>
     ensures { FindsNamed resolved.now result }
 {
     let mut found = NamedSet::new(alloc);
@@ -80,6 +84,21 @@ pub fn occurring_named(alloc: Global, resolved: &Resolved) -> Result<NamedSet, S
         }
     }
     Ok(found)
+}
+
+/// The named types that occur, in the order of their definitions and of their regions.
+pub fn occurring_named(alloc: Global, resolved: &Resolved) -> Result<NamedSet, Stop>
+    ensures found { FindsNamed resolved.now result }
+    ensures sorted { IfOk result (λ found. IsSorted (slice_cmp nat_cmp) (map numbers_of (named_types found))) }
+{
+    let mut found = match found_named(alloc, resolved) {
+        Ok(found) => found,
+        Err(stop) => return Err(stop),
+    };
+    match found.sort() {
+        Ok(()) => Ok(found),
+        Err(_) => Err(Stop::Memory),
+    }
 }
 
 /// Adds the reference types that are written in the sides of a question.

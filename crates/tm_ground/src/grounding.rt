@@ -14,7 +14,8 @@ use tm_base::World;
 use tm_names::Resolved;
 
 /// The world of a file and a profile: the definitions, the types that its questions lead to with their
-/// numbers, and the questions. A reference's number is its place in the byte order of the canonical texts.
+/// numbers, and the questions. A named type's number is its place in the order of the definitions and of their
+/// regions, and a reference's that in the byte order of the canonical texts.
 ///
 /// `TooManyTypes`: more than 1,024 named types occur. `TooManyRefs`: not so, and more than 64 reference
 /// types occur. `TooDeep`: neither, and some type that occurs is more than 64 types deep by value.

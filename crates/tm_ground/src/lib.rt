@@ -6,6 +6,7 @@ mod depth;
 mod fault;
 mod gathering;
 mod grounding;
+mod laws;
 mod limits;
 mod named_set;
 mod numbering;
@@ -20,3 +21,4 @@ mod written;
 
 pub use fault::GroundErr;
 pub use grounding::ground;
+pub use laws::files_have_one_world;

@@ -1,4 +1,8 @@
-ghost use Rattle.std.specs.Prelude.{◌≡◌, ◌∷◌, [], Some, map, length, Contains, IfSome, IfNone, IfOk, option_map, slice_get};
+ghost use Rattle.std.specs.Prelude.{◌≡◌, ◌∷◌, [], Some, map, length, Contains, IfSome, IfNone, IfOk, OnOk, option_map, slice_get};
+ghost use Rattle.std.specs.Cmp.Lexicographic.{slice_cmp};
+ghost use Rattle.std.specs.List.Sorted.{IsPermutation, IsSorted};
+ghost use Rattle.std.specs.Ordering.{nat_cmp};
+ghost use Rattle.tm_ground.specs.Belongs.{numbers_of};
 ghost use Rattle.tm_ground.specs.Closed.{named, region_of};
 ghost use Rattle.tm_ground.specs.Growing.{Adding};
 ghost use Rattle.tm_ground.specs.Keys.{named_types, type_of_key};
@@ -13,13 +17,13 @@ use tm_base::{DefId, List, Memory, RegionId};
 use tm_names::Life;
 
 /// The number of a definition, and those of the regions for its parameters.
-#[derive(PartialEq, Eq, Hash, Debug, Drop)]
+#[derive(PartialEq, Eq, PartialOrd, Ord, Hash, Debug, Drop)]
 pub struct Key {
     def: u32,
     regions: Vec<u32>,
 }
 
-/// Named types, in the order in which they came.
+/// Named types, each once, in the order in which they came until they are sorted.
 #[derive(Debug, Drop)]
 pub struct NamedSet {
     keys: IndexSet<Key>,
@@ -127,6 +131,15 @@ impl NamedSet {
         let Ok(_) = self.keys.insert(key) else {
             return Err(Stop::Memory);
         };
+        Ok(())
+    }
+
+    /// Puts the types in the order of their definitions and, of one definition, of their regions.
+    pub fn sort(&mut self) -> Result<(), Memory>
+        ensures same { OnOk result (IsPermutation (named_types self.old) (named_types self.new)) }
+        ensures sorted { OnOk result (IsSorted (slice_cmp nat_cmp) (map numbers_of (named_types self.new))) }
+    {
+        self.keys.sort_unstable()?;
         Ok(())
     }
 }
