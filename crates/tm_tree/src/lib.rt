@@ -2,7 +2,10 @@
 //! fields may make.
 #![tactic(auto)]
 
+mod building;
 mod laws;
+mod plain;
+mod private;
 mod pruning;
 mod rows;
 mod types;

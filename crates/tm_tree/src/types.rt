@@ -5,6 +5,7 @@ ghost use Rattle.tm_base.specs.Worlds.{IsTypeOver, tables_of};
 ghost use Rattle.tm_layout.specs.Made.{IsMadeFor};
 ghost use Rattle.tm_tree.specs.Exact.{IsTreeOf};
 
+use crate::building::Builder;
 use std::alloc::Global;
 use tm_base::{Ground, Memory, Tree, World};
 use tm_layout::Layouts;
@@ -17,5 +18,10 @@ pub fn tree_of(alloc: Global, world: &World, layouts: &Layouts, g: &Ground) -> R
     requires judged { has_no_layout (expanded_in (tables_of world.now) g.now) ≡ false }
     ensures tree { IfOk result (IsTreeOf (tables_of world.now) g.now) }
 {
-    Err(Memory)
+    let builder = Builder {
+        alloc,
+        world,
+        layouts,
+    };
+    builder.parts(g)?.in_turn(alloc)
 }
