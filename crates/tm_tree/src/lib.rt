@@ -2,7 +2,8 @@
 //! fields may make.
 #![tactic(auto)]
 
-mod building;
+mod builder;
+mod fields;
 mod laws;
 mod plain;
 mod private;

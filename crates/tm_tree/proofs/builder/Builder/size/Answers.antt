@@ -2,7 +2,7 @@ use Rattle.std.proofs.Common.{◌≡◌, true}
 use Rattle.tm_base.specs.Faults.{has_no_layout}
 use Rattle.tm_base.specs.Tables.{expanded_in}
 use Rattle.tm_base.specs.Worlds.{tables_of}
-use Rattle.tm_tree.proofs.building.Builder.size.Goals as goal
+use Rattle.tm_tree.proofs.builder.Builder.size.Goals as goal
 
 pub unreachable-requires : goal.unreachable-requires
 unreachable-requires c =

@@ -8,7 +8,7 @@ use Rattle.tm_layout.proofs.NodeLemmas.{nodes_in, all_nodes, row_nodes}
 use Rattle.tm_tree.specs.LaidOut.{places_at}
 use Rattle.tm_tree.specs.Parts.{bare_parts, field_parts, union_ways, variant_ways}
 use Rattle.tm_tree.proofs.StepLemmas.{IsRowSoFar}
-use Rattle.tm_tree.proofs.building.Builder.+building.Given as goal
+use Rattle.tm_tree.proofs.builder.Builder.+building.Given as goal
 
 abbrev pub decreases-parts : goal.decreases-parts
 decreases-parts l = 1 + nodes_in (tables_of l.self.now.world.now) l.g.now

@@ -6,7 +6,7 @@ use Rattle.tm_base.specs.Worlds.{tables_of}
 use Rattle.tm_niche.specs.Forms.{tag_form}
 use Rattle.tm_tree.proofs.EnumLemmas.{tag-row}
 use Rattle.tm_tree.proofs.InsideLemmas.{prim-laid_out, prim-sized}
-use Rattle.tm_tree.proofs.building.Builder.tag.Goals as goal
+use Rattle.tm_tree.proofs.builder.Builder.tag.Goals as goal
 
 pub size-requires : goal.size-requires
 size-requires c = prim-laid_out (tables_of c.args.self.now.world.now) c.unwrap_or-p.result

@@ -26,7 +26,7 @@ use Rattle.tm_tree.proofs.EnumLemmas.{enum-made, tag-fits, variant-fields, varia
 use Rattle.tm_tree.proofs.InsideLemmas.{def-there, definition-of, inside-Array, inside-Wrap, level-of, level-parts, no-Tuple, prim-integer, wrapped-parts, wrapped-size, written}
 use Rattle.tm_tree.proofs.StepLemmas.{bare-end, bare-next, inside-at, place-inside, place-past, place-there, placed-in, row-end, row-next, row-within, union-way, variants-end, variants-next, ways-end, ways-next}
 use Rattle.tm_tree.proofs.TypeLemmas.{tree-is}
-use Rattle.tm_tree.proofs.building.Builder.+building.Goals as goal
+use Rattle.tm_tree.proofs.builder.Builder.+building.Goals as goal
 
 -- ---- fields that nothing stands between
 
