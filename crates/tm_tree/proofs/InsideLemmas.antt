@@ -47,7 +47,7 @@ both_true a b p q = cc
 pub written : (tables : Tables) (g : Ground) → IsLaidOut tables g → IsWrittenOut tables g
 written tables g laid = record { whole = over-whole tables g laid.over }
 
-argument-other : (w : Wrapper) (g : Ground) → (w ≡ wrapper.PhantomData → ⊥) → argument_of w g ≡ g ∷ []
+pub argument-other : (w : Wrapper) (g : Ground) → (w ≡ wrapper.PhantomData → ⊥) → argument_of w g ≡ g ∷ []
 argument-other wrapper.PhantomData g other = absurd (other refl)
 argument-other wrapper.Option g other = refl
 argument-other wrapper.MaybeUninit g other = refl

@@ -40,8 +40,9 @@ impl Builder<'_> {
     pub fn tag(&self, tag: Option<Primitive>, value: i128) -> Result<Row, Memory>
         requires integer { IsTrue (is_integer (tag_type tag)) }
         requires fits { IsTrue (fits_integer self.now.world.now.profile (tag_type tag) value) }
-        ensures { let size = (tag_layout self.now.world.now.profile tag).size in
-            IfOk result (λ row. row ≡ record { parts = tag_form self.now.world.now.profile size value ∷ []; end = size }) }
+        ensures { let profile = self.now.world.now.profile in
+            let size = (tag_layout profile tag).size in
+            IfOk result (λ row. row ≡ record { parts = tag_form profile size value ∷ []; end = size }) }
     {
         let p = tag.unwrap_or(Primitive::I32);
         let tree = tag_tree(self.alloc, self.world.profile, p, value)?;

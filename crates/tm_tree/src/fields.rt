@@ -22,7 +22,8 @@ impl Builder<'_> {
     #[cycle(building)]
     pub fn bare_parts(&self, types: &[Ground]) -> Result<Members, Memory>
         requires { EachIs (IsLaidOut (tables_of self.now.world.now)) types.now }
-        ensures { IfOk result (λ parts. parts ≡ bare_parts (elements (expanded_in (tables_of self.now.world.now)) types.now)) }
+        ensures { let part = expanded_in (tables_of self.now.world.now) in
+            IfOk result (λ parts. parts ≡ bare_parts (elements part types.now)) }
     {
         let mut parts = Members::new(self.alloc);
         for g in types {
@@ -44,7 +45,9 @@ impl Builder<'_> {
     ) -> Result<Members, Memory>
         requires { AreFieldsOf (tables_of self.now.world.now) id variant front.end size types.now }
         ensures { let part = expanded_in (tables_of self.now.world.now) in
-            IfOk result (λ parts. parts ≡ front.parts ++ field_parts size front.end (places_at (part (Named id)) variant) (elements part types.now)) }
+            let places = places_at (part (Named id)) variant in
+            IfOk result (λ parts. parts
+            ≡ front.parts ++ field_parts size front.end places (elements part types.now)) }
     {
         let mut row = front;
         for (field, g) in types.iter().enumerate() {
@@ -60,8 +63,10 @@ impl Builder<'_> {
     #[cycle(building)]
     pub fn union_ways(&self, size: u32, types: &[Ground]) -> Result<Members, Memory>
         requires laid_out { EachIs (IsLaidOut (tables_of self.now.world.now)) types.now }
-        requires inside { AllByRecursion (λ l. l.size ≤ size) (field_layouts (elements (expanded_in (tables_of self.now.world.now)) types.now)) }
-        ensures { IfOk result (λ ways. ways ≡ union_ways size (elements (expanded_in (tables_of self.now.world.now)) types.now)) }
+        requires inside { let part = expanded_in (tables_of self.now.world.now) in
+            AllByRecursion (λ l. l.size ≤ size) (field_layouts (elements part types.now)) }
+        ensures { let part = expanded_in (tables_of self.now.world.now) in
+            IfOk result (λ ways. ways ≡ union_ways size (elements part types.now)) }
     {
         let mut ways = Members::new(self.alloc);
         for g in types {
@@ -85,8 +90,10 @@ impl Builder<'_> {
         requires is { IsDefinition (tables_of self.now.world.now) id size def.now types.now }
         requires kind { def.now.kind ≡ Enum }
         ensures { let profile = self.now.world.now.profile in
-            let variants = variants_of (expanded_in (tables_of self.now.world.now)) def.now.variants types.now in
-            IfOk result (λ ways. ways ≡ variant_ways profile def.now.repr (fields_place profile def.now.repr variants) size variants) }
+            let part = expanded_in (tables_of self.now.world.now) in
+            let variants = variants_of part def.now.variants types.now in
+            let begin = fields_place profile def.now.repr variants in
+            IfOk result (λ ways. ways ≡ variant_ways profile def.now.repr begin size variants) }
     {
         let mut ways = Members::new(self.alloc);
         for (number, variant) in def.variants.as_slice().iter().enumerate() {

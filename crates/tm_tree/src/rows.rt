@@ -46,7 +46,8 @@ impl Row {
     /// Adds padding up to a place.
     pub fn pad_to(&mut self, alloc: Global, place: u32) -> Result<(), Memory>
         requires { self.old.end ≤ place }
-        ensures { OnOk result (self.new ≡ record { parts = self.old.parts ++ pads (place - self.old.end); end = place }) }
+        ensures { let gap = place - self.old.end in
+            OnOk result (self.new ≡ record { parts = self.old.parts ++ pads gap; end = place }) }
     {
         self.parts.repeat(alloc, place - self.end, Tree::Pad)?;
         self.end = place;
@@ -56,7 +57,8 @@ impl Row {
     /// Adds other trees, which have so many bytes.
     pub fn add(&mut self, parts: Members, size: u32) -> Result<(), Memory>
         requires { self.old.end + size < 2 ^ 32 }
-        ensures { OnOk result (self.new ≡ record { parts = self.old.parts ++ parts; end = self.old.end + size }) }
+        ensures { let end = self.old.end + size in
+            OnOk result (self.new ≡ record { parts = self.old.parts ++ parts; end = end }) }
     {
         self.parts.append(parts)?;
         self.end += size;

@@ -49,7 +49,8 @@ impl Builder<'_> {
     #[cycle(building)]
     pub fn parts(&self, g: &Ground) -> Result<Members, Memory>
         requires { IsLaidOut (tables_of self.now.world.now) g.now }
-        ensures { IfOk result (λ parts. parts ≡ parts_of (expanded_in (tables_of self.now.world.now) g.now)) }
+        ensures { let part = expanded_in (tables_of self.now.world.now) in
+            IfOk result (λ parts. parts ≡ parts_of (part g.now)) }
     {
         match g {
             Ground::Prim(p) => primitive(self.alloc, self.world.profile, *p, self.size(g)),
@@ -71,7 +72,8 @@ impl Builder<'_> {
     #[cycle(building)]
     fn array_parts(&self, element: &Ground, count: u32) -> Result<Members, Memory>
         requires { IsLaidOut (tables_of self.now.world.now) element.now }
-        ensures { IfOk result (λ parts. parts ≡ turns_of count (parts_of (expanded_in (tables_of self.now.world.now) element.now))) }
+        ensures { let part = expanded_in (tables_of self.now.world.now) in
+            IfOk result (λ parts. parts ≡ turns_of count (parts_of (part element.now))) }
     {
         if count == 0 {
             Ok(Members::new(self.alloc))
@@ -84,7 +86,8 @@ impl Builder<'_> {
     #[cycle(building)]
     fn named(&self, id: NamedId) -> Result<Members, Memory>
         requires { IsLaidOut (tables_of self.now.world.now) (Named id) }
-        ensures { IfOk result (λ parts. parts ≡ parts_of (expanded_in (tables_of self.now.world.now) (Named id))) }
+        ensures { let part = expanded_in (tables_of self.now.world.now) in
+            IfOk result (λ parts. parts ≡ parts_of (part (Named id))) }
     {
         let Some(row) = self.world.named.get(id.0 as usize) else {
             unreachable!();
@@ -106,7 +109,8 @@ impl Builder<'_> {
         types: &[List<Ground>],
     ) -> Result<Members, Memory>
         requires { IsDefinition (tables_of self.now.world.now) id size def.now types.now }
-        ensures { IfOk result (λ parts. parts ≡ parts_of (expanded_in (tables_of self.now.world.now) (Named id))) }
+        ensures { let part = expanded_in (tables_of self.now.world.now) in
+            IfOk result (λ parts. parts ≡ parts_of (part (Named id))) }
     {
         match def.kind {
             Kind::Struct if def.repr.transparent => {
