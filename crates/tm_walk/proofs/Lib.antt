@@ -6,3 +6,5 @@ pub mod PairLemmas
 pub mod OfferLemmas
 pub mod ExpandLemmas
 pub mod NextLayerLemmas
+pub mod LessLemmas
+pub mod ChainLemmas

@@ -66,6 +66,17 @@ abbrev pub weights : (Bool → Bool) → List Entry → ℕ
 weights skip [] = 0
 weights skip (e ∷ es) = weight skip e + weights skip es
 
+-- whether the k-th is
+abbrev pub weight_at : (Bool → Bool) → List Entry → ℕ → ℕ
+weight_at skip [] k = 0
+weight_at skip (e ∷ es) zero = weight skip e
+weight_at skip (e ∷ es) (suc k) = weight_at skip es k
+
+-- the first layer: the pair of the starts, or nothing where the source has no start
+pub record IsStart (src dst : Automaton) (layer : List Entry) : Type 0 where
+  pub each : (k : ℕ) (e : Entry) → slice_get layer k ≡ Some e → (k ≡ 0) × (e.src ≡ src.starts) × (e.dst ≡ dst.starts) × (src.starts ≢ [])
+  pub some : src.starts ≢ [] → (e : Entry) × (slice_get layer 0 ≡ Some e)
+
 module _ (A : ℕ → ℕ → Bool) (src dst : Automaton) where
   abbrev pub source_step : List ℕ → Symbol → List ℕ
   source_step from x = next equal src.edges from x

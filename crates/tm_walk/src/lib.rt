@@ -1,9 +1,11 @@
 //! A walk through two automata at once.
 #![tactic(auto)]
 
+mod advance;
 mod laws;
 mod quantifier;
 mod layer;
+mod live;
 mod sets;
 mod way;
 
