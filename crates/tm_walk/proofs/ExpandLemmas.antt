@@ -21,7 +21,8 @@ use Rattle.tm_auto.proofs.SetLemmas.{bool_cases, has_to, rises_same, increasing_
 use Rattle.tm_auto.proofs.StepLemmas.{passes_takes, next_to, to_next, next-IsStrictlyIncreasing}
 use Rattle.tm_walk.specs.Layers.{Entry, Precedes, AreRising, IsOffered, AreOffered, first_cell, source_step, target_step, offers, AreSymbols, Goes, IsStepFrom, AreStepsFrom}
 use Rattle.tm_walk.proofs.NumberLemmas.{among_map, among_unmap}
-use Rattle.tm_walk.proofs.OfferLemmas.{among_one}
+use Rattle.tm_walk.specs.Words.{IsLeastCell}
+use Rattle.tm_walk.proofs.OfferLemmas.{among_one, among_cases}
 
 -- two symbols that the same edges pass lead to the same set
 pub next_same : (A : ℕ → ℕ → Bool) (es : List Edge) (from : List ℕ) (x y : Symbol) → ((e : Edge) → Among e es → Among e.from from → passes A e.label x ≡ passes A e.label y) → next A es from x ≡ next A es from y
@@ -145,3 +146,18 @@ module _ (A : ℕ → ℕ → Bool) (src dst : Automaton) (from to : List ℕ) (
     | inl l ↦ steps_within xs (s.within l) place l p ps pd
     | inr l ↦ subst (λ (z : List Symbol). AreStepsFrom A src dst place p k (offers A src dst from to k z)) (sym (s.behind l)) (steps_behind place l p ps pd)
   ]
+
+-- the first cell of the first class is the least that the source's states take
+pub some_class : (src dst : Automaton) (from to : List ℕ) (xs : List Symbol) → AreClasses src from dst to xs → (c : Cell) × TakesFrom src from c → 0 < length xs
+some_class src dst from to [] a (c, t) = let (x, m, h) = (a.covers c).0 t in absurd (none_among m)
+some_class src dst from to (x ∷ xs) a t = omega arith
+
+pub first_class : (src dst : Automaton) (from to : List ℕ) (xs : List Symbol) (d : Symbol) → AreClasses src from dst to xs → 0 < length xs → IsLeastCell src from (first_cell (get_or xs 0 d))
+first_class src dst from to [] d a l = absurd (omega arith)
+first_class src dst from to (x ∷ xs) d a l = record {
+  taken = (a.covers (first_cell x)).1 (x, here, first_in x (a.formed x here));
+  least = λ c t. let (y, m, h) = (a.covers c).0 t in elim (among_cases x y m) [
+    | inl e ↦ first_least x c (subst (λ (z : Symbol). HasCell z c) e h)
+    | inr n ↦ cell_less-asym (first_cell x) c (a.ordered.0 y (first_cell x) c n (first_in x (a.formed x here)) h)
+  ];
+}

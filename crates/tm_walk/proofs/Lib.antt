@@ -8,3 +8,6 @@ pub mod ExpandLemmas
 pub mod NextLayerLemmas
 pub mod LessLemmas
 pub mod ChainLemmas
+pub mod WayLemmas
+pub mod CompletionLemmas
+pub mod LiveLemmas

@@ -2,11 +2,12 @@
 ghost use Rattle.std.specs.Prelude.{◌≡◌, ℕ, ◌+◌, ◌<◌, ◌≤◌, [], ◌∷◌, ◌⊎◌, IfOk, OnOk, length, slice_get, Some};
 ghost use Rattle.tm_auto.specs.Automata.{AreStates};
 ghost use Rattle.tm_auto.specs.Paths.{Among};
-ghost use Rattle.tm_walk.specs.Layers.{Entry, HasStates, AreSymbols, AreOffered, IsExpanded, IsNext, offers, weight_at, weights, IsStart, first_cell};
+ghost use Rattle.tm_walk.specs.Layers.{Entry, HasStates, AreSymbols, AreOffered, IsExpanded, IsNext, offers, weight_at, weights, IsStart};
 
 use crate::layer::Layer;
 use crate::live::is_live;
 use crate::quantifier::Quantifier;
+use crate::symbol::least;
 use crate::way::Way;
 use std::alloc::Global;
 use std::sync::ledger::Ledger;
@@ -120,16 +121,5 @@ impl<'a, Q: Quantifier, M: RefTest> Walk<'a, Q, M> {
             self.expand(place, layer, k, &mut next, steps)?;
         }
         Ok(next)
-    }
-}
-
-/// The least cell of a symbol.
-fn least(symbol: Symbol) -> Cell
-    ensures { result ≡ first_cell symbol }
-{
-    match symbol {
-        Symbol::Bytes(first, _) => Cell::Byte(first),
-        Symbol::Uninit => Cell::Uninit,
-        Symbol::Ptr(reference, place) => Cell::Ptr(reference, place),
     }
 }

@@ -2,11 +2,15 @@
 #![tactic(auto)]
 
 mod advance;
+mod completion;
+mod history;
 mod laws;
 mod quantifier;
+mod reading;
 mod layer;
 mod live;
 mod sets;
+mod symbol;
 mod way;
 
 pub use laws::{exists_seeks_examples, for_all_seeks_refusals};
