@@ -16,7 +16,7 @@ use Rattle.tm_auto.specs.Sets.{next, symbol_of, reached_from}
 use Rattle.tm_auto.proofs.AmongLemmas.{none_among}
 use Rattle.tm_auto.proofs.NextLemmas.{next_states}
 use Rattle.tm_auto.proofs.SetLemmas.{bool_cases}
-use Rattle.tm_walk.specs.Layers.{is_live, Entry, IsStart, HasStates, source_step, target_step, Goes, IsFrom, IsReached, IsNext}
+use Rattle.tm_walk.specs.Layers.{is_live, Entry, IsStart, NoneStops, IsFirstStop, HasStates, source_step, target_step, Goes, IsFrom, IsReached, IsNext}
 use Rattle.tm_walk.specs.Sought.{IsSourceWord}
 use Rattle.tm_walk.proofs.LessLemmas.{nothing_less, less_begins, less_behind, less_cell, less_most, last_not_less}
 use Rattle.tm_walk.proofs.NumberLemmas.{get_among, among_get}
@@ -43,7 +43,7 @@ reached_more A auto w c = go auto.starts w
 pub alike_earlier : (v w : Word) (p q : ℕ) → q ≤ p → padded v p ≡ padded w p → padded v q ≡ padded w q
 alike_earlier v w p q l e = sym (take-padded v q p l) ∙ ap (take q) e ∙ take-padded w q p l
 
-module _ (A : ℕ → ℕ → Bool) (src dst : Automaton) (hs : IsAutomaton src) (rs : ReadsWords src) (stop : Bool → Bool → Bool) (skip : Bool → Bool) where
+module _ (A : ℕ → ℕ → Bool) (src dst : Automaton) (stop : Bool → Bool → Bool) (skip : Bool → Bool) where
   abbrev pub source_of : Word → List ℕ
   source_of u = reached equal src u
 
@@ -64,13 +64,29 @@ module _ (A : ℕ → ℕ → Bool) (src dst : Automaton) (hs : IsAutomaton src)
     pub stops : stop (is_live (target_of (padded w p))) (p == dst.size) ≡ true
     pub passes : Passes w p
 
-  abbrev pub NoneStops : ℕ → List Entry → Type 0
-  NoneStops p layer = (k : ℕ) (x : Entry) → slice_get layer k ≡ Some x → stop (is_live x.dst) (p == dst.size) ≡ false
-
   -- each layer follows from the one before it, and nothing stopped before the last
   abbrev pub IsChained : List (List Entry) → List Entry → Type 0
   IsChained [] layer = IsStart src dst layer
-  IsChained (l ∷ older) layer = IsNext A src dst skip (length older) l (length l) layer × NoneStops (length older) l × IsChained older l
+  IsChained (l ∷ older) layer = IsNext A src dst skip (length older) l (length l) layer × NoneStops stop (length older == dst.size) l × IsChained older l
+
+module _ (A : ℕ → ℕ → Bool) (src dst : Automaton) (hs : IsAutomaton src) (rs : ReadsWords src) (stop : Bool → Bool → Bool) (skip : Bool → Bool) where
+  abbrev source_by : Word → List ℕ
+  source_by u = reached equal src u
+
+  abbrev target_by : Word → List ℕ
+  target_by u = reached A dst u
+
+  abbrev On : Word → ℕ → Type 0
+  On w q = GoesOn A src dst stop skip w q
+
+  abbrev Past : Word → ℕ → Type 0
+  Past w p = Passes A src dst stop skip w p
+
+  abbrev Stopped : Word → ℕ → Type 0
+  Stopped w p = IsStopped A src dst stop skip w p
+
+  abbrev Chain : List (List Entry) → List Entry → Type 0
+  Chain older layer = IsChained A src dst stop skip older layer
 
   -- ---- what a pair means: some source word, padded, leads to it
 
@@ -78,15 +94,15 @@ module _ (A : ℕ → ℕ → Bool) (src dst : Automaton) (hs : IsAutomaton src)
     pub whole : Word
     pub word : IsSourceWord src whole
     pub front : word_at older layer k ≡ padded whole (length older)
-    pub source : e.src ≡ source_of (padded whole (length older))
-    pub target : e.dst ≡ target_of (padded whole (length older))
-    pub passes : Passes whole (length older)
+    pub source : e.src ≡ source_by (padded whole (length older))
+    pub target : e.dst ≡ target_by (padded whole (length older))
+    pub passes : Past whole (length older)
 
   -- one cell more
-  extends : (w : Word) → IsSourceWord src w → (p : ℕ) (c : Cell) (from : List ℕ) → from ≡ source_of (padded w p) → Goes A src dst p from c → (v : Word) × IsSourceWord src v × (padded v (suc p) ≡ padded w p ++ c ∷ [])
+  extends : (w : Word) → IsSourceWord src w → (p : ℕ) (c : Cell) (from : List ℕ) → from ≡ source_by (padded w p) → Goes A src dst p from c → (v : Word) × IsSourceWord src v × (padded v (suc p) ≡ padded w p ++ c ∷ [])
   extends w word p c from is g = elim (cases_lt p src.size) [
     | inl l ↦ (
-        let some : source_of (padded w p ++ c ∷ []) ≢ [] = λ e. g.0 l (ap (λ (z : List ℕ). source_step A src dst z (symbol_of c)) is ∙ sym (reached_more equal src (padded w p) c) ∙ e) in
+        let some : source_by (padded w p ++ c ∷ []) ≢ [] = λ e. g.0 l (ap (λ (z : List ℕ). source_step A src dst z (symbol_of c)) is ∙ sym (reached_more equal src (padded w p) c) ∙ e) in
         let (v, more) = (rs.source (padded w p ++ c ∷ [])).0 some in
         let long : length (padded w p ++ c ∷ []) ≡ suc p = length-append (padded w p) (c ∷ []) ∙ (let z = length-padded w p in omega arith) in
         ((padded w p ++ c ∷ []) ++ v, more, subst (λ (n : ℕ). padded ((padded w p ++ c ∷ []) ++ v) n ≡ padded w p ++ c ∷ []) long (padded_front (padded w p ++ c ∷ []) v)))
@@ -100,7 +116,7 @@ module _ (A : ℕ → ℕ → Bool) (src dst : Automaton) (hs : IsAutomaton src)
   at_entry : (l : List Entry) (older : List (List Entry)) (layer : List Entry) (k : ℕ) (e : Entry) → slice_get layer k ≡ Some e → word_at (l ∷ older) layer k ≡ word_at older l e.parent ++ e.cell ∷ []
   at_entry l older layer k e h = ap (λ z. cells_by z (word_at older l)) h
 
-  pub means : (older : List (List Entry)) (layer : List Entry) → IsChained older layer → (k : ℕ) (e : Entry) → slice_get layer k ≡ Some e → Means older layer k e
+  pub means : (older : List (List Entry)) (layer : List Entry) → Chain older layer → (k : ℕ) (e : Entry) → slice_get layer k ≡ Some e → Means older layer k e
   means [] layer c k e h =
       let (z, a, b, n) = c.each k e h in
       let (w, word) = (rs.source []).0 (λ q. n (sym (rs.begins equal) ∙ q)) in
@@ -114,26 +130,26 @@ module _ (A : ℕ → ℕ → Bool) (src dst : Automaton) (hs : IsAutomaton src)
       record {
         whole = w; word = word;
         front = at_entry l older layer k e h ∙ ap (λ (z : Word). z ++ e.cell ∷ []) m.front ∙ sym more;
-        source = f.step.source ∙ ap (λ (z : List ℕ). source_step A src dst z (symbol_of e.cell)) m.source ∙ sym (reached_more equal src (padded m.whole p) e.cell) ∙ ap source_of (sym more);
-        target = f.step.target ∙ ap (λ (z : List ℕ). target_step A src dst z (symbol_of e.cell)) m.target ∙ sym (reached_more A dst (padded m.whole p) e.cell) ∙ ap target_of (sym more);
+        source = f.step.source ∙ ap (λ (z : List ℕ). source_step A src dst z (symbol_of e.cell)) m.source ∙ sym (reached_more equal src (padded m.whole p) e.cell) ∙ ap source_by (sym more);
+        target = f.step.target ∙ ap (λ (z : List ℕ). target_step A src dst z (symbol_of e.cell)) m.target ∙ sym (reached_more A dst (padded m.whole p) e.cell) ∙ ap target_by (sym more);
         passes = λ q less. elim (cases_lt q p) [
           | inl lt ↦ (
               let z : padded m.whole q ≡ padded w q = alike_earlier m.whole w p q (omega arith) (sym same) in
-              subst (λ (u : Word). (stop (is_live (target_of u)) (q == dst.size) ≡ false) × (skip (is_live (target_of u)) ≡ false)) z (m.passes q lt))
+              subst (λ (u : Word). (stop (is_live (target_by u)) (q == dst.size) ≡ false) × (skip (is_live (target_by u)) ≡ false)) z (m.passes q lt))
           | inr ge ↦ (
               let at : q ≡ p = omega arith in
-              let here : f.pair.dst ≡ target_of (padded w p) = m.target ∙ ap target_of (sym same) in
-              subst (λ (n : ℕ). GoesOn w n) (sym at) (
+              let here : f.pair.dst ≡ target_by (padded w p) = m.target ∙ ap target_by (sym same) in
+              subst (λ (n : ℕ). On w n) (sym at) (
                 subst (λ (s : List ℕ). stop (is_live s) (p == dst.size) ≡ false) here (none e.parent f.pair f.at),
                 subst (λ (s : List ℕ). skip (is_live s) ≡ false) here f.goes_on))
         ];
       }
 
-  pub long : (older : List (List Entry)) (layer : List Entry) → IsChained older layer → (k : ℕ) (e : Entry) → slice_get layer k ≡ Some e → length (word_at older layer k) ≡ length older
+  pub long : (older : List (List Entry)) (layer : List Entry) → Chain older layer → (k : ℕ) (e : Entry) → slice_get layer k ≡ Some e → length (word_at older layer k) ≡ length older
   long older layer c k e h = let m = means older layer c k e h in ap length m.front ∙ length-padded m.whole (length older)
 
   -- later pairs have greater words
-  pub order : (older : List (List Entry)) (layer : List Entry) → IsChained older layer → (j k : ℕ) (e f : Entry) → j < k → slice_get layer j ≡ Some e → slice_get layer k ≡ Some f → word_less (word_at older layer j) (word_at older layer k) ≡ true
+  pub order : (older : List (List Entry)) (layer : List Entry) → Chain older layer → (j k : ℕ) (e f : Entry) → j < k → slice_get layer j ≡ Some e → slice_get layer k ≡ Some f → word_less (word_at older layer j) (word_at older layer k) ≡ true
   order [] layer c j k e f l a b = let x = (c.each j e a).0 in let y = (c.each k f b).0 in absurd (omega arith)
   order (l ∷ older) layer (next, none, c) j k e f less a b =
       let x = next.from e (get_among layer j e a) in
@@ -152,22 +168,22 @@ module _ (A : ℕ → ℕ → Bool) (src dst : Automaton) (hs : IsAutomaton src)
     pub place : ℕ
     pub entry : Entry
     pub at : slice_get layer place ≡ Some entry
-    pub source : entry.src ≡ source_of (padded w (length older))
-    pub target : entry.dst ≡ target_of (padded w (length older))
+    pub source : entry.src ≡ source_by (padded w (length older))
+    pub target : entry.dst ≡ target_by (padded w (length older))
     pub least : word_less (padded w (length older)) (word_at older layer place) ≡ false
 
   -- the next cell of a source word may stand there
-  goes_next : (w : Word) → IsSourceWord src w → (p : ℕ) (from : List ℕ) → from ≡ source_of (padded w p) → Goes A src dst p from (cell_at w p)
+  goes_next : (w : Word) → IsSourceWord src w → (p : ℕ) (from : List ℕ) → from ≡ source_by (padded w p) → Goes A src dst p from (cell_at w p)
   goes_next w word p from is =
       let size = hs.sized equal w word in (
         λ l e. (
           let (t, split) = padded_within w (suc p) (omega arith) in
-          let some : source_of (padded w (suc p)) ≢ [] = (rs.source (padded w (suc p))).1 (t, subst (λ (z : Word). AutoWord (holds equal) src z) split word) in
-          some (ap source_of (padded_more w p) ∙ reached_more equal src (padded w p) (cell_at w p) ∙ ap (λ (z : List ℕ). source_step A src dst z (symbol_of (cell_at w p))) (sym is) ∙ e)),
+          let some : source_by (padded w (suc p)) ≢ [] = (rs.source (padded w (suc p))).1 (t, subst (λ (z : Word). AutoWord (holds equal) src z) split word) in
+          some (ap source_by (padded_more w p) ∙ reached_more equal src (padded w p) (cell_at w p) ∙ ap (λ (z : List ℕ). source_step A src dst z (symbol_of (cell_at w p))) (sym is) ∙ e)),
         λ l. cell_past w p (omega arith),
       )
 
-  pub complete : (older : List (List Entry)) (layer : List Entry) → IsChained older layer → (w : Word) → IsSourceWord src w → Passes w (length older) → IsIn older layer w
+  pub complete : (older : List (List Entry)) (layer : List Entry) → Chain older layer → (w : Word) → IsSourceWord src w → Past w (length older) → IsIn older layer w
   complete [] layer c w word passes =
       let start : src.starts ≢ [] = λ q. none_among (subst (λ (z : List ℕ). Among word.reaches.state z) q word.reaches.among) in
       let (e, at) = c.some start in
@@ -184,8 +200,8 @@ module _ (A : ℕ → ℕ → Bool) (src dst : Automaton) (hs : IsAutomaton src)
       let f = next.from r.entry r.among in
       record {
         place = k; entry = r.entry; at = at;
-        source = r.source ∙ ap (λ (z : List ℕ). source_step A src dst z (symbol_of d)) x.source ∙ sym (reached_more equal src (padded w p) d) ∙ ap source_of (sym (padded_more w p));
-        target = r.target ∙ ap (λ (z : List ℕ). target_step A src dst z (symbol_of d)) x.target ∙ sym (reached_more A dst (padded w p) d) ∙ ap target_of (sym (padded_more w p));
+        source = r.source ∙ ap (λ (z : List ℕ). source_step A src dst z (symbol_of d)) x.source ∙ sym (reached_more equal src (padded w p) d) ∙ ap source_by (sym (padded_more w p));
+        target = r.target ∙ ap (λ (z : List ℕ). target_step A src dst z (symbol_of d)) x.target ∙ sym (reached_more A dst (padded w p) d) ∙ ap target_by (sym (padded_more w p));
         least = rw (padded_more w p, at_entry l older layer k r.entry at)
           (elim r.early [
             | inl lt ↦ (
@@ -202,29 +218,29 @@ module _ (A : ℕ → ℕ → Bool) (src dst : Automaton) (hs : IsAutomaton src)
   -- ---- what is found
 
   -- a word on which it stops isn't in a layer where none does
-  stops_not : (older : List (List Entry)) (layer : List Entry) → IsChained older layer → NoneStops (length older) layer → (w : Word) → IsStopped w (length older) → ⊥
+  stops_not : (older : List (List Entry)) (layer : List Entry) → Chain older layer → NoneStops stop (length older == dst.size) layer → (w : Word) → Stopped w (length older) → ⊥
   stops_not older layer c none w s =
       let x = complete older layer c w s.word s.passes in
-      let a : stop (is_live (target_of (padded w (length older)))) (length older == dst.size) ≡ false = subst (λ (z : List ℕ). stop (is_live z) (length older == dst.size) ≡ false) x.target (none x.place x.entry x.at) in
+      let a : stop (is_live (target_by (padded w (length older)))) (length older == dst.size) ≡ false = subst (λ (z : List ℕ). stop (is_live z) (length older == dst.size) ≡ false) x.target (none x.place x.entry x.at) in
       let b = s.stops in
       cc
 
-  pub early : (older : List (List Entry)) (layer : List Entry) → IsChained older layer → (w : Word) (p : ℕ) → p < length older → IsStopped w p → ⊥
+  pub early : (older : List (List Entry)) (layer : List Entry) → Chain older layer → (w : Word) (p : ℕ) → p < length older → Stopped w p → ⊥
   early [] layer c w p l s = absurd (omega arith)
   early (x ∷ older) layer (next, none, c) w p l s = elim (cases_lt p (length older)) [
     | inl lt ↦ early older x c w p lt s
-    | inr ge ↦ (let q : p ≡ length older = omega arith in stops_not older x c none w (subst (λ (n : ℕ). IsStopped w n) q s))
+    | inr ge ↦ (let q : p ≡ length older = omega arith in stops_not older x c none w (subst (λ (n : ℕ). Stopped w n) q s))
   ]
 
   -- none stops in the layer at the target's end
-  pub nothing : (older : List (List Entry)) (layer : List Entry) → IsChained older layer → NoneStops (length older) layer → length older ≡ dst.size → (w : Word) (p : ℕ) → IsStopped w p → ⊥
+  pub nothing : (older : List (List Entry)) (layer : List Entry) → Chain older layer → NoneStops stop (length older == dst.size) layer → length older ≡ dst.size → (w : Word) (p : ℕ) → Stopped w p → ⊥
   nothing older layer c none end w p s = elim (cases_lt p (length older)) [
     | inl lt ↦ early older layer c w p lt s
-    | inr ge ↦ (let l = s.within in let q : p ≡ length older = omega arith in stops_not older layer c none w (subst (λ (n : ℕ). IsStopped w n) q s))
+    | inr ge ↦ (let l = s.within in let q : p ≡ length older = omega arith in stops_not older layer c none w (subst (λ (n : ℕ). Stopped w n) q s))
   ]
 
   -- nothing is left to look at
-  pub empty : (older : List (List Entry)) (layer : List Entry) → IsChained older layer → layer ≡ [] → (w : Word) (p : ℕ) → IsStopped w p → ⊥
+  pub empty : (older : List (List Entry)) (layer : List Entry) → Chain older layer → layer ≡ [] → (w : Word) (p : ℕ) → Stopped w p → ⊥
   empty older layer c none w p s = elim (cases_lt p (length older)) [
     | inl lt ↦ early older layer c w p lt s
     | inr ge ↦ (
@@ -233,22 +249,15 @@ module _ (A : ℕ → ℕ → Bool) (src dst : Automaton) (hs : IsAutomaton src)
         cc)
   ]
 
-  -- the k-th pair of the layer is the first on which it stops
-  pub record IsFirstStop (p : ℕ) (layer : List Entry) (k : ℕ) : Type 0 where
-    pub entry : Entry
-    pub at : slice_get layer k ≡ Some entry
-    pub stops : stop (is_live entry.dst) (p == dst.size) ≡ true
-    pub first : (j : ℕ) (x : Entry) → j < k → slice_get layer j ≡ Some x → stop (is_live x.dst) (p == dst.size) ≡ false
-
   -- the cells that lead to it begin the least words on which it stops
   pub record IsLeastFront (u : Word) (p : ℕ) : Type 0 where
     pub whole : Word
     pub front : u ≡ padded whole p
-    pub stopped : IsStopped whole p
-    pub earliest : (v : Word) (q : ℕ) → IsStopped v q → p ≤ q
-    pub least : (v : Word) → IsStopped v p → word_less (padded v p) u ≡ false
+    pub stopped : Stopped whole p
+    pub earliest : (v : Word) (q : ℕ) → Stopped v q → p ≤ q
+    pub least : (v : Word) → Stopped v p → word_less (padded v p) u ≡ false
 
-  pub found : (older : List (List Entry)) (layer : List Entry) (k : ℕ) → IsChained older layer → length older ≤ dst.size → IsFirstStop (length older) layer k → IsLeastFront (word_at older layer k) (length older)
+  pub found : (older : List (List Entry)) (layer : List Entry) (k : ℕ) → Chain older layer → length older ≤ dst.size → IsFirstStop stop (length older == dst.size) layer k → IsLeastFront (word_at older layer k) (length older)
   found older layer k c l f =
       let m = means older layer c k f.entry f.at in
       record {
@@ -269,7 +278,7 @@ module _ (A : ℕ → ℕ → Bool) (src dst : Automaton) (hs : IsAutomaton src)
 
   -- ---- each set is one of states
 
-  pub states : (hd : IsAutomaton dst) (older : List (List Entry)) (layer : List Entry) → IsChained older layer → (e : Entry) → Among e layer → HasStates A src dst e
+  pub states : (hd : IsAutomaton dst) (older : List (List Entry)) (layer : List Entry) → Chain older layer → (e : Entry) → Among e layer → HasStates A src dst e
   states hd [] layer c e m =
       let (k, at) = among_get layer e m in
       let (z, a, b, n) = c.each k e at in

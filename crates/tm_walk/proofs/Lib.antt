@@ -11,3 +11,5 @@ pub mod ChainLemmas
 pub mod WayLemmas
 pub mod CompletionLemmas
 pub mod LiveLemmas
+pub mod FoundLemmas
+pub mod CostLemmas

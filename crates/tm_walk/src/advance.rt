@@ -15,6 +15,7 @@ use tm_auto::{Auto, StateSet, Symbol, classes};
 use tm_base::{Cell, Equal, List, Memory, RefTest, Steps};
 
 /// What is walked, and what is sought.
+#[derive(Drop)]
 pub struct Walk<'a, Q, M> {
     pub alloc: Global,
     pub quantifier: &'a Q,
