@@ -13,3 +13,4 @@ pub mod CompletionLemmas
 pub mod LiveLemmas
 pub mod FoundLemmas
 pub mod CostLemmas
+pub mod RunLemmas

@@ -11,7 +11,7 @@ use Rattle.tm_auto.specs.Paths.{Among, here, there}
 use Rattle.tm_auto.specs.Sets.{symbol_of}
 use Rattle.tm_auto.proofs.AmongLemmas.{among_left, among_right, among_either, none_among}
 use Rattle.tm_auto.proofs.SetLemmas.{bool_cases}
-use Rattle.tm_walk.specs.Layers.{is_live, weight, weights, weight_at, Entry, HasStates, AreSymbols, offers, HaveSameSets, Precedes, IsHeld, AreOffered, source_step, target_step, Goes, IsStepFrom, AreStepsFrom, IsExpanded, IsFrom, IsReached, IsNext}
+use Rattle.tm_walk.specs.Layers.{is_live, IsFirstStop, weight, weights, weight_at, Entry, HasStates, AreSymbols, offers, HaveSameSets, Precedes, IsHeld, AreOffered, source_step, target_step, Goes, IsStepFrom, AreStepsFrom, IsExpanded, IsFrom, IsReached, IsNext}
 use Rattle.tm_walk.proofs.ExpandLemmas.{steps_are}
 use Rattle.tm_walk.proofs.NumberLemmas.{get_among}
 use Rattle.tm_walk.proofs.OfferLemmas.{Keeps, keeps, rising-append, apart-append}
@@ -187,3 +187,13 @@ weights_turn skip layer i first before after l b a =
     inside [] i l = absurd (omega arith)
     inside (x ∷ xs) zero l = (x, refl)
     inside (x ∷ xs) (suc i) l = inside xs i (omega arith)
+
+-- the first pair on which the quantifier stops, as it is read
+pub stop_found : (stop : Bool → Bool → Bool) (at_end : Bool) (layer : List Entry) (k : ℕ) (from to : List ℕ)
+    → (e : Entry) × (slice_get layer k ≡ Some e) × (from ≡ e.src) × (to ≡ e.dst) → (live : Bool) → live ≡ is_live to → (stops : Bool) → stops ≡ stop live at_end → stops ≡ true
+    → ((j : ℕ) (e : Entry) → j < k → slice_get layer j ≡ Some e → stop (is_live e.dst) at_end ≡ false) → IsFirstStop stop at_end layer k
+stop_found stop at_end layer k from to (e, at, s, t) live l stops h stopped first = record {
+  entry = e; at = at;
+  stops = ap (λ (z : List ℕ). stop (is_live z) at_end) (sym t) ∙ ap (λ (b : Bool). stop b at_end) (sym l) ∙ sym h ∙ stopped;
+  first = first;
+}

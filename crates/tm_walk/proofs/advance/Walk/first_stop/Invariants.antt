@@ -1,6 +1,6 @@
 use Rattle.std.proofs.Common.{◌≡◌, ℕ, ◌<◌, false, Some, slice_get}
 use Rattle.tm_walk.specs.Layers.{is_live, Entry}
-use Rattle.tm_walk.proofs.walking.Walk.first_stop.Given as goal
+use Rattle.tm_walk.proofs.advance.Walk.first_stop.Given as goal
 
 -- it stops on none of the pairs before this one
 abbrev pub invariant-loop-k : goal.invariant-loop-k
