@@ -30,8 +30,8 @@ one_set A auto h r one v w l a b =
     let at_v = r.layer A v in
     let at_w : AreInLayer auto (length v) (reached A auto w) = subst (λ (n : ℕ). AreInLayer auto n (reached A auto w)) (sym l) (r.layer A w) in
     rises_same (reached A auto v) (reached A auto w) (increasing_rises _ (rises A auto auto.starts v h.rising)) (increasing_rises _ (rises A auto auto.starts w h.rising))
-      (λ x m. subst (λ (z : ℕ). Among z (reached A auto w)) (one (length v) t x (at_w t tm) (at_v x m)) tm)
-      (λ x m. subst (λ (z : ℕ). Among z (reached A auto v)) (one (length v) s x (at_v s sm) (at_w x m)) sm)
+    (λ x m. subst (λ (z : ℕ). Among z (reached A auto w)) (one (length v) t x (at_w t tm) (at_v x m)) tm)
+    (λ x m. subst (λ (z : ℕ). Among z (reached A auto v)) (one (length v) s x (at_v s sm) (at_w x m)) sm)
 
 module _ (A : ℕ → ℕ → Bool) (src dst : Automaton) (hs : IsAutomaton src) (rs : ReadsWords src) (hd : IsAutomaton dst) (rd : ReadsWords dst) (stop : Bool → Bool → Bool) (skip : Bool → Bool) where
   -- the source's set behind a source word is empty exactly behind its end

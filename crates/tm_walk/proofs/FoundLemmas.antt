@@ -77,7 +77,8 @@ module _ (A : ℕ → ℕ → Bool) (src dst : Automaton) (hs : IsAutomaton src)
   sought_stopped w p s =
       let within = s.within in
       record {
-        word = s.word; within = within;
+        word = s.word;
+        within = within;
         stops = (stops_are A src dst hs hd rd stop skip w s.word p within).0 s.stops;
         passes = λ q l. (
           not_true _ (λ h. (s.goes_on q l).0 ((stops_are A src dst hs hd rd stop skip w s.word q (omega arith)).1 h)),
@@ -89,7 +90,8 @@ module _ (A : ℕ → ℕ → Bool) (src dst : Automaton) (hs : IsAutomaton src)
   stopped_sought w p s =
       let within = s.within in
       record {
-        word = s.word; within = within;
+        word = s.word;
+        within = within;
         stops = (stops_are A src dst hs hd rd stop skip w s.word p within).1 s.stops;
         goes_on = λ q l. (
           λ h. (let a = (stops_are A src dst hs hd rd stop skip w s.word q (omega arith)).0 h in let b = (s.passes q l).0 in cc),
@@ -100,7 +102,8 @@ module _ (A : ℕ → ℕ → Bool) (src dst : Automaton) (hs : IsAutomaton src)
   -- a word that is padded alike is sought alike
   stopped_alike : (v w : Word) (p : ℕ) → IsSourceWord src w → padded v p ≡ padded w p → Stopped v p → Stopped w p
   stopped_alike v w p word e s = record {
-    word = word; within = s.within;
+    word = word;
+    within = s.within;
     stops = subst (λ (u : Word). stop (is_live (reached A dst u)) (p == dst.size) ≡ true) e s.stops;
     passes = λ q l. subst (λ (u : Word). (stop (is_live (reached A dst u)) (q == dst.size) ≡ false) × (skip (is_live (reached A dst u)) ≡ false)) (alike_earlier v w p q (omega arith) e) (s.passes q l);
   }

@@ -130,13 +130,13 @@ module _ (s0 t0 s1 t1 : List (List ℕ)) (src dst : List ℕ) (s t : ℕ)
       inr (
         map-append (entry_of s1 t1) rows ((offered, way) ∷ []) ∙ (λ i. entries_same i ++ last i ∷ []),
         λ (f, m, (a, b)).
-          let (row, r, e) = among_unmap (entry_of s0 t0) rows f m in
-          let x : get_or s0 row.0.source [] ≡ src = ap (λ (z : Entry). z.src) e ∙ a in
-          let y : get_or t0 row.0.target [] ≡ dst = ap (λ (z : Entry). z.dst) e ∙ b in
-          let (p, q) = numbers row r x y in
-          let fails = passes_none (pair_is offered) rows h row r in
-          let passes = and_from (nat_eq s row.0.source) (nat_eq t row.0.target) (eq-eqb s row.0.source (sym p)) (eq-eqb t row.0.target (sym q)) in
-          cc,
+            let (row, r, e) = among_unmap (entry_of s0 t0) rows f m in
+            let x : get_or s0 row.0.source [] ≡ src = ap (λ (z : Entry). z.src) e ∙ a in
+            let y : get_or t0 row.0.target [] ≡ dst = ap (λ (z : Entry). z.dst) e ∙ b in
+            let (p, q) = numbers row r x y in
+            let fails = passes_none (pair_is offered) rows h row r in
+            let passes = and_from (nat_eq s row.0.source) (nat_eq t row.0.target) (eq-eqb s row.0.source (sym p)) (eq-eqb t row.0.target (sym q)) in
+            cc,
       )
 
 -- ---- reading a layer

@@ -128,7 +128,7 @@ module _ (A : ℕ → ℕ → Bool) (src dst : Automaton) (hs : IsAutomaton src)
   viable_fits w word h =
       let v = (viable_is w dst.size (omega arith)).0 h in
       subst (λ (z : Word). AutoWord (holds A) dst z) (sym (fit-padded w dst.size))
-        (viable_whole A dst hd (padded w dst.size) (no_own-padded w dst.size (source_no_own src hs w word)) (length-padded w dst.size) v)
+      (viable_whole A dst hd (padded w dst.size) (no_own-padded w dst.size (source_no_own src hs w word)) (length-padded w dst.size) v)
 
   pub fits_viable : (w : Word) → Fits A src dst w → IsViableTo A dst w dst.size
   fits_viable w f = (viable_is w dst.size (omega arith)).1 (whole_viable A dst hd (padded w dst.size) (subst (λ (z : Word). AutoWord (holds A) dst z) (fit-padded w dst.size) f))

@@ -11,7 +11,7 @@ pub rest-init : goal.rest-init
 rest-init c = record {
   src = c.given.invariant.src;
   begun = begin c.args.src.now c.law.ensures.automaton c.law.ensures.reads c.args.cells.now c.given.reading.word c.requires
-    (c.given.invariant.word ∙ take_all c.given.cell-index (take c.min.result c.args.cells.now) c.given-test.false
+      (c.given.invariant.word ∙ take_all c.given.cell-index (take c.min.result c.args.cells.now) c.given-test.false
       ∙ ap (λ (n : ℕ). take n c.args.cells.now) (c.min.ensures ∙ ap (min (length c.args.cells.now)) c.size-size.ensures));
 }
 
