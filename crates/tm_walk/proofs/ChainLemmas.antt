@@ -1,5 +1,5 @@
 -- Layers that follow one from another: the least words that lead to their pairs.
-use Rattle.std.proofs.Common.{◌≡◌, ◌≢◌, ℕ, zero, suc, ◌+◌, ◌<◌, ◌≤◌, ◌⊎◌, inl, inr, ◌↔◌, Bool, true, false, IsTrue, List, [], ◌∷◌, ◌++◌, length, take, Option, Some, None, slice_get, refl, sym, ap, ◌∙◌, subst, arith, append_assoc, length-append}
+use Rattle.std.proofs.Common.{◌≡◌, ◌≢◌, ℕ, suc, ◌<◌, ◌≤◌, inl, inr, Bool, true, false, List, [], ◌∷◌, ◌++◌, length, take, Option, Some, None, slice_get, refl, sym, ap, ◌∙◌, subst, arith, length-append}
 use Rattle.std.specs.Prelude.{◌==◌}
 use Rattle.std.proofs.lemmas.Bool.{cases_lt}
 use Rattle.std.proofs.lemmas.List.{take-append-le}
@@ -15,13 +15,12 @@ use Rattle.tm_auto.specs.Paths.{Among}
 use Rattle.tm_auto.specs.Sets.{next, symbol_of, reached_from}
 use Rattle.tm_auto.proofs.AmongLemmas.{none_among}
 use Rattle.tm_auto.proofs.NextLemmas.{next_states}
-use Rattle.tm_auto.proofs.SetLemmas.{bool_cases}
-use Rattle.tm_walk.specs.Layers.{is_live, Entry, IsStart, NoneStops, IsFirstStop, HasStates, source_step, target_step, Goes, IsFrom, IsReached, IsNext}
+use Rattle.tm_walk.specs.Layers.{is_live, Entry, IsStart, NoneStops, IsFirstStop, HasStates, source_step, target_step, Goes, IsNext}
 use Rattle.tm_walk.specs.Sought.{IsSourceWord}
 use Rattle.tm_walk.proofs.LessLemmas.{nothing_less, less_begins, less_behind, less_cell, less_most, last_not_less}
 use Rattle.tm_walk.proofs.NumberLemmas.{get_among, among_get}
 use Rattle.tm_walk.proofs.OfferLemmas.{rising_at}
-use Rattle.tm_walk.proofs.PaddedLemmas.{padded, cell_at, cell_past, padded_more, padded_front, padded_self, padded_within, length-padded, take-padded}
+use Rattle.tm_walk.proofs.PaddedLemmas.{padded, cell_at, cell_past, padded_more, padded_front, padded_within, length-padded, take-padded}
 
 abbrev pub cells_by : Option Entry → (ℕ → Word) → Word
 cells_by None f = []

@@ -1,5 +1,5 @@
 -- Where both automata have one state at each place at most, at most one pair of a layer is expanded.
-use Rattle.std.proofs.Common.{◌≡◌, ◌≢◌, ℕ, zero, suc, ◌+◌, ◌<◌, ◌≤◌, ◌⊎◌, inl, inr, Bool, true, false, List, [], ◌∷◌, ◌++◌, length, Some, slice_get, refl, sym, ap, ◌∙◌, subst, arith, length-append}
+use Rattle.std.proofs.Common.{◌≡◌, ◌≢◌, ℕ, ◌<◌, ◌≤◌, inl, inr, Bool, false, List, [], ◌∷◌, ◌++◌, length, Some, slice_get, sym, ◌∙◌, subst, arith, length-append}
 use Rattle.std.specs.Prelude.{◌==◌}
 use Rattle.std.specs.List.Sorted.{IsStrictlyIncreasing}
 use Rattle.std.proofs.lemmas.Bool.{cases_lt}
@@ -8,7 +8,7 @@ use Rattle.tm_base.specs.Transmutes.{holds}
 use Rattle.tm_auto.specs.Automata.{Automaton, AutoWord, IsAutomaton, ReadsWords, AreInLayer, HasOneStateALayer, reached, equal}
 use Rattle.tm_auto.specs.Paths.{Among}
 use Rattle.tm_auto.specs.Sets.{next, symbol_of, reached_from}
-use Rattle.tm_auto.proofs.AmongLemmas.{some_among, none_or_some, none_among}
+use Rattle.tm_auto.proofs.AmongLemmas.{some_among, none_or_some}
 use Rattle.tm_auto.proofs.SetLemmas.{rises_same, increasing_rises}
 use Rattle.tm_auto.proofs.StepLemmas.{next-IsStrictlyIncreasing}
 use Rattle.tm_walk.specs.Layers.{is_live, Entry, HaveSameSets, NoneStops, weights}

@@ -1,25 +1,22 @@
 -- The symbols by which a pair is expanded give all its steps.
-use Rattle.std.proofs.Common.{◌≡◌, ◌≢◌, ℕ, zero, suc, ◌+◌, ◌<◌, ◌≤◌, ◌⊎◌, inl, inr, Bool, true, false, ◌&&◌, cond, nat_lt, List, [], ◌∷◌, ◌++◌, map, length, drop, get_or, refl, sym, ap, ◌∙◌, subst, arith}
-use Rattle.std.specs.Prelude.{◌==◌, ◌||◌}
+use Rattle.std.proofs.Common.{◌≡◌, ◌≢◌, ℕ, ◌+◌, ◌<◌, ◌≤◌, inl, inr, Bool, false, nat_lt, List, [], ◌∷◌, length, drop, get_or, refl, sym, ap, subst, arith}
 use Rattle.std.proofs.lemmas.Bool.{cases_lt}
 use Rattle.std.proofs.lemmas.List.{drop_more, drop_all}
 use Rattle.tm_base.specs.declared.cell.Cell.{Cell}
 use Rattle.tm_base.specs.declared.cell.Cell.TheVariants as cell
 use Rattle.tm_base.specs.Orders.{cell_less}
-use Rattle.tm_base.specs.Transmutes.{holds}
 use Rattle.tm_base.proofs.OrderLemmas.{cell_less-asym}
 use Rattle.tm_auto.specs.declared.edge.Edge.{Edge}
 use Rattle.tm_auto.specs.declared.edge.Symbol.{Symbol}
 use Rattle.tm_auto.specs.declared.edge.Symbol.TheVariants as symbol
 use Rattle.tm_auto.specs.Automata.{Automaton, IsStep, equal}
-use Rattle.tm_auto.specs.Classes.{HasCell, IsFormed, AreInOrder, LeavesSet, TakesFrom, AreClasses}
-use Rattle.tm_auto.specs.Labels.{Takes}
+use Rattle.tm_auto.specs.Classes.{HasCell, IsFormed, AreInOrder, TakesFrom, AreClasses}
 use Rattle.tm_auto.specs.Paths.{Among, here, there}
-use Rattle.tm_auto.specs.Sets.{has_state, with_state, passes, next, symbol_of}
+use Rattle.tm_auto.specs.Sets.{has_state, passes, next, symbol_of}
 use Rattle.tm_auto.proofs.AmongLemmas.{none_among, some_among}
 use Rattle.tm_auto.proofs.SetLemmas.{bool_cases, has_to, rises_same, increasing_rises}
 use Rattle.tm_auto.proofs.StepLemmas.{passes_takes, next_to, to_next, next-IsStrictlyIncreasing}
-use Rattle.tm_walk.specs.Layers.{Entry, Precedes, AreRising, IsOffered, AreOffered, first_cell, source_step, target_step, offers, AreSymbols, Goes, IsStepFrom, AreStepsFrom}
+use Rattle.tm_walk.specs.Layers.{Entry, Precedes, AreRising, IsOffered, AreOffered, first_cell, source_step, target_step, offers, AreSymbols, IsStepFrom, AreStepsFrom}
 use Rattle.tm_walk.proofs.NumberLemmas.{among_map, among_unmap}
 use Rattle.tm_walk.specs.Words.{IsLeastCell}
 use Rattle.tm_walk.proofs.OfferLemmas.{among_one, among_cases}

@@ -1,19 +1,18 @@
 -- What the two quantifiers seek.
-use Rattle.std.proofs.Common.{◌≡◌, ◌≢◌, ℕ, zero, suc, ◌+◌, ◌<◌, ◌≤◌, ◌⊎◌, inl, inr, ◌↔◌, Bool, true, false, IsTrue, not, List, [], ◌∷◌, ◌++◌, length, take, refl, sym, ap, ◌∙◌, subst, arith, eq-eqb}
-use Rattle.std.specs.Prelude.{◌==◌, ◌&&◌}
-use Rattle.std.proofs.lemmas.Bool.{cases_lt, ne_eqb}
+use Rattle.std.proofs.Common.{◌≡◌, ◌≢◌, ℕ, zero, suc, ◌+◌, ◌<◌, ◌≤◌, inl, inr, ◌↔◌, Bool, true, false, [], ◌++◌, length, take, refl, sym, ap, ◌∙◌, subst, arith, eq-eqb}
+use Rattle.std.specs.Prelude.{◌==◌}
+use Rattle.std.proofs.lemmas.Bool.{cases_lt}
 use Rattle.std.proofs.lemmas.List.{take_all}
 use Rattle.tm_base.specs.Cells.{Word, fit}
-use Rattle.tm_base.specs.Orders.{word_less}
 use Rattle.tm_base.specs.Transmutes.{holds}
-use Rattle.tm_auto.specs.Automata.{Automaton, AutoWord, IsViable, IsAutomaton, ReadsWords}
+use Rattle.tm_auto.specs.Automata.{Automaton, IsViable, IsAutomaton, ReadsWords}
 use Rattle.tm_auto.proofs.SetLemmas.{same_at}
 use Rattle.tm_auto.proofs.StepLemmas.{both_true}
 use Rattle.tm_walk.specs.Layers.{is_live}
-use Rattle.tm_walk.specs.Meanings.{for_all_stops, for_all_skips, exists_stops, exists_skips, Fits, EachWordFits, NoWordFits, IsInhabited, IsRefusedAt, IsFirstRefusal, IsLeastExample}
-use Rattle.tm_walk.specs.Sought.{IsSourceWord, IsViableTo, StopsAt, SkipsAt, IsSought, NoneIsSought, IsLeastSought, IsViableLength, IsFound}
-use Rattle.tm_walk.proofs.PaddedLemmas.{padded, fit-padded, length-padded}
-use Rattle.tm_walk.proofs.ViableLemmas.{either, target_at, tells_live, viable_is, viable_earlier, viable_fits, fits_viable}
+use Rattle.tm_walk.specs.Meanings.{for_all_stops, for_all_skips, exists_stops, exists_skips, Fits, EachWordFits, NoWordFits, IsRefusedAt, IsFirstRefusal, IsLeastExample}
+use Rattle.tm_walk.specs.Sought.{IsSourceWord, IsViableTo, StopsAt, SkipsAt, IsSought, NoneIsSought, IsViableLength, IsFound}
+use Rattle.tm_walk.proofs.PaddedLemmas.{fit-padded, length-padded}
+use Rattle.tm_walk.proofs.ViableLemmas.{either, target_at, tells_live, viable_earlier, viable_fits, fits_viable}
 
 module _ (A : ℕ → ℕ → Bool) (src dst : Automaton) (hs : IsAutomaton src) (hd : IsAutomaton dst) (rd : ReadsWords dst) where
   -- ---- for all

@@ -1,17 +1,17 @@
 -- One pair after the other is expanded into the next layer.
-use Rattle.std.proofs.Common.{◌≡◌, ◌≢◌, ℕ, zero, suc, ◌+◌, ◌<◌, ◌≤◌, ◌⊎◌, inl, inr, Bool, true, false, cond, List, [], ◌∷◌, ◌++◌, length, take, Some, Result, Ok, Err, OnOk, slice_get, add-one, refl, sym, ap, ◌∙◌, subst, arith}
+use Rattle.std.proofs.Common.{◌≡◌, ℕ, zero, suc, ◌+◌, ◌<◌, ◌≤◌, inl, inr, Bool, true, false, List, [], ◌∷◌, ◌++◌, length, take, Some, Result, Ok, Err, OnOk, slice_get, add-one, refl, sym, ap, ◌∙◌, subst, arith}
 use Rattle.std.proofs.lemmas.Bool.{cases_lt}
-use Rattle.std.proofs.lemmas.Option.{slice_get_within, same_Some}
+use Rattle.std.proofs.lemmas.Option.{same_Some}
 use Rattle.tm_base.specs.declared.cell.Cell.{Cell}
 use Rattle.tm_base.specs.Orders.{cell_less}
 use Rattle.tm_base.proofs.OrderLemmas.{cell_less-total, cell_less-trans, cell_less-asym}
 use Rattle.tm_auto.specs.declared.edge.Symbol.{Symbol}
 use Rattle.tm_auto.specs.Automata.{Automaton, AreStates}
-use Rattle.tm_auto.specs.Paths.{Among, here, there}
+use Rattle.tm_auto.specs.Paths.{Among}
 use Rattle.tm_auto.specs.Sets.{symbol_of}
 use Rattle.tm_auto.proofs.AmongLemmas.{among_left, among_right, among_either, none_among}
 use Rattle.tm_auto.proofs.SetLemmas.{bool_cases}
-use Rattle.tm_walk.specs.Layers.{is_live, IsFirstStop, weight, weights, weight_at, Entry, HasStates, AreSymbols, offers, HaveSameSets, Precedes, IsHeld, AreOffered, source_step, target_step, Goes, IsStepFrom, AreStepsFrom, IsExpanded, IsFrom, IsReached, IsNext}
+use Rattle.tm_walk.specs.Layers.{is_live, IsFirstStop, weight, weights, weight_at, Entry, HasStates, AreSymbols, offers, AreOffered, source_step, target_step, Goes, IsStepFrom, AreStepsFrom, IsExpanded, IsReached, IsNext}
 use Rattle.tm_walk.proofs.ExpandLemmas.{steps_are}
 use Rattle.tm_walk.proofs.NumberLemmas.{get_among}
 use Rattle.tm_walk.proofs.OfferLemmas.{Keeps, keeps, rising-append, apart-append}

@@ -1,8 +1,7 @@
 -- What offering a pair of sets to a layer does.
-use Rattle.std.proofs.Common.{◌≡◌, ℕ, ◌+◌, ◌<◌, ◌⊎◌, inl, inr, Bool, true, false, cond, ◌&&◌, List, [], ◌∷◌, ◌++◌, map, length, get_or, Option, Some, None, is_some, slice_get, refl, sym, ap, ◌∙◌, subst, arith, nat_eq, eq-eqb, length-append}
-use Rattle.std.specs.List.{slice_index_or}
+use Rattle.std.proofs.Common.{◌≡◌, ℕ, ◌<◌, ◌⊎◌, inl, inr, Bool, true, false, ◌&&◌, List, [], ◌∷◌, ◌++◌, map, length, get_or, Some, is_some, slice_get, refl, sym, ap, ◌∙◌, arith, nat_eq, eq-eqb, length-append}
 use Rattle.std.specs.Map.{lookup}
-use Rattle.std.proofs.lemmas.Bool.{and_from, and_parts}
+use Rattle.std.proofs.lemmas.Bool.{and_from}
 use Rattle.std.proofs.lemmas.List.{get_or_append_left, map-append}
 use Rattle.std.proofs.lemmas.Option.{slice_get-get_or, get_or_from_slice_get, slice_get_within}
 use Rattle.indexmap.specs.IndexMap.{insert_entry}
@@ -11,7 +10,7 @@ use Rattle.tm_auto.proofs.AmongLemmas.{among_either}
 use Rattle.tm_auto.proofs.SetLemmas.{same_at}
 use Rattle.tm_walk.specs.declared.way.Pair.{Pair}
 use Rattle.tm_walk.specs.declared.way.Way.{Way}
-use Rattle.tm_walk.specs.Layers.{Entry, HaveSameSets, IsHeld, IsOffered}
+use Rattle.tm_walk.specs.Layers.{Entry, IsHeld, IsOffered}
 use Rattle.tm_walk.specs.Numbers.{entry_by, way_of, entry_of, entries_of, AreWithin}
 use Rattle.tm_walk.proofs.NumberLemmas.{get_among, get_map, among_map, among_unmap, insert_last}
 

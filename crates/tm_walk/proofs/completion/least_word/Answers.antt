@@ -4,7 +4,7 @@ use Rattle.tm_base.specs.declared.cell.Cell.{Cell}
 use Rattle.tm_auto.specs.Automata.{Automaton, reached, equal}
 use Rattle.tm_auto.specs.Classes.{TakesFrom}
 use Rattle.tm_walk.specs.Words.{IsLeastCell}
-use Rattle.tm_walk.proofs.CompletionLemmas.{IsBegun, begin, go_on, next_some, finish}
+use Rattle.tm_walk.proofs.CompletionLemmas.{begin, go_on, next_some, finish}
 use Rattle.tm_walk.proofs.completion.least_word.Goals as goal
 
 pub rest-init : goal.rest-init

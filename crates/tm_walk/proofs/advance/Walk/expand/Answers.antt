@@ -1,5 +1,4 @@
-use Rattle.std.proofs.Common.{◌≡◌, ◌∙◌, ap, arith, Result, Ok, Err, OnOk, refl, sym}
-use Rattle.tm_walk.specs.Layers.{is_live}
+use Rattle.std.proofs.Common.{◌∙◌, ap, arith}
 use Rattle.tm_walk.proofs.NextLayerLemmas.{on_ok, goes_on_weight, read_source, read_target, steps_expanded}
 use Rattle.tm_walk.proofs.advance.Walk.expand.Goals as goal
 

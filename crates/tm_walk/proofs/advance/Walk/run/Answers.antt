@@ -1,4 +1,4 @@
-use Rattle.std.proofs.Common.{◌≡◌, ◌≢◌, ℕ, ◌+◌, ◌<◌, ◌≤◌, ◌∙◌, sym, ap, subst, arith, List}
+use Rattle.std.proofs.Common.{◌≢◌, ℕ, ◌+◌, ◌∙◌, sym, ap, subst, arith, List}
 use Rattle.std.specs.Prelude.{◌==◌}
 use Rattle.std.proofs.lemmas.List.{nil_from_length}
 use Rattle.tm_walk.specs.declared.way.Way.{Way}

@@ -1,4 +1,4 @@
-use Rattle.std.proofs.Common.{◌≡◌, ◌∙◌, sym, refl, true, false}
+use Rattle.std.proofs.Common.{◌∙◌, sym}
 use Rattle.tm_walk.proofs.PairLemmas.{there_offered, last_row, new_within, new_offered}
 use Rattle.tm_walk.proofs.layer.Layer.offer.Goals as goal
 

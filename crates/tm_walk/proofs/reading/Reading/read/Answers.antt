@@ -1,6 +1,6 @@
-use Rattle.std.proofs.Common.{◌≡◌, ◌∙◌, sym, ap, List, ℕ}
+use Rattle.std.proofs.Common.{◌∙◌, sym, ap, List, ℕ}
 use Rattle.tm_auto.specs.Automata.{equal, reached}
-use Rattle.tm_auto.specs.Sets.{next, symbol_of}
+use Rattle.tm_auto.specs.Sets.{next}
 use Rattle.tm_walk.proofs.ExpandLemmas.{step_is}
 use Rattle.tm_walk.proofs.ChainLemmas.{reached_more}
 use Rattle.tm_walk.proofs.reading.Reading.read.Goals as goal
