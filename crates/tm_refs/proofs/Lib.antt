@@ -1,3 +1,4 @@
 pub mod HeldLemmas
+pub mod LeafLemmas
 pub mod PointeeLemmas
 pub mod RuleLemmas
