@@ -1,0 +1,16 @@
+pub mod PaddedLemmas
+pub mod ViableLemmas
+pub mod MeaningLemmas
+pub mod NumberLemmas
+pub mod PairLemmas
+pub mod OfferLemmas
+pub mod ExpandLemmas
+pub mod NextLayerLemmas
+pub mod LessLemmas
+pub mod ChainLemmas
+pub mod WayLemmas
+pub mod CompletionLemmas
+pub mod LiveLemmas
+pub mod FoundLemmas
+pub mod CostLemmas
+pub mod RunLemmas
