@@ -28,16 +28,19 @@ pub struct Compat {
 impl RefTest for Compat {
     ghost test = { λ compat source target. compatible_in compat source target };
 
-    /// Whether the source reference may be taken as the target reference, at every depth. It may not
-    /// where the world has no such reference.
+    /// Whether the source reference may be taken as the target reference, at every depth. It may
+    /// not where the world has no such reference.
     fn holds(&self, source: RefId, target: RefId) -> bool {
         self.table.standing(source, target).depth().is_none()
     }
 }
 
 impl Compat {
-    /// The table of a world's references under some assumptions. A look at a pair, which asks what its
-    /// pointees' values are and costs the most, is one of `looks`. `Memory`: there wasn't enough memory.
+    /// The table of a world's references under some assumptions.
+    ///
+    /// A look at a pair asks whether its pointees' values go together, by a walk or two, and is counted
+    /// in `looks`: each pair is looked at once, and again at most once for each pair that it depends on
+    /// and that isn't compatible. `Memory`: there wasn't enough memory.
     pub fn solve<L: Ledger>(
         alloc: Global,
         world: &World,
@@ -67,8 +70,8 @@ impl Compat {
         Ok(Compat { assume, table })
     }
 
-    /// How many levels of pointees it takes to see that the source reference may not be taken as the
-    /// target reference: 0 where they don't meet by themselves. `None` where it may.
+    /// How many levels of pointees it takes to see that the source reference may not be taken as
+    /// the target reference: 0 where the two by themselves show it. `None` where it may.
     pub fn depth(&self, source: RefId, target: RefId) -> Option<u32>
         ensures is { result ≡ depth_in self.now source.0 target.0 }
         ensures answer { (tables : Tables) (assume : Assume) → IsSolvedFor tables assume self.now

@@ -30,7 +30,8 @@ pub fn first_table(
     requires pointees { ArePointees (tables_of world.now) assume pointees.now.items.items }
     ensures depth { IfOk result (λ table. table.depth ≡ 0) }
     ensures table { IfOk result (λ table. IsTable (tables_of world.now) assume 0 table.rows.items) }
-    ensures settled { IfOk result (λ table. IsSettled (tables_of world.now) assume 0 table.rows.items) }
+    ensures settled { IfOk result (λ table.
+        IsSettled (tables_of world.now) assume 0 table.rows.items) }
 {
     let mut rows = Vec::new(alloc);
     for source in 0..world.refs.len() as u32 {
@@ -52,7 +53,8 @@ fn first_row(
     requires order { IsOrderOf world.now.bounds order.now }
     requires pointees { ArePointees (tables_of world.now) assume pointees.now.items.items }
     requires source { source.0 < length world.now.refs }
-    ensures { (t : ℕ) → IsFirst (tables_of world.now) assume source.0 t (slice_index_or result t Unjudged) }
+    ensures { (t : ℕ)
+        → IsFirst (tables_of world.now) assume source.0 t (slice_index_or result t Unjudged) }
 {
     let mut row = [Standing::Unjudged; MOST];
     for target in 0..world.refs.len() {

@@ -13,8 +13,8 @@ use crate::pointees::Pointees;
 use std::alloc::Global;
 use tm_base::{Assume, Memory, RefTest, World};
 
-/// Whether the values of the pointees of a pair go together, where the test says which references in
-/// them do: forward, and where the target is `&mut` also back.
+/// Whether the values of the pointees of a pair go together, where the test says which references
+/// in them do: forward, and where the target is `&mut` also back.
 pub fn go_together<M: RefTest>(
     alloc: Global,
     world: &World,
@@ -24,10 +24,12 @@ pub fn go_together<M: RefTest>(
     pair: Pair,
 ) -> Result<bool, Memory>
     requires pointees { ArePointees (tables_of world.now) assume pointees.now.items.items }
-    requires judged { OnRows (slice_get world.now.refs pair.source.0) (slice_get world.now.refs pair.target.0)
+    requires judged { OnRows
+        (slice_get world.now.refs pair.source.0) (slice_get world.now.refs pair.target.0)
         (AreJudged (tables_of world.now)) }
     ensures { IfOk result (λ together. IsTrue together
-        ↔ OnRows (slice_get world.now.refs pair.source.0) (slice_get world.now.refs pair.target.0)
+        ↔ OnRows
+        (slice_get world.now.refs pair.source.0) (slice_get world.now.refs pair.target.0)
         (GoTogether (tables_of world.now) assume (holds (M.test refs.now)))) }
 {
     let (Some(source), Some(target)) = (pointees.get(pair.source), pointees.get(pair.target)) else {

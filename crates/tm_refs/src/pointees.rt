@@ -36,7 +36,8 @@ impl Pointees {
         assume: Assume,
     ) -> Result<Pointees, Memory>
         requires made { IsMadeFor (tables_of world.now) layouts.now }
-        ensures { IfOk result (λ pointees. ArePointees (tables_of world.now) assume pointees.items.items) }
+        ensures { IfOk result (λ pointees.
+            ArePointees (tables_of world.now) assume pointees.items.items) }
     {
         let mut items = Vec::new(alloc);
         for row in world.refs.as_slice() {

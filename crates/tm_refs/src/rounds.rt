@@ -26,15 +26,19 @@ pub struct Rounds<'a> {
 }
 
 impl Rounds<'_> {
-    /// Solves the table: looks at each pair, and then, round by round, at those that depend on a pair that was
-    /// lost in the round before, until none is.
+    /// Solves the table: looks at each pair, and then, round by round, at those that depend on a pair
+    /// that was lost in the round before, until none is.
     pub fn solve<L: Ledger>(&self, mut table: Table, looks: &mut Steps<L>) -> Result<Table, Memory>
-        requires pointees { ArePointees (tables_of self.now.world.now) self.now.assume self.now.pointees.items.items }
+        requires pointees { ArePointees
+            (tables_of self.now.world.now) self.now.assume self.now.pointees.items.items }
         requires leaves { AreLeavesOf (tables_of self.now.world.now) self.now.leaves.rows.items }
         requires start { table.depth ≡ 0 }
-        requires table { IsTable (tables_of self.now.world.now) self.now.assume 0 table.rows.items }
-        requires settled { IsSettled (tables_of self.now.world.now) self.now.assume 0 table.rows.items }
-        ensures solved { IfOk result (λ solved. IsSolvedTable (tables_of self.now.world.now) self.now.assume solved.rows.items) }
+        requires table { IsTable
+            (tables_of self.now.world.now) self.now.assume 0 table.rows.items }
+        requires settled { IsSettled
+            (tables_of self.now.world.now) self.now.assume 0 table.rows.items }
+        ensures solved { IfOk result (λ solved. IsSolvedTable
+            (tables_of self.now.world.now) self.now.assume solved.rows.items) }
         ensures looks { (compatible : ℕ → ℕ → Bool)
             → IsCompatibility (tables_of self.now.world.now) self.now.assume compatible
             → looks.new ≤ looks.old + most_looks (tables_of self.now.world.now) compatible }
@@ -49,20 +53,25 @@ impl Rounds<'_> {
         }
     }
 
-    /// Looks at some pairs, one level deeper than the table is, and answers those that are lost. A pair that
-    /// isn't looked at stays.
+    /// Looks at some pairs, one level deeper than the table is, and answers those that are lost. A pair
+    /// that isn't looked at stays.
     fn round<L: Ledger>(
         &self,
         table: &mut Table,
         asked: &[Pair],
         looks: &mut Steps<L>,
     ) -> Result<Vec<Pair>, Memory>
-        requires pointees { ArePointees (tables_of self.now.world.now) self.now.assume self.now.pointees.items.items }
-        requires table { IsTable (tables_of self.now.world.now) self.now.assume table.old.depth table.old.rows.items }
-        requires settled { IsSettled (tables_of self.now.world.now) self.now.assume table.old.depth table.old.rows.items }
-        requires enough { IsEnough (tables_of self.now.world.now) self.now.assume table.old.depth table.old.rows.items asked.now }
+        requires pointees { ArePointees
+            (tables_of self.now.world.now) self.now.assume self.now.pointees.items.items }
+        requires table { IsTable
+            (tables_of self.now.world.now) self.now.assume table.old.depth table.old.rows.items }
+        requires settled { IsSettled
+            (tables_of self.now.world.now) self.now.assume table.old.depth table.old.rows.items }
+        requires enough { IsEnough (tables_of self.now.world.now) self.now.assume
+            table.old.depth table.old.rows.items asked.now }
         requires room { table.old.depth + 1 < 2 ^ 32 }
-        ensures round { IfOk result (λ lost. IsRound (tables_of self.now.world.now) self.now.assume table.old.depth table.old.rows.items table.new.rows.items lost.items) }
+        ensures round { IfOk result (λ lost. IsRound (tables_of self.now.world.now) self.now.assume
+            table.old.depth table.old.rows.items table.new.rows.items lost.items) }
         ensures depth { IfOk result (λ lost. table.new.depth ≡ table.old.depth + 1) }
         ensures looks { looks.new ≤ looks.old + length asked.now }
     {
@@ -74,8 +83,8 @@ impl Rounds<'_> {
         Ok(lost)
     }
 
-    /// Looks at a pair that is held, one level deeper than the table is, and loses it where that level speaks
-    /// against it.
+    /// Looks at a pair that is held, one level deeper than the table is, and loses it where that level
+    /// speaks against it.
     fn look<L: Ledger>(
         &self,
         table: &mut Table,
@@ -83,12 +92,16 @@ impl Rounds<'_> {
         lost: &mut Vec<Pair>,
         looks: &mut Steps<L>,
     ) -> Result<(), Memory>
-        requires pointees { ArePointees (tables_of self.now.world.now) self.now.assume self.now.pointees.items.items }
-        requires table { IsTable (tables_of self.now.world.now) self.now.assume table.old.depth table.old.rows.items }
-        requires settled { IsSettled (tables_of self.now.world.now) self.now.assume (suc table.old.depth) table.old.rows.items }
+        requires pointees { ArePointees
+            (tables_of self.now.world.now) self.now.assume self.now.pointees.items.items }
+        requires table { IsTable
+            (tables_of self.now.world.now) self.now.assume table.old.depth table.old.rows.items }
+        requires settled { IsSettled (tables_of self.now.world.now) self.now.assume
+            (suc table.old.depth) table.old.rows.items }
         requires room { table.old.depth + 1 < 2 ^ 32 }
-        ensures look { OnOk result (IsLook (tables_of self.now.world.now) self.now.assume table.old.depth
-            table.old.rows.items table.new.rows.items pair lost.old.items lost.new.items) }
+        ensures look { OnOk result (IsLook (tables_of self.now.world.now) self.now.assume
+            table.old.depth table.old.rows.items table.new.rows.items
+            pair lost.old.items lost.new.items) }
         ensures depth { table.new.depth ≡ table.old.depth }
         ensures looks { looks.new ≤ looks.old + 1 }
     {
@@ -114,7 +127,9 @@ impl Rounds<'_> {
     /// The pairs that depend on some that were lost.
     fn dependents(&self, lost: &[Pair]) -> Result<Vec<Pair>, Memory>
         requires leaves { AreLeavesOf (tables_of self.now.world.now) self.now.leaves.rows.items }
-        ensures { IfOk result (λ pairs. pairs.items ≡ filter (depends_on_some (tables_of self.now.world.now) lost.now) (all_pairs (tables_of self.now.world.now))) }
+        ensures { IfOk result (λ pairs. pairs.items ≡ filter
+            (depends_on_some (tables_of self.now.world.now) lost.now)
+            (all_pairs (tables_of self.now.world.now))) }
     {
         let pairs = pairs_below(self.alloc, self.world.refs.len() as u32)?;
         let dependents = pairs

@@ -22,7 +22,8 @@ const RULES: [LocalRule; 5] = [
 ];
 
 /// Whether a value of the reference type `r` may be taken as one of the type `t` as far as the two
-/// themselves show, and not the values that they point to. `Err`: the first local rule that is broken.
+/// show by themselves, and not the values that they point to. `Err`: the first local rule that is
+/// broken.
 pub fn local(
     world: &World,
     layouts: &Layouts,

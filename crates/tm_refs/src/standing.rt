@@ -12,8 +12,8 @@ pub enum Standing {
     Unjudged,
     /// Both pointees are judged, and this is the first local rule that the two break.
     Breaks(LocalRule),
-    /// They break no local rule, and so many levels of pointees, at least 1, are the least that speak
-    /// against them.
+    /// They break no local rule, and so many levels of pointees, at least 1, are the least that
+    /// speak against them.
     Fails(u32),
 }
 

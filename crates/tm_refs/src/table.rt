@@ -11,17 +11,21 @@ pub const MOST: usize = 64;
 /// For one source reference, what is known of it and each target reference.
 pub type Row = [Standing; MOST];
 
-/// What is known of each source reference and each target reference of a world, after so many levels of
-/// pointees were looked at. As a test of two references it answers what was known when the last level
-/// began: pairs that are lost while the next one is looked at pass it.
+/// What is known of each source reference and each target reference of a world.
+///
+/// As a test of two references it answers whether so many levels of pointees as `depth` says don't speak
+/// against them: pairs that are lost while the next level is looked at pass it.
 #[derive(Debug, Drop)]
 pub struct Table {
+    /// One for each reference of the world.
     pub rows: Vec<Row>,
+    /// How many levels of pointees were looked at.
     pub depth: u32,
 }
 
 impl RefTest for Table {
-    ghost test = { λ table source target. stands_to table.depth (standing_in table.rows.items source target) };
+    ghost test = { λ table source target.
+        stands_to table.depth (standing_in table.rows.items source target) };
 
     fn holds(&self, source: RefId, target: RefId) -> bool {
         match self.standing(source, target).depth() {
@@ -50,7 +54,8 @@ impl Table {
         self.standing(pair.source, pair.target).depth().is_none()
     }
 
-    /// Loses a pair that is held: one level more than were looked at speaks against it.
+    /// Loses a pair that is held: one level more than were looked at speaks against it. Its numbers are
+    /// the world's.
     pub fn lose(&mut self, pair: Pair)
         requires held { is_held self.old.rows.items pair ≡ true }
         requires target { pair.target.0 < 64 }
