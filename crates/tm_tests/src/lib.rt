@@ -13,6 +13,8 @@ mod lines;
 #[cfg(test)]
 mod marks;
 #[cfg(test)]
+mod references;
+#[cfg(test)]
 mod runs;
 #[cfg(test)]
 mod walks;

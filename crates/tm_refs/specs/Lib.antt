@@ -1,0 +1,8 @@
+pub mod LaidOut
+pub mod Local
+pub mod Looks
+pub mod Standings
+pub mod Solved
+pub mod Rounds
+pub mod Leaves
+pub mod Pointees
