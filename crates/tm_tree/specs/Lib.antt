@@ -1,4 +1,5 @@
 pub mod Parts
 pub mod Fit
 pub mod Laws
+pub mod Exact
 pub mod Pruned

@@ -5,6 +5,8 @@
 mod laws;
 mod pruning;
 mod rows;
+mod types;
 
 pub use laws::type_trees_are_exact;
 pub use pruning::prune;
+pub use types::tree_of;
