@@ -1,0 +1,5 @@
+pub mod LaidOut
+pub mod Local
+pub mod Looks
+pub mod Standings
+pub mod Solved

@@ -1,0 +1,100 @@
+ghost use Rattle.std.specs.Prelude.{◌≡◌, ℕ, ◌≤◌, ◌+◌, Bool, IfOk};
+ghost use Rattle.tm_base.specs.declared.assume.Assume.{Assume};
+ghost use Rattle.tm_base.specs.Tables.{Tables};
+ghost use Rattle.tm_base.specs.Worlds.{tables_of};
+ghost use Rattle.tm_layout.specs.Made.{IsMadeFor};
+ghost use Rattle.tm_refs.specs.Looks.{IsCompatibility, most_looks};
+ghost use Rattle.tm_refs.specs.Solved.{IsDepthAnswer, IsSolvedFor, IsWhyAnswer, compatible_in, depth_in, why_in};
+ghost use Rattle.tm_refs.specs.Standings.{standing_in};
+ghost use Rattle.tm_region.specs.Order.{IsOrderOf};
+
+use crate::standing::Standing;
+use std::alloc::Global;
+use std::sync::ledger::Ledger;
+use tm_base::{Assume, LocalRule, Memory, RefId, RefTest, Steps, World};
+use tm_layout::Layouts;
+use tm_region::Order;
+
+/// The most reference types that a world has.
+const MOST: usize = 64;
+
+/// For one source reference, what is known of it and each target reference.
+type Row = [Standing; MOST];
+
+/// Which references of a world may be taken as which, at every depth, under some assumptions.
+#[derive(Debug, Drop)]
+pub struct Compat {
+    assume: Assume,
+    rows: Vec<Row>,
+}
+
+impl RefTest for Compat {
+    ghost test = { λ compat source target. compatible_in compat source target };
+
+    /// Whether the source reference may be taken as the target reference, at every depth. It may not
+    /// where the world has no such reference.
+    fn holds(&self, source: RefId, target: RefId) -> bool {
+        self.standing(source, target).depth().is_none()
+    }
+}
+
+impl Compat {
+    /// The table of a world's references under some assumptions. A look at a pair, which asks what its
+    /// pointees' values are and costs the most, is one of `looks`. `Memory`: there wasn't enough memory.
+    pub fn solve<L: Ledger>(
+        alloc: Global,
+        world: &World,
+        layouts: &Layouts,
+        order: &Order,
+        assume: Assume,
+        looks: &mut Steps<L>,
+    ) -> Result<Compat, Memory>
+        requires made { IsMadeFor (tables_of world.now) layouts.now }
+        requires order { IsOrderOf world.now.bounds order.now }
+        ensures solved { IfOk result (IsSolvedFor (tables_of world.now) assume) }
+        ensures looks { (compatible : ℕ → ℕ → Bool)
+            → IsCompatibility (tables_of world.now) assume compatible
+            → looks.new ≤ looks.old + most_looks (tables_of world.now) compatible }
+    {
+        Err(Memory)
+    }
+
+    /// How many levels of pointees it takes to see that the source reference may not be taken as the
+    /// target reference: 0 where they don't meet by themselves. `None` where it may.
+    pub fn depth(&self, source: RefId, target: RefId) -> Option<u32>
+        ensures is { result ≡ depth_in self.now source.0 target.0 }
+        ensures answer { (tables : Tables) (assume : Assume) → IsSolvedFor tables assume self.now
+            → IsDepthAnswer tables assume source.0 target.0 result }
+    {
+        self.standing(source, target).depth()
+    }
+
+    /// The first local rule that the two break. `None` where they break none, where one of their
+    /// pointees isn't judged, and where the world has no such reference.
+    pub fn why(&self, source: RefId, target: RefId) -> Option<LocalRule>
+        ensures is { result ≡ why_in self.now source.0 target.0 }
+        ensures answer { (tables : Tables) (assume : Assume) → IsSolvedFor tables assume self.now
+            → IsWhyAnswer tables assume source.0 target.0 result }
+    {
+        self.standing(source, target).rule()
+    }
+
+    /// The assumptions that the table was solved for.
+    pub fn assume(&self) -> Assume
+        ensures { (tables : Tables) (assume : Assume) → IsSolvedFor tables assume self.now
+            → result ≡ assume }
+    {
+        self.assume
+    }
+
+    /// What is known of two references.
+    fn standing(&self, source: RefId, target: RefId) -> Standing
+        ensures { result ≡ standing_in self.now.rows.items source.0 target.0 }
+    {
+        let row = self.rows.get(source.0 as usize);
+        match row.and_then(|row| row.get(target.0 as usize)) {
+            Some(standing) => *standing,
+            None => Standing::Unjudged,
+        }
+    }
+}
