@@ -2,6 +2,8 @@
 #![tactic(auto)]
 
 mod reached;
+mod refusal;
 mod words;
 
+pub use refusal::rule_at;
 pub use words::{fit, less};
