@@ -1,0 +1,125 @@
+-- The symbols by which a pair is expanded give all its steps.
+use Rattle.std.proofs.Common.{◌≡◌, ◌≢◌, ℕ, zero, suc, ◌+◌, ◌<◌, ◌≤◌, ◌⊎◌, inl, inr, Bool, true, false, ◌&&◌, cond, nat_lt, List, [], ◌∷◌, ◌++◌, map, length, refl, sym, ap, ◌∙◌, subst, arith}
+use Rattle.std.specs.Prelude.{◌==◌, ◌||◌}
+use Rattle.std.proofs.lemmas.Bool.{cases_lt}
+use Rattle.tm_base.specs.declared.cell.Cell.{Cell}
+use Rattle.tm_base.specs.declared.cell.Cell.TheVariants as cell
+use Rattle.tm_base.specs.Orders.{cell_less}
+use Rattle.tm_base.specs.Transmutes.{holds}
+use Rattle.tm_base.proofs.OrderLemmas.{cell_less-asym}
+use Rattle.tm_auto.specs.declared.edge.Edge.{Edge}
+use Rattle.tm_auto.specs.declared.edge.Symbol.{Symbol}
+use Rattle.tm_auto.specs.declared.edge.Symbol.TheVariants as symbol
+use Rattle.tm_auto.specs.Automata.{Automaton, equal}
+use Rattle.tm_auto.specs.Classes.{HasCell, IsFormed, AreInOrder, LeavesSet, TakesFrom, AreClasses}
+use Rattle.tm_auto.specs.Labels.{Takes}
+use Rattle.tm_auto.specs.Paths.{Among, here, there}
+use Rattle.tm_auto.specs.Sets.{has_state, with_state, passes, next, symbol_of}
+use Rattle.tm_auto.proofs.AmongLemmas.{none_among, some_among}
+use Rattle.tm_auto.proofs.SetLemmas.{bool_cases, has_to}
+use Rattle.tm_auto.proofs.StepLemmas.{passes_takes, next_to, to_next}
+use Rattle.tm_walk.specs.Layers.{Entry, Precedes, AreRising, first_cell, source_step, target_step, offers, AreSymbols, Goes, IsStepFrom, AreStepsFrom}
+use Rattle.tm_walk.proofs.NumberLemmas.{among_map, among_unmap}
+use Rattle.tm_walk.proofs.OfferLemmas.{among_one}
+
+-- two symbols that the same edges pass lead to the same set
+pub next_same : (A : ℕ → ℕ → Bool) (es : List Edge) (from : List ℕ) (x y : Symbol) → ((e : Edge) → Among e es → Among e.from from → passes A e.label x ≡ passes A e.label y) → next A es from x ≡ next A es from y
+next_same A [] from x y h = refl
+next_same A (e ∷ es) from x y h =
+    let rest = next_same A es from x y (λ f m l. h f (there m) l) in
+    elim (bool_cases (has_state from e.from)) [
+      | inl a ↦ (let p = h e here (has_to from e.from a) in rw (p, rest) refl)
+      | inr a ↦ rw (a, rest) refl
+    ]
+
+first_in : (x : Symbol) → IsFormed x → HasCell x (first_cell x)
+first_in (symbol.Bytes first last) f = (omega arith, f.0)
+first_in symbol.Uninit f = refl
+first_in (symbol.Ptr r k) f = refl
+
+cell_less-irreflexive : (c : Cell) → cell_less c c ≡ false
+cell_less-irreflexive c = elim (bool_cases (cell_less c c)) [ inl a ↦ (let b = cell_less-asym c c a in cc) | inr a ↦ a ]
+
+-- no cell of a symbol is less than its first
+first_least : (x : Symbol) (c : Cell) → HasCell x c → cell_less c (first_cell x) ≡ false
+first_least (symbol.Bytes first last) (cell.Byte b) h = less b first (h.0)
+  where
+    less : (b a : ℕ) → a ≤ b → nat_lt b a ≡ false
+    less b a l = grind arith
+first_least (symbol.Bytes first last) cell.Uninit h = absurd h
+first_least (symbol.Bytes first last) (cell.Ptr r k) h = absurd h
+first_least symbol.Uninit c h = subst (λ (z : Cell). cell_less z cell.Uninit ≡ false) (sym h) refl
+first_least (symbol.Ptr r k) c h = subst (λ (z : Cell). cell_less z (cell.Ptr r k) ≡ false) (sym h) (cell_less-irreflexive (cell.Ptr r k))
+
+module _ (A : ℕ → ℕ → Bool) (src dst : Automaton) (from to : List ℕ) (k : ℕ) where
+  abbrev offer : Symbol → Entry
+  offer x = record { src = source_step A src dst from x; dst = target_step A src dst to x; parent = k; cell = first_cell x }
+
+  pub offers_rise : (xs : List Symbol) → AreInOrder xs → ((x : Symbol) → Among x xs → IsFormed x) → AreRising (offers A src dst from to k xs)
+  offers_rise [] o f = tt
+  offers_rise (x ∷ xs) o f = (
+    λ e m. (let (y, n, q) = among_unmap offer xs e m in
+      subst (λ (z : Entry). Precedes (offer x) z) q (inr (refl, o.0 y (first_cell x) (first_cell y) n (first_in x (f x here)) (first_in y (f y (there n)))))),
+    offers_rise xs o.1 (λ y n. f y (there n)),
+  )
+
+  module _ (xs : List Symbol) (c : AreClasses src from dst to xs) where
+    source_same : (x : Symbol) (d : Cell) → Among x xs → HasCell x d → source_step A src dst from x ≡ source_step A src dst from (symbol_of d)
+    source_same x d m h = next_same equal src.edges from x (symbol_of d) (λ e em ef. c.alike equal x d e m h (inl (em, ef)))
+
+    target_same : (x : Symbol) (d : Cell) → Among x xs → HasCell x d → target_step A src dst to x ≡ target_step A src dst to (symbol_of d)
+    target_same x d m h = next_same A dst.edges to x (symbol_of d) (λ e em ef. c.alike A x d e m h (inr (em, ef)))
+
+    taken : (d : Cell) → source_step A src dst from (symbol_of d) ≢ [] → TakesFrom src from d
+    taken d some =
+        let (s, m) = some_among _ some in
+        let (e, ea, ef, ep, eq) = next_to equal src.edges from (symbol_of d) s m in
+        (e, (ea, ef), (passes_takes equal e.label d).0 ep)
+
+    takes_on : (d : Cell) → TakesFrom src from d → source_step A src dst from (symbol_of d) ≢ []
+    takes_on d (e, (ea, ef), t) none =
+        let m = to_next equal src.edges from (symbol_of d) e ea ef ((passes_takes equal e.label d).1 t) in
+        none_among (subst (λ (z : List ℕ). Among e.to z) none m)
+
+    steps_within : (place : ℕ) → place < src.size → (p : Entry) → p.src ≡ from → p.dst ≡ to → AreStepsFrom A src dst place p k (offers A src dst from to k xs)
+    steps_within place l p ps pd = record {
+      each = λ e m.
+        let (x, n, q) = among_unmap offer xs e m in
+        let h = first_in x (c.formed x n) in
+        subst (λ (z : Entry). IsStepFrom A src dst place p k z) q (record {
+          parent = refl;
+          goes = (λ w. subst (λ (z : List ℕ). source_step A src dst z (symbol_of (first_cell x)) ≢ []) (sym ps) (takes_on (first_cell x) ((c.covers (first_cell x)).1 (x, n, h))), λ w. absurd (omega arith));
+          source = subst (λ (z : List ℕ). source_step A src dst from x ≡ source_step A src dst z (symbol_of (first_cell x))) (sym ps) (source_same x (first_cell x) n h);
+          target = subst (λ (z : List ℕ). target_step A src dst to x ≡ target_step A src dst z (symbol_of (first_cell x))) (sym pd) (target_same x (first_cell x) n h);
+        });
+      rising = offers_rise xs c.ordered c.formed;
+      covers = λ d g.
+        let (x, n, h) = (c.covers d).0 (taken d (subst (λ (z : List ℕ). source_step A src dst z (symbol_of d) ≢ []) ps (g.0 l))) in
+        (offer x, among_map offer xs x n,
+          subst (λ (z : List ℕ). source_step A src dst from x ≡ source_step A src dst z (symbol_of d)) (sym ps) (source_same x d n h),
+          subst (λ (z : List ℕ). target_step A src dst to x ≡ target_step A src dst z (symbol_of d)) (sym pd) (target_same x d n h),
+          first_least x d h);
+    }
+
+  steps_behind : (place : ℕ) → src.size ≤ place → (p : Entry) → p.src ≡ from → p.dst ≡ to → AreStepsFrom A src dst place p k (offers A src dst from to k (symbol.Uninit ∷ []))
+  steps_behind place l p ps pd = record {
+    each = λ e m. subst (λ (z : Entry). IsStepFrom A src dst place p k z) (sym (among_one e (offer symbol.Uninit) m)) (record {
+      parent = refl;
+      goes = (λ w. absurd (omega arith), λ w. refl);
+      source = ap (λ (z : List ℕ). source_step A src dst z symbol.Uninit) (sym ps);
+      target = ap (λ (z : List ℕ). target_step A src dst z symbol.Uninit) (sym pd);
+    });
+    rising = (λ f m. absurd (none_among m), tt);
+    covers = λ d g.
+      let u : d ≡ cell.Uninit = g.1 l in
+      (offer symbol.Uninit, here,
+        subst (λ (z : Cell). source_step A src dst from symbol.Uninit ≡ source_step A src dst p.src (symbol_of z)) (sym u) (ap (λ (z : List ℕ). source_step A src dst z symbol.Uninit) (sym ps)),
+        subst (λ (z : Cell). target_step A src dst to symbol.Uninit ≡ target_step A src dst p.dst (symbol_of z)) (sym u) (ap (λ (z : List ℕ). target_step A src dst z symbol.Uninit) (sym pd)),
+        subst (λ (z : Cell). cell_less z cell.Uninit ≡ false) (sym u) refl);
+  }
+
+  pub steps_are : (xs : List Symbol) (place : ℕ) → AreSymbols A src dst place from to xs → (p : Entry) → p.src ≡ from → p.dst ≡ to → AreStepsFrom A src dst place p k (offers A src dst from to k xs)
+  steps_are xs place s p ps pd = elim (cases_lt place src.size) [
+    | inl l ↦ steps_within xs (s.within l) place l p ps pd
+    | inr l ↦ subst (λ (z : List Symbol). AreStepsFrom A src dst place p k (offers A src dst from to k z)) (sym (s.behind l)) (steps_behind place l p ps pd)
+  ]

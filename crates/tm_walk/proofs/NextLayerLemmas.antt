@@ -1,0 +1,135 @@
+-- One pair after the other is expanded into the next layer.
+use Rattle.std.proofs.Common.{◌≡◌, ◌≢◌, ℕ, zero, suc, ◌+◌, ◌<◌, ◌≤◌, ◌⊎◌, inl, inr, Bool, true, false, cond, List, [], ◌∷◌, ◌++◌, length, take, Some, slice_get, refl, sym, ap, ◌∙◌, subst, arith}
+use Rattle.std.proofs.lemmas.Bool.{cases_lt}
+use Rattle.std.proofs.lemmas.Option.{slice_get_within, same_Some}
+use Rattle.tm_base.specs.declared.cell.Cell.{Cell}
+use Rattle.tm_base.specs.Orders.{cell_less}
+use Rattle.tm_base.proofs.OrderLemmas.{cell_less-total, cell_less-trans, cell_less-asym}
+use Rattle.tm_auto.specs.Automata.{Automaton}
+use Rattle.tm_auto.specs.Paths.{Among, here, there}
+use Rattle.tm_auto.specs.Sets.{symbol_of}
+use Rattle.tm_auto.proofs.AmongLemmas.{among_left, among_right, among_either, none_among}
+use Rattle.tm_auto.proofs.SetLemmas.{bool_cases}
+use Rattle.tm_walk.specs.Layers.{is_live, weight, weights, Entry, HaveSameSets, Precedes, IsHeld, AreOffered, source_step, target_step, Goes, IsStepFrom, AreStepsFrom, IsExpanded, IsFrom, IsReached, IsNext}
+use Rattle.tm_walk.proofs.OfferLemmas.{Keeps, keeps, rising-append, apart-append}
+
+-- a cell that isn't less than one that isn't less than a third isn't less than that
+pub not_less_trans : (c d e : Cell) → cell_less c d ≡ false → cell_less d e ≡ false → cell_less c e ≡ false
+not_less_trans c d e a b = elim (bool_cases (cell_less c e)) [
+  | inr z ↦ z
+  | inl z ↦ elim (bool_cases (cell_less d c)) [
+    | inl y ↦ (let w = cell_less-trans d c e y z in cc)
+    | inr y ↦ (let same : c ≡ d = cell_less-total c d a y in let w = subst (λ (x : Cell). cell_less x e ≡ true) same z in cc)
+  ]
+]
+
+module _ (A : ℕ → ℕ → Bool) (src dst : Automaton) (skip : Bool → Bool) (place : ℕ) (layer : List Entry) where
+  pub next_none : IsNext A src dst skip place layer 0 []
+  next_none = record {
+    from = λ e m. absurd (none_among m); before = λ e m. absurd (none_among m); rising = tt; apart = tt;
+    done = λ k x c l. absurd (omega arith);
+  }
+
+  reached_left : (next more : List Entry) (x : Entry) (k : ℕ) (c : Cell) → IsReached A src dst skip place layer next x k c → IsReached A src dst skip place layer (next ++ more) x k c
+  reached_left next more x k c r = record { entry = r.entry; among = among_left more r.among; source = r.source; target = r.target; early = r.early }
+
+  -- a skipped pair makes nothing
+  next_skipped : (n : ℕ) (next : List Entry) (p : Entry) → IsNext A src dst skip place layer n next → slice_get layer n ≡ Some p → skip (is_live p.dst) ≡ true → IsNext A src dst skip place layer (n + 1) next
+  next_skipped n next p i at skipped = record {
+    from = i.from; before = λ e m. let b = i.before e m in omega arith; rising = i.rising; apart = i.apart;
+    done = λ k x c l a s g. elim (cases_lt k n) [
+      | inl m ↦ i.done k x c m a s g
+      | inr m ↦ (
+          let q : k ≡ n = omega arith in
+          let same : x ≡ p = same_Some x p (sym a ∙ ap (slice_get layer) q ∙ at) in
+          let z = subst (λ (y : Entry). skip (is_live y.dst) ≡ false) same s in
+          cc)
+    ];
+  }
+
+  module _ (n : ℕ) (next after : List Entry) (p : Entry) (i : IsNext A src dst skip place layer n next) (at : slice_get layer n ≡ Some p) (goes_on : skip (is_live p.dst) ≡ false)
+      (es : List Entry) (s : AreStepsFrom A src dst place p n es) (offered : AreOffered es next after) where
+    new_parent : (k : Keeps es next after) (e : Entry) → Among e k.more → e.parent ≡ n
+    new_parent k e m = (s.each e (k.from e m)).parent
+
+    next_grown : (k : Keeps es next after) → IsNext A src dst skip place layer (n + 1) (next ++ k.more)
+    next_grown k = record {
+      from = λ e m. elim (among_either next k.more m) [
+        | inl a ↦ i.from e a
+        | inr a ↦ (
+            let q = new_parent k e a in
+            record {
+              pair = p; at = ap (slice_get layer) q ∙ at; goes_on = goes_on;
+              step = subst (λ (z : ℕ). IsStepFrom A src dst place p z e) (sym q) (s.each e (k.from e a));
+            })
+      ];
+      before = λ e m. elim (among_either next k.more m) [
+        | inl a ↦ (let b = i.before e a in omega arith)
+        | inr a ↦ (let q = new_parent k e a in omega arith)
+      ];
+      rising = rising-append next k.more i.rising k.rising (λ e f m o. inl (let b = i.before e m in let q = new_parent k f o in omega arith));
+      apart = apart-append next k.more i.apart k.apart k.fresh;
+      done = λ j x c l a t g. elim (cases_lt j n) [
+        | inl m ↦ reached_left next k.more x j c (i.done j x c m a t g)
+        | inr m ↦ (
+            let q : j ≡ n = omega arith in
+            let same : x ≡ p = same_Some x p (sym a ∙ ap (slice_get layer) q ∙ at) in
+            let (o, om, os, od, ol) = s.covers c (subst (λ (y : Entry). Goes A src dst place y.src c) same g) in
+            let h = k.early o om in
+            let parent : o.parent ≡ n = (s.each o om).parent in
+            record {
+              entry = h.entry;
+              among = elim h.where_ [ inl b ↦ among_left k.more b | inr b ↦ among_right next b.0 ];
+              source = h.same.0 ∙ os ∙ ap (λ (y : Entry). source_step A src dst y.src (symbol_of c)) (sym same);
+              target = h.same.1 ∙ od ∙ ap (λ (y : Entry). target_step A src dst y.dst (symbol_of c)) (sym same);
+              early = elim h.where_ [
+                | inl b ↦ inl (let z = i.before h.entry b in omega arith)
+                | inr b ↦ elim b.1 [
+                  | inl e ↦ inr (ap (λ (y : Entry). y.parent) e ∙ parent ∙ sym q, subst (λ (y : Entry). cell_less c y.cell ≡ false) (sym e) ol)
+                  | inr e ↦ elim e [
+                    | inl z ↦ inl (omega arith)
+                    | inr z ↦ inr (z.0 ∙ parent ∙ sym q, not_less_trans c o.cell h.entry.cell ol (cell_less-asym h.entry.cell o.cell z.1))
+                  ]
+                ]
+              ];
+            })
+      ];
+    }
+
+    next_stepped : IsNext A src dst skip place layer (n + 1) after
+    next_stepped = let k = keeps es next after s.rising offered in subst (λ (z : List Entry). IsNext A src dst skip place layer (n + 1) z) (sym k.is) (next_grown k)
+
+  -- one more pair is expanded
+  pub next_more : (n : ℕ) (next after : List Entry) → IsNext A src dst skip place layer n next → IsExpanded A src dst skip place layer n next after → IsNext A src dst skip place layer (n + 1) after
+  next_more n next after i x = elim x.either [
+    | inl a ↦ subst (λ (z : List Entry). IsNext A src dst skip place layer (n + 1) z) (sym a.1) (next_skipped n next x.pair i x.at a.0)
+    | inr a ↦ (let (es, s, offered) = a.1 in next_stepped n next after x.pair i x.at a.0 es s offered)
+  ]
+
+-- ---- how many pairs are expanded
+
+pub weights_more : (skip : Bool → Bool) (layer : List Entry) (i : ℕ) (x : Entry) → slice_get layer i ≡ Some x → weights skip (take (suc i) layer) ≡ weights skip (take i layer) + weight skip x
+weights_more skip [] i x h = cc
+weights_more skip (e ∷ es) zero x h = let q : e ≡ x = cc in let z = ap (weight skip) q in omega arith
+weights_more skip (e ∷ es) (suc i) x h = let r = weights_more skip es i x h in omega arith
+
+pub weights_most : (skip : Bool → Bool) (layer : List Entry) (i : ℕ) → weights skip (take i layer) ≤ weights skip layer
+weights_most skip [] zero = omega arith
+weights_most skip [] (suc i) = omega arith
+weights_most skip (e ∷ es) zero = omega arith
+weights_most skip (e ∷ es) (suc i) = let h = weights_most skip es i in omega arith
+
+-- where no two are both expanded, at most one is
+pub weights_one : (skip : Bool → Bool) (layer : List Entry) → ((j k : ℕ) (e f : Entry) → j < k → slice_get layer j ≡ Some e → slice_get layer k ≡ Some f → skip (is_live e.dst) ≡ false → skip (is_live f.dst) ≡ false → ⊥) → weights skip layer ≤ 1
+weights_one skip [] h = omega arith
+weights_one skip (e ∷ es) h = elim (bool_cases (skip (is_live e.dst))) [
+  | inl a ↦ rw a (let r = weights_one skip es (λ j k x y l p q s t. h (suc j) (suc k) x y (omega arith) p q s t) in omega arith)
+  | inr a ↦ rw a (let r : weights skip es ≡ 0 = none es (λ k y q t. h 0 (suc k) e y (omega arith) refl q a t) in omega arith)
+]
+  where
+    none : (fs : List Entry) → ((k : ℕ) (y : Entry) → slice_get fs k ≡ Some y → skip (is_live y.dst) ≡ false → ⊥) → weights skip fs ≡ 0
+    none [] g = refl
+    none (f ∷ fs) g = elim (bool_cases (skip (is_live f.dst))) [
+      | inl a ↦ rw a (let r = none fs (λ k y q t. g (suc k) y q t) in omega arith)
+      | inr a ↦ absurd (g 0 f refl a)
+    ]

@@ -1,0 +1,107 @@
+-- Pairs offered in rising order: what becomes of them.
+use Rattle.std.proofs.Common.{◌≡◌, ℕ, zero, suc, ◌<◌, ◌≤◌, ◌⊎◌, inl, inr, List, [], ◌∷◌, ◌++◌, Some, slice_get, refl, sym, ap, ◌∙◌, subst, arith, append_assoc}
+use Rattle.std.proofs.lemmas.List.{append-nil}
+use Rattle.tm_auto.specs.Paths.{Among, here, there}
+use Rattle.tm_auto.proofs.AmongLemmas.{among_left, among_right, among_either, none_among}
+use Rattle.tm_walk.specs.Layers.{Entry, HaveSameSets, Precedes, AreRising, AreApart, IsHeld, IsOffered, AreOffered}
+use Rattle.tm_walk.proofs.NumberLemmas.{get_among}
+
+pub among_one : {X : Type 0} (x y : X) → Among x (y ∷ []) → x ≡ y
+among_one x y here = refl
+among_one x y (there h) = elim h [ ]
+
+pub among_cases : {X : Type 0} {xs : List X} (x y : X) → Among y (x ∷ xs) → (y ≡ x) ⊎ Among y xs
+among_cases x y here = inl refl
+among_cases x y (there h) = inr h
+
+held_left : (e : Entry) (xs ys : List Entry) → IsHeld e xs → IsHeld e (xs ++ ys)
+held_left e xs ys (f, m, s) = (f, among_left ys m, s)
+
+-- the first offered pair of some sets, or one that was there
+pub record HasEarly (before more : List Entry) (o : Entry) : Type 0 where
+  pub entry : Entry
+  pub same : HaveSameSets entry o
+  pub where_ : Among entry before ⊎ (Among entry more × ((entry ≡ o) ⊎ Precedes entry o))
+
+-- what is put behind those that were there
+pub record Keeps (es before after : List Entry) : Type 0 where
+  pub more : List Entry
+  pub is : after ≡ before ++ more
+  pub from : (f : Entry) → Among f more → Among f es
+  pub fresh : (f : Entry) → Among f more → ¬ IsHeld f before
+  pub apart : AreApart more
+  pub rising : AreRising more
+  pub early : (o : Entry) → Among o es → HasEarly before more o
+
+pub keeps : (es before after : List Entry) → AreRising es → AreOffered es before after → Keeps es before after
+keeps [] before after rise is = record {
+  more = []; is = is ∙ sym (append-nil before);
+  from = λ f m. m; fresh = λ f m. absurd (none_among m); apart = tt; rising = tt; early = λ o m. absurd (none_among m);
+}
+keeps (e ∷ es) before after (first, rise) (between, inl ((f, m, s), q), rest) =
+    let k = keeps es before after rise (subst (λ (z : List Entry). AreOffered es z after) q rest) in
+    record {
+      more = k.more; is = k.is;
+      from = λ g h. there (k.from g h);
+      fresh = k.fresh; apart = k.apart; rising = k.rising;
+      early = λ o h. elim (among_cases e o h) [
+        | inl z ↦ record { entry = f; same = (s.0 ∙ ap (λ (x : Entry). x.src) (sym z), s.1 ∙ ap (λ (x : Entry). x.dst) (sym z)); where_ = inl m }
+        | inr n ↦ k.early o n
+      ];
+    }
+keeps (e ∷ es) before after (first, rise) (between, inr (q, new), rest) =
+    let k = keeps es (before ++ e ∷ []) after rise (subst (λ (z : List Entry). AreOffered es z after) q rest) in
+    record {
+      more = e ∷ k.more;
+      is = k.is ∙ append_assoc before (e ∷ []) k.more;
+      from = λ g h. elim (among_cases e g h) [ inl z ↦ subst (λ (x : Entry). Among x (e ∷ es)) (sym z) here | inr n ↦ there (k.from g n) ];
+      fresh = λ g h i. elim (among_cases e g h) [
+        | inl z ↦ new (subst (λ (x : Entry). IsHeld x before) z i)
+        | inr n ↦ k.fresh g n (held_left g before (e ∷ []) i)
+      ];
+      apart = (λ g h s. k.fresh g h (e, among_right before here, s), k.apart);
+      rising = (λ g h. first g (k.from g h), k.rising);
+      early = λ o h. elim (among_cases e o h) [
+        | inl z ↦ record { entry = e; same = (ap (λ (x : Entry). x.src) (sym z), ap (λ (x : Entry). x.dst) (sym z)); where_ = inr (here, inl (sym z)) }
+        | inr n ↦ (let a = k.early o n in placed k.more o n a.entry a.same a.where_)
+      ];
+    }
+  where
+    placed : (more : List Entry) (o : Entry) → Among o es → (f : Entry) → HaveSameSets f o → Among f (before ++ e ∷ []) ⊎ (Among f more × ((f ≡ o) ⊎ Precedes f o)) → HasEarly before (e ∷ more) o
+    placed more o n f s (inr (m, p)) = record { entry = f; same = s; where_ = inr (there m, p) }
+    placed more o n f s (inl m) = elim (among_either before (e ∷ []) m) [
+      | inl a ↦ record { entry = f; same = s; where_ = inl a }
+      | inr a ↦ record { entry = f; same = s; where_ = inr (subst (λ (x : Entry). Among x (e ∷ more)) (sym (among_one f e a)) here, inr (subst (λ (x : Entry). Precedes x o) (sym (among_one f e a)) (first o n))) }
+    ]
+
+-- ---- lists one behind the other
+
+pub rising-append : (xs ys : List Entry) → AreRising xs → AreRising ys → ((e f : Entry) → Among e xs → Among f ys → Precedes e f) → AreRising (xs ++ ys)
+rising-append [] ys a b h = b
+rising-append (x ∷ xs) ys a b h = (
+  λ f m. elim (among_either xs ys m) [ inl k ↦ a.0 f k | inr k ↦ h x f here k ],
+  rising-append xs ys a.1 b (λ e f m n. h e f (there m) n),
+)
+
+pub apart-append : (xs ys : List Entry) → AreApart xs → AreApart ys → ((f : Entry) → Among f ys → ¬ IsHeld f xs) → AreApart (xs ++ ys)
+apart-append [] ys a b h = b
+apart-append (x ∷ xs) ys a b h = (
+  λ f m s. elim (among_either xs ys m) [ inl k ↦ a.0 f k s | inr k ↦ h f k (x, here, s) ],
+  apart-append xs ys a.1 b (λ f m (g, n, s). h f m (g, there n, s)),
+)
+
+-- ---- by places
+
+pub rising_at : (es : List Entry) → AreRising es → (j k : ℕ) (e f : Entry) → j < k → slice_get es j ≡ Some e → slice_get es k ≡ Some f → Precedes e f
+rising_at [] r j k e f l a b = cc
+rising_at (x ∷ es) r zero zero e f l a b = absurd (omega arith)
+rising_at (x ∷ es) r zero (suc k) e f l a b = let q : x ≡ e = cc in subst (λ (z : Entry). Precedes z f) q (r.0 f (get_among es k f b))
+rising_at (x ∷ es) r (suc j) zero e f l a b = absurd (omega arith)
+rising_at (x ∷ es) r (suc j) (suc k) e f l a b = rising_at es r.1 j k e f (omega arith) a b
+
+pub apart_at : (es : List Entry) → AreApart es → (j k : ℕ) (e f : Entry) → j < k → slice_get es j ≡ Some e → slice_get es k ≡ Some f → ¬ HaveSameSets e f
+apart_at [] r j k e f l a b = cc
+apart_at (x ∷ es) r zero zero e f l a b = absurd (omega arith)
+apart_at (x ∷ es) r zero (suc k) e f l a b = let q : x ≡ e = cc in subst (λ (z : Entry). ¬ HaveSameSets z f) q (r.0 f (get_among es k f b))
+apart_at (x ∷ es) r (suc j) zero e f l a b = absurd (omega arith)
+apart_at (x ∷ es) r (suc j) (suc k) e f l a b = apart_at es r.1 j k e f (omega arith) a b

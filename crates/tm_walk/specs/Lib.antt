@@ -1,0 +1,4 @@
+pub mod Sought
+pub mod Meanings
+pub mod Layers
+pub mod Numbers

@@ -1,0 +1,91 @@
+ghost use Rattle.std.specs.Prelude.{◌≡◌, ◌<◌, [], Some, IfOk, OnOk, length, map, slice_get};
+ghost use Rattle.tm_walk.specs.Layers.{Entry, IsOffered};
+ghost use Rattle.tm_walk.specs.Numbers.{entry_by, way_of};
+
+use crate::sets::Sets;
+use crate::way::{Pair, Way};
+use indexmap::IndexMap;
+use std::alloc::Global;
+use std::marker::Model;
+use tm_auto::StateSet;
+use tm_base::Memory;
+
+/// Pairs of a source's and a target's set, each once, in the order in which they were reached, with the
+/// way by which each first was. Contracts see the list of the pairs.
+#[derive(Drop)]
+pub struct Layer {
+    sources: Sets,
+    targets: Sets,
+    pairs: IndexMap<Pair, Way>,
+}
+
+impl Model for Layer {
+    ghost use Rattle.std.specs.Prelude.{List};
+    ghost use Rattle.tm_walk.specs.Layers.{Entry};
+    ghost use Rattle.tm_walk.specs.Numbers.{entries_of, AreWithin};
+
+    ghost Value = { List Entry };
+
+    ghost view = { λ layer. entries_of layer.sources layer.targets layer.pairs.entries };
+
+    ghost invariant = { λ layer. AreWithin layer.sources layer.targets layer.pairs.entries };
+}
+
+impl Layer {
+    /// No pairs. It takes no memory.
+    pub fn new(alloc: Global) -> Layer
+        ensures { result ≡ [] }
+    {
+        Layer {
+            sources: Sets::new(alloc),
+            targets: Sets::new(alloc),
+            pairs: IndexMap::new(alloc),
+        }
+    }
+
+    /// How many pairs there are.
+    pub fn len(&self) -> usize
+        ensures { result ≡ length self.now }
+    {
+        self.pairs.len()
+    }
+
+    /// The sets of the pair at a place.
+    pub fn sets(&self, place: usize) -> (&StateSet, &StateSet)
+        requires { place < length self.now }
+        ensures { ((e : Entry) × (slice_get self.now place ≡ Some e) × (result.0.now ≡ e.src) × (result.1.now ≡ e.dst)) }
+    {
+        let (pair, _) = self.pairs.get_index(place).unwrap();
+        (
+            self.sources.get(pair.source),
+            self.targets.get(pair.target),
+        )
+    }
+
+    /// Puts a pair last, unless it is there.
+    pub fn offer(
+        &mut self,
+        alloc: Global,
+        src: StateSet,
+        dst: StateSet,
+        way: Way,
+    ) -> Result<(), Memory>
+        ensures { OnOk result (IsOffered (entry_by src dst way) self.old self.new) }
+    {
+        let source = self.sources.number(alloc, src)?;
+        let target = self.targets.number(alloc, dst)?;
+        let pair = Pair { source, target };
+        if self.pairs.contains_key(&pair) {
+            return Ok(());
+        }
+        self.pairs.insert(pair, way)?;
+        Ok(())
+    }
+
+    /// The ways by which the pairs were reached, in order.
+    pub fn ways(&self, alloc: Global) -> Result<Vec<Way>, Memory>
+        ensures { IfOk result (λ ways. ways.items ≡ map way_of self.now) }
+    {
+        Ok(Vec::from_slice(alloc, self.pairs.values().as_slice())?)
+    }
+}
