@@ -1,3 +1,6 @@
 pub mod HeldLemmas
+pub mod LeafLemmas
 pub mod PointeeLemmas
 pub mod RuleLemmas
+pub mod TableLemmas
+pub mod RoundLemmas

@@ -3,3 +3,4 @@ pub mod Local
 pub mod Looks
 pub mod Standings
 pub mod Solved
+pub mod Rounds

@@ -11,11 +11,11 @@ use Rattle.tm_refs.specs.Standings.{depth_of, rule_of, standing_in}
 
 -- at which depth of pointees the table says that two references don't go together
 abbrev pub depth_in : Compat → ℕ → ℕ → Option ℕ
-depth_in compat r t = depth_of (standing_in compat.rows.items r t)
+depth_in compat r t = depth_of (standing_in compat.table.rows.items r t)
 
 -- which local rule it says that they break
 abbrev pub why_in : Compat → ℕ → ℕ → Option LocalRule
-why_in compat r t = rule_of (standing_in compat.rows.items r t)
+why_in compat r t = rule_of (standing_in compat.table.rows.items r t)
 
 -- whether the source reference r may be taken as the target reference t, by the table
 abbrev pub compatible_in : Compat → ℕ → ℕ → Bool

@@ -5,27 +5,20 @@ ghost use Rattle.tm_base.specs.Worlds.{tables_of};
 ghost use Rattle.tm_layout.specs.Made.{IsMadeFor};
 ghost use Rattle.tm_refs.specs.Looks.{IsCompatibility, most_looks};
 ghost use Rattle.tm_refs.specs.Solved.{IsDepthAnswer, IsSolvedFor, IsWhyAnswer, compatible_in, depth_in, why_in};
-ghost use Rattle.tm_refs.specs.Standings.{standing_in};
 ghost use Rattle.tm_region.specs.Order.{IsOrderOf};
 
-use crate::standing::Standing;
+use crate::table::Table;
 use std::alloc::Global;
 use std::sync::ledger::Ledger;
 use tm_base::{Assume, LocalRule, Memory, RefId, RefTest, Steps, World};
 use tm_layout::Layouts;
 use tm_region::Order;
 
-/// The most reference types that a world has.
-const MOST: usize = 64;
-
-/// For one source reference, what is known of it and each target reference.
-type Row = [Standing; MOST];
-
 /// Which references of a world may be taken as which, at every depth, under some assumptions.
 #[derive(Debug, Drop)]
 pub struct Compat {
     assume: Assume,
-    rows: Vec<Row>,
+    table: Table,
 }
 
 impl RefTest for Compat {
@@ -34,7 +27,7 @@ impl RefTest for Compat {
     /// Whether the source reference may be taken as the target reference, at every depth. It may not
     /// where the world has no such reference.
     fn holds(&self, source: RefId, target: RefId) -> bool {
-        self.standing(source, target).depth().is_none()
+        self.table.standing(source, target).depth().is_none()
     }
 }
 
@@ -66,7 +59,7 @@ impl Compat {
         ensures answer { (tables : Tables) (assume : Assume) → IsSolvedFor tables assume self.now
             → IsDepthAnswer tables assume source.0 target.0 result }
     {
-        self.standing(source, target).depth()
+        self.table.standing(source, target).depth()
     }
 
     /// The first local rule that the two break. `None` where they break none, where one of their
@@ -76,7 +69,7 @@ impl Compat {
         ensures answer { (tables : Tables) (assume : Assume) → IsSolvedFor tables assume self.now
             → IsWhyAnswer tables assume source.0 target.0 result }
     {
-        self.standing(source, target).rule()
+        self.table.standing(source, target).rule()
     }
 
     /// The assumptions that the table was solved for.
@@ -85,16 +78,5 @@ impl Compat {
             → result ≡ assume }
     {
         self.assume
-    }
-
-    /// What is known of two references.
-    fn standing(&self, source: RefId, target: RefId) -> Standing
-        ensures { result ≡ standing_in self.now.rows.items source.0 target.0 }
-    {
-        let row = self.rows.get(source.0 as usize);
-        match row.and_then(|row| row.get(target.0 as usize)) {
-            Some(standing) => *standing,
-            None => Standing::Unjudged,
-        }
     }
 }

@@ -5,6 +5,7 @@ mod compat;
 mod pair;
 mod rules;
 mod standing;
+mod table;
 
 pub use compat::Compat;
 pub use rules::local;
