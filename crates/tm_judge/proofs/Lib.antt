@@ -1,0 +1,3 @@
+pub mod ReadyLemmas
+pub mod ValueLemmas
+pub mod AutomatonLemmas

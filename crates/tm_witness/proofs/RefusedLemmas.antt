@@ -98,7 +98,7 @@ module _ (world : World) (ask : Ask) (dst : Automaton) (compat : Compat) (size :
   before = take o fitted
 
   viable : (p : Word) → IsViable (holds test) dst p ↔ Viable A keep t p
-  viable p = viable-same tables ask.dst keep dst h.automaton test A h.solved.exact p
+  viable p = viable-same tables keep ask.dst dst h.automaton test A h.solved.exact p
 
   long : length w ≡ size
   long = Valid-length Same true s w h.value ∙ sym h.sized

@@ -21,7 +21,7 @@ AutoWord-grows A B grows auto w h = record {
   reaches = record { state = h.reaches.state; among = h.reaches.among; spells = leads_wider A B grows auto.edges w h.reaches.state 0 h.reaches.spells };
 }
 
-module _ (tables : Tables) (g : Ground) (keep : Bool) (auto : Automaton) (is : IsAutomatonOf tables g keep auto) where
+module _ (tables : Tables) (keep : Bool) (g : Ground) (auto : Automaton) (is : IsAutomatonOf tables keep g auto) where
   abbrev t : Expanded
   t = expanded_in tables g
 

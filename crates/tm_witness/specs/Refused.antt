@@ -20,7 +20,7 @@ use Rattle.tm_refs.specs.Solved.{IsSolvedFor}
 
 -- The automaton of a type: whatever its references may hold, its words are the type's, with private types kept
 -- or not.
-pub record IsAutomatonOf (tables : Tables) (g : Ground) (keep : Bool) (auto : Automaton) : Type 0 where
+pub record IsAutomatonOf (tables : Tables) (keep : Bool) (g : Ground) (auto : Automaton) : Type 0 where
   pub words : (A : ℕ → ℕ → Bool) (w : Word) → AutoWord (holds A) auto w ↔ Valid (holds A) keep (expanded_in tables g) w
   pub size : auto.size ≡ size_of (expanded_in tables g)
   pub pointer : auto.pointer ≡ pointer_size tables.profile
@@ -32,7 +32,7 @@ pub record IsRefused (world : World) (ask : Ask) (dst : Automaton) (compat : Com
   pub source_over : IsTypeOver (tables_of world) ask.src
   pub target_over : IsTypeOver (tables_of world) ask.dst
   pub judged : AreJudged (tables_of world) ask
-  pub automaton : IsAutomatonOf (tables_of world) ask.dst ask.assume.safety dst
+  pub automaton : IsAutomatonOf (tables_of world) ask.assume.safety ask.dst dst
   pub solved : IsSolvedFor (tables_of world) ask.assume compat
   pub sized : size ≡ size_of (source (tables_of world) ask)
   pub value : IsValue (tables_of world) ask w
