@@ -1,6 +1,7 @@
 -- The automaton that is built from a pruned tree of a type is the type's.
-use Rattle.std.proofs.Common.{◌≡◌, ℕ, ◌<◌, ◌≤◌, ◌^◌, ◌⊎◌, inl, inr, ◌↔◌, refl, sym, ◌∙◌, subst, Bool, true, false, length, arith}
+use Rattle.std.proofs.Common.{◌≡◌, ℕ, ◌⊎◌, inl, inr, ◌↔◌, refl, sym, ◌∙◌, subst, Bool, true, Result, Ok, Err, IfOk}
 use Rattle.tm_base.specs.declared.ground.Ground.{Ground}
+use Rattle.tm_base.specs.declared.memory.Memory.{Memory}
 use Rattle.tm_base.specs.declared.profile.Profile.{Profile}
 use Rattle.tm_base.specs.declared.profile.Profile.TheVariants.{Le64, Be64, Le32}
 use Rattle.tm_base.specs.declared.tree.Tree.{Tree}
@@ -38,3 +39,15 @@ module _ (tables : Tables) (keep : Bool) (g : Ground) (tree made : Tree) (is : I
     size = size;
     pointer = pointer;
   }
+
+  -- what is built from it, with the size of the type and of a reference
+  module _ (size pointer : ℕ) (sized : size ≡ size_of (expanded_in tables g)) (long : pointer ≡ pointer_size tables.profile) where
+    pub build-sized : HasSize pointer size made
+    build-sized A w h = made-sized A w (subst (λ (p : ℕ). TreeWord p (holds A) true made w) long h) ∙ sym sized
+
+    pub built : (r : Result Automaton Memory) → IfOk r (λ auto. auto.size ≡ size) → IfOk r (λ auto. auto.pointer ≡ pointer)
+        → IfOk r (λ auto. (A : ℕ → ℕ → Bool) (more : Bool) (w : Word) → TreeWord pointer (holds A) more made w ↔ AutoWord (holds A) auto w)
+        → IfOk r (IsAutomatonOf tables keep g)
+    built (Err e) a b c = tt
+    built (Ok auto) is_sized is_long words =
+        made-words auto (subst (λ (p : ℕ). (A : ℕ → ℕ → Bool) (more : Bool) (w : Word) → TreeWord p (holds A) more made w ↔ AutoWord (holds A) auto w) long words) (is_sized ∙ sized) (is_long ∙ long)

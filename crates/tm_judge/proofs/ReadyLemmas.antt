@@ -1,5 +1,5 @@
 -- What the automata of a question's types say of its values.
-use Rattle.std.proofs.Common.{◌≡◌, ◌≢◌, ℕ, ◌+◌, inl, inr, ◌↔◌, refl, sym, subst, Bool, true, [], take}
+use Rattle.std.proofs.Common.{ℕ, ◌+◌, ◌↔◌, sym, subst, Bool, true, [], take}
 use Rattle.std.proofs.lemmas.Bool.Decides.{Decides-eqb}
 use Rattle.tm_base.specs.declared.ask.Ask.{Ask}
 use Rattle.tm_base.specs.declared.ground.Ground.{Ground}

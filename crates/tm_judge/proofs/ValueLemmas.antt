@@ -1,15 +1,15 @@
 -- The answer to a question between judged types, by what a walk through their automata finds.
-use Rattle.std.proofs.Common.{◌≡◌, ◌≢◌, ℕ, ◌+◌, ◌⊎◌, inl, inr, ◌↔◌, refl, sym, ◌∙◌, subst, Bool, true, false, [], Option}
+use Rattle.std.proofs.Common.{◌≡◌, ℕ, inl, inr, ◌∙◌, subst, Bool, true, false, [], Option}
 use Rattle.tm_base.specs.declared.answer.Answer.TheVariants.{Yes, YesBecause, No, NoAt}
 use Rattle.tm_base.specs.declared.answer.RefFault.{RefFault}
 use Rattle.tm_base.specs.declared.answer.Rule.{Rule}
-use Rattle.tm_base.specs.declared.answer.Rule.TheVariants.{TargetUninhabited, TargetPrivate, NoCommonValue}
+use Rattle.tm_base.specs.declared.answer.Rule.TheVariants.{NoCommonValue}
 use Rattle.tm_base.specs.declared.ask.Ask.{Ask}
 use Rattle.tm_base.specs.declared.world.World.{World}
-use Rattle.tm_base.specs.Answers.{AreJudged, Casts, IsAnswer, IsValue, IsAccepted, IsRefusedAt}
+use Rattle.tm_base.specs.Answers.{Casts, IsAnswer, IsValue, IsAccepted, IsRefusedAt}
 use Rattle.tm_base.specs.Cells.{Word, fit, OrOwn}
 use Rattle.tm_base.specs.Layout.{size_of}
-use Rattle.tm_base.specs.Rules.{source, target, Taken, HasTargetWord, IsWholeRule}
+use Rattle.tm_base.specs.Rules.{target, Taken, HasTargetWord, IsWholeRule}
 use Rattle.tm_base.specs.Tables.{Tables}
 use Rattle.tm_base.specs.Worlds.{tables_of}
 use Rattle.tm_base.proofs.ValidLemmas.{Valid-grows}

@@ -42,6 +42,8 @@ pub(crate) fn judge_values<L: Ledger>(
 {
     let src = automaton_of(alloc, world, layouts, &ask.src, true)?;
     let dst = automaton_of(alloc, world, layouts, &ask.dst, ask.assume.safety)?;
+    src.law();
+    dst.law();
     if !has_start(alloc, &src)? {
         return Ok(Answer::Yes);
     }
@@ -70,6 +72,7 @@ fn rule_without_values(
         → IfOk result (IsWholeRule (tables_of world.now) ask.now) }
 {
     let kept = automaton_of(alloc, world, layouts, &ask.dst, true)?;
+    kept.law();
     if has_start(alloc, &kept)? {
         Ok(Rule::TargetPrivate)
     } else {
@@ -91,6 +94,7 @@ fn each_value<L: Ledger>(
     ensures cost { HasOneStateALayer src.now → HasOneStateALayer dst.now
         → steps.new ≤ steps.old + (dst.now.size + 1) }
 {
+    dst.law();
     match first_refusal(alloc, src, dst, compat, steps)? {
         None => Ok(Answer::Yes),
         Some(found) => {
@@ -114,6 +118,8 @@ fn some_value<L: Ledger>(
     ensures cost { HasOneStateALayer src.now → HasOneStateALayer dst.now
         → steps.new ≤ steps.old + (dst.now.size + 1) }
 {
+    src.law();
+    dst.law();
     match least_example(alloc, src, dst, compat, steps)? {
         Some(found) => Ok(Answer::YesBecause(found.word)),
         None => Ok(Answer::No(Rule::NoCommonValue)),

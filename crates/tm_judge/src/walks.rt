@@ -1,8 +1,8 @@
 //! The walks through the automata of two types.
-ghost use Rattle.std.specs.Prelude.{◌+◌, ◌≤◌, IfOk, IfNone, IfSome};
+ghost use Rattle.std.specs.Prelude.{◌+◌, ◌≤◌, IfOk};
 ghost use Rattle.tm_auto.specs.Automata.{HasOneStateALayer};
+ghost use Rattle.tm_judge.specs.Walks.{IsExampleAnswer, IsRefusalAnswer};
 ghost use Rattle.tm_refs.specs.Solved.{compatible_in};
-ghost use Rattle.tm_walk.specs.Meanings.{EachWordFits, IsFirstRefusal, IsLeastExample, NoWordFits};
 
 use std::alloc::Global;
 use std::sync::ledger::Ledger;
@@ -25,9 +25,9 @@ pub(crate) fn first_refusal<L: Ledger>(
     compat: &Compat,
     steps: &mut Steps<L>,
 ) -> Result<Option<Found>, Memory>
-    ensures none { IfOk result (λ found. IfNone found (EachWordFits (compatible_in compat.now) src.now dst.now)) }
-    ensures found { IfOk result (λ found. IfSome found (λ f. IsFirstRefusal (compatible_in compat.now) src.now dst.now f.word f.offset)) }
-    ensures cost { HasOneStateALayer src.now → HasOneStateALayer dst.now → steps.new ≤ steps.old + (dst.now.size + 1) }
+    ensures found { IfOk result (IsRefusalAnswer (compatible_in compat.now) src.now dst.now) }
+    ensures cost { HasOneStateALayer src.now → HasOneStateALayer dst.now
+        → steps.new ≤ steps.old + (dst.now.size + 1) }
 {
     Err(Memory)
 }
@@ -40,9 +40,9 @@ pub(crate) fn least_example<L: Ledger>(
     compat: &Compat,
     steps: &mut Steps<L>,
 ) -> Result<Option<Found>, Memory>
-    ensures none { IfOk result (λ found. IfNone found (NoWordFits (compatible_in compat.now) src.now dst.now)) }
-    ensures found { IfOk result (λ found. IfSome found (λ f. IsLeastExample (compatible_in compat.now) src.now dst.now f.word f.offset)) }
-    ensures cost { HasOneStateALayer src.now → HasOneStateALayer dst.now → steps.new ≤ steps.old + (dst.now.size + 1) }
+    ensures found { IfOk result (IsExampleAnswer (compatible_in compat.now) src.now dst.now) }
+    ensures cost { HasOneStateALayer src.now → HasOneStateALayer dst.now
+        → steps.new ≤ steps.old + (dst.now.size + 1) }
 {
     Err(Memory)
 }
