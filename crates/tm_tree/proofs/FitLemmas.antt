@@ -29,11 +29,11 @@ use Rattle.tm_tree.specs.Laws.{HasValues}
 use Rattle.tm_tree.specs.Fit.{HoldsValues, IsFit, IsFitKind, AreFit, AreVariantsFit}
 use Rattle.tm_tree.proofs.LeafLemmas.{height_of, fields_height, variants_height}
 
-none-first : (a b : Bool) → (a || b) ≡ false → a ≡ false
+pub none-first : (a b : Bool) → (a || b) ≡ false → a ≡ false
 none-first true b e = cc
 none-first false b e = refl
 
-none-second : (a b : Bool) → (a || b) ≡ false → b ≡ false
+pub none-second : (a b : Bool) → (a || b) ≡ false → b ≡ false
 none-second true b e = cc
 none-second false b e = e
 
@@ -46,11 +46,11 @@ both-second true b e = e
 both-second false b e = cc
 
 -- of causes together none holds where none is told
-no-either : (a b : Option Why) → is_some (or_else a b) ≡ false → (is_some a ≡ false) × (is_some b ≡ false)
+pub no-either : (a b : Option Why) → is_some (or_else a b) ≡ false → (is_some a ≡ false) × (is_some b ≡ false)
 no-either None b e = (refl, e)
 no-either (Some why) b e = cc
 
-no-when : (b : Bool) (why : Why) → is_some (when b why) ≡ false → b ≡ false
+pub no-when : (b : Bool) (why : Why) → is_some (when b why) ≡ false → b ≡ false
 no-when true why e = cc
 no-when false why e = refl
 
@@ -67,7 +67,7 @@ i32-small : (value : ℤ) → fits_signed 4 value ≡ true → magnitude value <
 i32-small (pos k) e = let below : k < 2 ^ 31 = grind (arith, nat_tests) in omega arith
 i32-small (negsuc k) e = let below : k < 2 ^ 31 = grind (arith, nat_tests) in omega arith
 
-not-false : (b : Bool) → not b ≡ false → b ≡ true
+pub not-false : (b : Bool) → not b ≡ false → b ≡ true
 not-false true e = refl
 not-false false e = cc
 
@@ -85,7 +85,7 @@ module _ (profile : Profile) (part : Ground → Expanded) where
   i32-values (variant value members rest) e =
       (i32-small value (not-false (fits_signed 4 value) (none-first (not (fits_signed 4 value)) (passes_i32 rest) e)), i32-values rest (none-second (not (fits_signed 4 value)) (passes_i32 rest) e))
 
-  only-c : (c passes : Bool) → not (c || false) ≡ false → (c && true && passes) ≡ false → passes ≡ false
+  pub only-c : (c passes : Bool) → not (c || false) ≡ false → (c && true && passes) ≡ false → passes ≡ false
   only-c true passes e f = f
   only-c false passes e f = cc
 

@@ -1,6 +1,7 @@
 -- The tree of a type has no more leaves than some times its weight.
-use Rattle.std.proofs.Common.{◌≡◌, ℕ, zero, suc, ◌+◌, ◌-◌, ◌*◌, ◌==◌, ◌≤◌, refl, ap, ◌∙◌, max, Bool, true, false, if◌then◌else◌, Option, None, List, [], ◌∷◌, ◌++◌, arith}
+use Rattle.std.proofs.Common.{◌≡◌, ℕ, zero, suc, ◌+◌, ◌-◌, ◌*◌, ◌==◌, ◌≤◌, refl, ap, ◌∙◌, max, Bool, true, false, if◌then◌else◌, List, [], ◌∷◌, ◌++◌, arith}
 use Rattle.std.proofs.Math.Nat.{mul-le-mul_right, add-mul}
+use Rattle.std.specs.List.{AllByRecursion}
 use Rattle.tm_base.specs.declared.definition.Kind.TheVariants.{Struct, Union, Enum}
 use Rattle.tm_base.specs.declared.definition.Repr.{Repr}
 use Rattle.tm_base.specs.declared.ground.Primitive.{Primitive}
@@ -12,12 +13,14 @@ use Rattle.tm_base.specs.declared.profile.Profile.TheVariants.{Le64, Be64, Le32}
 use Rattle.tm_base.specs.declared.tree.Tree.{Tree, Never, Range, Pad, Ref, Private}
 use Rattle.tm_base.specs.declared.tree.Tree.TheBlock.{shape-the_row-Tree-1, hidden-the_row-Tree-1}
 use Rattle.tm_base.specs.Expanded.{Expanded, Fields, Variants, too_deep, prim, never, unit, tuple, array, nonzero, phantom, wrap, ref, named, no_fields, field, no_variants, variant}
-use Rattle.tm_base.specs.Layout.{end_of, field_layouts, layout_of, only, place_at, prim_size, size_of, tag_layout, variant_layouts}
-use Rattle.tm_base.specs.Places.{fields_place, first_place}
+use Rattle.tm_base.specs.Laws.{Apart}
+use Rattle.tm_base.specs.Layout.{end_of, field_layouts, layout_of, only, places, prim_size, size_of, tag_layout, variant_layouts}
+use Rattle.tm_base.specs.Places.{fields_place, variant_places}
 use Rattle.tm_base.specs.Profiles.{pointer_size}
 use Rattle.tm_base.specs.Shapes.{leaves_of, all_leaves}
 use Rattle.tm_base.specs.Valid.{all_public}
 use Rattle.tm_base.specs.Weight.{field_weights, sum_from, variant_weights, variants_sum_from, weight_of, wrapper_weight}
+use Rattle.tm_base.proofs.LayoutLemmas.{Apart-widens, places-apart}
 use Rattle.tm_niche.specs.Forms.{is_never, joined, nonzero_form, null_form, one_of, repeated, tag_form}
 use Rattle.tm_niche.proofs.CharLemmas.{char-leaves}
 use Rattle.tm_niche.proofs.FormLemmas.{all_leaves-append, joined-leaves, one_of-leaves, one-Pad, one-Range, repeated-leaves}
@@ -26,7 +29,8 @@ use Rattle.tm_niche.proofs.TagLemmas.{tag-leaves}
 use Rattle.tm_niche.proofs.WordLemmas.{one-is}
 use Rattle.tm_tree.specs.Fit.{IsFit, AreFit, AreVariantsFit}
 use Rattle.tm_tree.specs.Parts.{bare_parts, field_parts, guarded, hidden, pads, parts_of, prim_parts, struct_parts, tree_for, union_parts, union_ways, variant_ways, wrap_parts}
-use Rattle.tm_tree.proofs.PlaceLemmas.{place-above, end-above, struct-end, tag-below, variants-end, VariantsEnd}
+use Rattle.tm_tree.proofs.BehindLemmas.{apart-first, apart-within, variants-apart}
+use Rattle.tm_tree.proofs.PlaceLemmas.{struct-end}
 
 -- how deep a type holds others by value
 unfoldable mutual
@@ -178,21 +182,26 @@ module _ (profile : Profile) where
   unfolding leaves_of
   no_leaves m = omega arith
 
+  none-leaves : all_leaves pointer (Never ∷ []) ≡ 0
+  unfolding leaves_of
+  none-leaves = refl
+
   no_leaves_over : (w m : ℕ) → all_leaves pointer (Never ∷ []) ≤ w * suc m
   unfolding leaves_of
   no_leaves_over w m = omega arith
 
   struct-case : (m : ℕ) (repr : Repr) (members : Fields) (size : ℕ) (b : Bool) → repr.transparent ≡ b
       → all_leaves pointer (bare_parts members) ≤ 0 + sum_from 0 (field_weights members) * m
-      → (repr.transparent ≡ false → all_leaves pointer (field_parts repr.packed size 0 members) ≤ (size - 0) + sum_from 0 (field_weights members) * m)
-      → all_leaves pointer (guarded (all_public members) (if b then bare_parts members else field_parts repr.packed size 0 members)) ≤ max (max 1 size) (sum_from 0 (field_weights members)) * suc m
+      → (repr.transparent ≡ false → all_leaves pointer (field_parts size 0 (places repr.packed 0 (field_layouts members)) members) ≤ (size - 0) + sum_from 0 (field_weights members) * m)
+      → all_leaves pointer (guarded (all_public members) (if b then bare_parts members else field_parts size 0 (places repr.packed 0 (field_layouts members)) members)) ≤ max (max 1 size) (sum_from 0 (field_weights members)) * suc m
   struct-case m repr members size true e bares placed =
       let outer = guarded-leaves (all_public members) (bare_parts members) in
       once-more (all_leaves pointer (guarded (all_public members) (bare_parts members))) (sum_from 0 (field_weights members)) 0 (max (max 1 size) (sum_from 0 (field_weights members))) m (omega arith) (omega arith) (omega arith)
   struct-case m repr members size false e bares placed =
-      let outer = guarded-leaves (all_public members) (field_parts repr.packed size 0 members) in
+      let ts = field_parts size 0 (places repr.packed 0 (field_layouts members)) members in
+      let outer = guarded-leaves (all_public members) ts in
       let inside = placed e in
-      once-more (all_leaves pointer (guarded (all_public members) (field_parts repr.packed size 0 members))) (sum_from 0 (field_weights members)) size (max (max 1 size) (sum_from 0 (field_weights members))) m (omega arith) (omega arith) (omega arith)
+      once-more (all_leaves pointer (guarded (all_public members) ts)) (sum_from 0 (field_weights members)) size (max (max 1 size) (sum_from 0 (field_weights members))) m (omega arith) (omega arith) (omega arith)
 
   way-more : (m size own w others : ℕ) (ts ways : List Tree) → all_leaves pointer ts ≤ w * m → all_leaves pointer ways ≤ others * suc m
       → all_leaves pointer (joined (ts ++ pads (size - own)) ∷ ways) ≤ (max (max 1 size) w + others) * suc m
@@ -204,15 +213,13 @@ module _ (profile : Profile) where
       let sum : (max (max 1 size) w + others) * suc m ≡ max (max 1 size) w * suc m + others * suc m = add-mul (max (max 1 size) w) others (suc m) in
       omega arith
 
-  variant-more : (m : ℕ) (own : Profile) (tag begin first size : ℕ) (value : _) (fields others : ℕ) (ts ways : List Tree) → tag ≤ begin → begin ≤ size
-      → all_leaves pointer ts ≤ ((first + (size - begin)) - first) + fields * m → all_leaves pointer ways ≤ others * suc m
-      → all_leaves pointer (joined (tag_form own tag value ∷ (pads (begin - tag) ++ ts)) ∷ ways) ≤ (max (max 1 size) (tag + fields) + others) * suc m
-  variant-more m own tag begin first size value fields others ts ways below inside h k =
-      let whole = joined-leaves pointer (tag_form own tag value ∷ (pads (begin - tag) ++ ts)) in
+  variant-more : (m : ℕ) (own : Profile) (tag size : ℕ) (value : _) (fields others : ℕ) (ts ways : List Tree) → tag ≤ size
+      → all_leaves pointer ts ≤ (size - tag) + fields * m → all_leaves pointer ways ≤ others * suc m
+      → all_leaves pointer (joined (tag_form own tag value ∷ ts) ∷ ways) ≤ (max (max 1 size) (tag + fields) + others) * suc m
+  variant-more m own tag size value fields others ts ways inside h k =
+      let whole = joined-leaves pointer (tag_form own tag value ∷ ts) in
       let front = tag-leaves pointer own tag value in
-      let all = all_leaves-append pointer (pads (begin - tag)) ts in
-      let free = pads-leaves (begin - tag) in
-      let one = once-more (leaves_of pointer (joined (tag_form own tag value ∷ (pads (begin - tag) ++ ts)))) fields size (max (max 1 size) (tag + fields)) m (omega arith) (omega arith) (omega arith) in
+      let one = once-more (leaves_of pointer (joined (tag_form own tag value ∷ ts))) fields size (max (max 1 size) (tag + fields)) m (omega arith) (omega arith) (omega arith) in
       let sum : (max (max 1 size) (tag + fields) + others) * suc m ≡ max (max 1 size) (tag + fields) * suc m + others * suc m = add-mul (max (max 1 size) (tag + fields)) others (suc m) in
       omega arith
 
@@ -237,32 +244,35 @@ module _ (profile : Profile) where
         struct-leaves m repr variants (size_of (named own id Struct repr variants)) (omega arith) (struct-end own id repr variants) fit
     parts-leaves (suc m) (named own id Union repr variants) h (kind, fit) = union-leaves m variants (size_of (named own id Union repr variants)) (omega arith) fit
     parts-leaves (suc m) (named own id Enum repr variants) h (kind, fit) =
-        let ways = variant_ways own repr.tag (fields_place own repr variants) (first_place own repr) (first_place own repr + (size_of (named own id Enum repr variants) - fields_place own repr variants)) variants in
-        let all = one_of-leaves pointer ways in
-        let each = ways-leaves m own repr.tag (fields_place own repr variants) (first_place own repr) (size_of (named own id Enum repr variants)) variants (omega arith) (tag-below own id repr variants) (variants-end own id repr variants) fit in
+        let size = size_of (named own id Enum repr variants) in
+        let all = one_of-leaves pointer (variant_ways own repr (fields_place own repr variants) size variants) in
+        let each = ways-leaves m own repr (fields_place own repr variants) size variants (omega arith) (variants-apart own id repr variants) fit in
         omega arith
 
     struct-leaves : (m : ℕ) (repr : Repr) (variants : Variants) (size : ℕ) → 16 + variants_height variants ≤ m → (repr.transparent ≡ false → end_of repr.packed 0 (only (variant_layouts variants)) ≤ size) → AreVariantsFit profile variants
         → all_leaves pointer (struct_parts repr size variants) ≤ max (max 1 size) (sum_from 0 (only (variant_weights variants))) * suc m
     struct-leaves m repr no_variants size h ends fit = no_leaves_over (max (max 1 size) 0) m
     struct-leaves m repr (variant value members others) size h ends (fit, more) =
-        struct-case m repr members size repr.transparent refl (bare-leaves m members (omega arith) fit) (λ e. fields-leaves m repr.packed size 0 members (omega arith) (ends e) fit)
+        struct-case m repr members size repr.transparent refl (bare-leaves m members (omega arith) fit)
+        (λ e. fields-leaves m size 0 (places repr.packed 0 (field_layouts members)) members (omega arith)
+        (Apart-widens 0 (places repr.packed 0 (field_layouts members)) (field_layouts members) (end_of repr.packed 0 (field_layouts members)) size (ends e) (places-apart repr.packed 0 (field_layouts members))) fit)
 
     bare-leaves : (m : ℕ) (members : Fields) → 16 + fields_height members ≤ m → AreFit profile members → all_leaves pointer (bare_parts members) ≤ 0 + sum_from 0 (field_weights members) * m
     bare-leaves m no_fields h fit = omega arith
     bare-leaves m (field public t rest) h (fit, more) =
         both-leaves (parts_of t) (bare_parts rest) (weight_of t) (sum_from 0 (field_weights rest)) 0 (sum_from 0 (field_weights (field public t rest))) m (parts-leaves m t (omega arith) fit) (bare-leaves m rest (omega arith) more) refl
 
-    fields-leaves : (m : ℕ) (packed : Option ℕ) (end at : ℕ) (members : Fields) → 16 + fields_height members ≤ m → end_of packed at (field_layouts members) ≤ end → AreFit profile members
-        → all_leaves pointer (field_parts packed end at members) ≤ (end - at) + sum_from 0 (field_weights members) * m
-    fields-leaves m packed end at no_fields h ends fit = let e = pads-leaves (end - at) in omega arith
-    fields-leaves m packed end at (field public t rest) h ends (fit, more) =
-        let gap = pads-leaves (place_at packed at (layout_of t) - at) in
-        let above = place-above packed at (layout_of t) in
-        let within = end-above packed (place_at packed at (layout_of t) + size_of t) (field_layouts rest) in
-        let all = all_leaves-append pointer (pads (place_at packed at (layout_of t) - at)) (parts_of t ++ field_parts packed end (place_at packed at (layout_of t) + size_of t) rest) in
-        let behind = both-leaves (parts_of t) (field_parts packed end (place_at packed at (layout_of t) + size_of t) rest) (weight_of t) (sum_from 0 (field_weights rest)) (end - (place_at packed at (layout_of t) + size_of t))
-        (sum_from 0 (field_weights (field public t rest))) m (parts-leaves m t (omega arith) fit) (fields-leaves m packed end (place_at packed at (layout_of t) + size_of t) rest (omega arith) ends more) refl in
+    fields-leaves : (m end at : ℕ) (ps : List ℕ) (members : Fields) → 16 + fields_height members ≤ m → Apart at ps (field_layouts members) end → AreFit profile members
+        → all_leaves pointer (field_parts end at ps members) ≤ (end - at) + sum_from 0 (field_weights members) * m
+    fields-leaves m end at ps no_fields h apart fit = let e = pads-leaves (end - at) in omega arith
+    fields-leaves m end at [] (field public t rest) h apart fit = let e = none-leaves in omega arith
+    fields-leaves m end at (place ∷ ps) (field public t rest) h apart (fit, more) =
+        let (above, behind_it) = apart-first at place (layout_of t) ps (field_layouts rest) end apart in
+        let gap = pads-leaves (place - at) in
+        let within = apart-within (place + size_of t) ps (field_layouts rest) end behind_it in
+        let all = all_leaves-append pointer (pads (place - at)) (parts_of t ++ field_parts end (place + size_of t) ps rest) in
+        let behind = both-leaves (parts_of t) (field_parts end (place + size_of t) ps rest) (weight_of t) (sum_from 0 (field_weights rest)) (end - (place + size_of t))
+        (sum_from 0 (field_weights (field public t rest))) m (parts-leaves m t (omega arith) fit) (fields-leaves m end (place + size_of t) ps rest (omega arith) behind_it more) refl in
         omega arith
 
     union-leaves : (m : ℕ) (variants : Variants) (size : ℕ) → 16 + variants_height variants ≤ m → AreVariantsFit profile variants → all_leaves pointer (union_parts size variants) ≤ sum_from (max 1 size) (only (variant_weights variants)) * suc m
@@ -278,13 +288,15 @@ module _ (profile : Profile) where
     union-each m size (field public t rest) h (fit, more) =
         way-more m size (size_of t) (weight_of t) (sum_from (max 1 size) (field_weights rest)) (parts_of t) (union_ways size rest) (parts-leaves m t (omega arith) fit) (union-each m size rest (omega arith) more)
 
-    ways-leaves : (m : ℕ) (own : Profile) (tag : Option Primitive) (begin first size : ℕ) (variants : Variants) → 16 + variants_height variants ≤ m → (tag_layout own tag).size ≤ begin → VariantsEnd begin first size (variant_layouts variants) → AreVariantsFit profile variants
-        → all_leaves pointer (variant_ways own tag begin first (first + (size - begin)) variants) ≤ variants_sum_from (max 1 size) (tag_layout own tag).size (variant_weights variants) * suc m
-    ways-leaves m own tag begin first size no_variants h below ends fit = omega arith
-    ways-leaves m own tag begin first size (variant value members rest) h below (inside, end, ends) (fit, more) =
-        variant-more m own (tag_layout own tag).size begin first size value (sum_from 0 (field_weights members)) (variants_sum_from (max 1 size) (tag_layout own tag).size (variant_weights rest))
-        (field_parts None (first + (size - begin)) first members) (variant_ways own tag begin first (first + (size - begin)) rest) below inside
-        (fields-leaves m None (first + (size - begin)) first members (omega arith) end fit) (ways-leaves m own tag begin first size rest (omega arith) below ends more)
+    ways-leaves : (m : ℕ) (own : Profile) (repr : Repr) (begin size : ℕ) (variants : Variants) → 16 + variants_height variants ≤ m
+        → AllByRecursion (λ ls. Apart (tag_layout own repr.tag).size (variant_places own repr begin ls) ls size) (variant_layouts variants) → AreVariantsFit profile variants
+        → all_leaves pointer (variant_ways own repr begin size variants) ≤ variants_sum_from (max 1 size) (tag_layout own repr.tag).size (variant_weights variants) * suc m
+    ways-leaves m own repr begin size no_variants h apart fit = omega arith
+    ways-leaves m own repr begin size (variant value members rest) h (apart, others) (fit, more) =
+        let ps = variant_places own repr begin (field_layouts members) in
+        variant-more m own (tag_layout own repr.tag).size size value (sum_from 0 (field_weights members)) (variants_sum_from (max 1 size) (tag_layout own repr.tag).size (variant_weights rest))
+        (field_parts size (tag_layout own repr.tag).size ps members) (variant_ways own repr begin size rest) (apart-within (tag_layout own repr.tag).size ps (field_layouts members) size apart)
+        (fields-leaves m size (tag_layout own repr.tag).size ps members (omega arith) apart fit) (ways-leaves m own repr begin size rest (omega arith) others more)
 
   -- the tree of a type has no more leaves than its weight, 16 times and once more for each type around others
   pub tree-leaves : (m : ℕ) (t : Expanded) → 16 + height_of t ≤ m → IsFit profile t → leaves_of pointer (tree_for t) ≤ weight_of t * m

@@ -1,5 +1,12 @@
 pub mod PlainLemmas
 pub mod PlaceLemmas
+pub mod BehindLemmas
+pub mod InsideLemmas
+pub mod DefinedLemmas
+pub mod EnumLemmas
+pub mod StepLemmas
+pub mod TypeLemmas
+pub mod JudgedLemmas
 pub mod PartLemmas
 pub mod LeafLemmas
 pub mod SingleLemmas

@@ -1,6 +1,6 @@
 -- The words of a type's tree are its valid words.
-use Rattle.std.proofs.Common.{◌≡◌, ℕ, ◌+◌, ◌-◌, ◌<◌, ◌≤◌, ◌^◌, refl, sym, ap, subst, ◌∙◌, Bool, true, false, ◌||◌, if◌then◌else◌, IsTrue, Option, None, List, [], ◌∷◌, ◌++◌, length, inl, inr, ⊎_elim, ◌↔◌, arith, All, length-append}
-use Rattle.std.proofs.lemmas.List.Elements.{All-nil}
+use Rattle.std.proofs.Common.{◌≡◌, ℕ, ◌+◌, ◌-◌, ◌<◌, ◌≤◌, ◌^◌, refl, sym, ap, subst, ◌∙◌, Bool, true, false, ◌||◌, if◌then◌else◌, IsTrue, Option, None, List, [], ◌∷◌, ◌++◌, map, length, inl, inr, ⊎_elim, ◌↔◌, arith, All, length-append}
+use Rattle.std.proofs.lemmas.List.Elements.{All-append, All-nil}
 use Rattle.tm_base.specs.declared.definition.Kind.TheVariants.{Struct, Union, Enum}
 use Rattle.tm_base.specs.declared.definition.Repr.{Repr}
 use Rattle.tm_base.specs.declared.ground.Primitive.{Primitive}
@@ -9,8 +9,8 @@ use Rattle.tm_base.specs.declared.tree.Tree.{Tree, Ref}
 use Rattle.tm_base.specs.Cells.{Word, IsFree, pointer_of}
 use Rattle.tm_base.specs.Expanded.{Expanded, Fields, Variants, too_deep, prim, never, unit, tuple, array, nonzero, phantom, wrap, ref, named, no_fields, field, no_variants, variant}
 use Rattle.tm_base.specs.Faults.{sized_count}
-use Rattle.tm_base.specs.Layout.{end_of, field_layouts, greatest_size, layout_of, only, place_at, prim_size, size_of, tag_layout, transparent_layout, variant_layouts}
-use Rattle.tm_base.specs.Places.{fields_place, first_place}
+use Rattle.tm_base.specs.Layout.{end_of, field_layouts, greatest_size, layout_of, only, place_at, places, prim_size, size_of, tag_layout, transparent_layout, variant_layouts}
+use Rattle.tm_base.specs.Places.{fields_place, first_place, variant_places}
 use Rattle.tm_base.specs.Profiles.{pointer_size}
 use Rattle.tm_base.specs.Trees.{TreeWord, InTurn, OneOf}
 use Rattle.tm_base.specs.Valid.{Valid, StructValid, UnionValid, FieldsValid, SomeFieldValid, SomeVariantValid, IsTag, all_public}
@@ -21,6 +21,7 @@ use Rattle.tm_niche.proofs.TagLemmas.{tag-words}
 use Rattle.tm_niche.proofs.WordLemmas.{joined-words, one_of-words, pads-words, InTurn-append, InTurn-one}
 use Rattle.tm_tree.specs.Fit.{HoldsValues, IsFit, AreFit, AreVariantsFit}
 use Rattle.tm_tree.specs.Parts.{bare_parts, field_parts, guarded, pads, parts_of, struct_parts, tree_for, union_parts, union_ways, variant_ways}
+use Rattle.tm_tree.proofs.BehindLemmas.{begin-tag, free-split, shifted-first}
 use Rattle.tm_tree.proofs.PlainLemmas.{guarded-words, never-words, prim-words, turns-words, wrap-words}
 use Rattle.tm_tree.proofs.PlaceLemmas.{bare-end, bare-gapless, bare-size, place-above, struct-end, tag-below, union-size, variants-end, NoGap, VariantsEnd}
 
@@ -147,21 +148,77 @@ module _ (profile : Profile) (A : ℕ → ℕ → Type 0) (keep : Bool) where
             all.1 (both.1 (here, left, e, (first here).1 valid, (pads-words pointer A keep (size - size_of t) left).1 (omega arith, free))),
       )
 
+  -- behind a tag of so many bytes, free bytes up to where fields begin, and the fields, are said by some trees
+  abbrev SaysBehind : ℕ → ℕ → ℕ → ℕ → Fields → List Tree → Type 0
+  SaysBehind tag begin first size members ts =
+      (v : Word) → InTurn pointer A keep ts v
+      ↔ ((gap : Word) × (others : Word) × (v ≡ gap ++ others) × (tag + length gap ≡ begin) × All IsFree gap × (begin + length others ≡ size) × FieldsValid A keep None first members others)
+
+  -- fields in their places are said by the trees of the fields
+  abbrev FieldsSaid : Fields → Type 0
+  FieldsSaid members =
+      (packed : Option ℕ) (end at : ℕ) → end_of packed at (field_layouts members) ≤ end → SaysFields packed end at members (field_parts end at (places packed at (field_layouts members)) members)
+
+  behind-integer : (tag begin size : ℕ) (members : Fields) → begin ≡ tag → end_of None tag (field_layouts members) ≤ tag + (size - begin) → begin ≤ size → FieldsSaid members
+      → SaysBehind tag begin tag size members (field_parts size tag (places None tag (field_layouts members)) members)
+  behind-integer tag begin size members same end inside said v =
+      let all = said None size tag (omega arith) v in (
+        λ h. let (ends, valid) = all.0 h in ([], v, refl, omega arith, All-nil IsFree, omega arith, valid),
+        λ (gap, others, e, at, free, ends, valid).
+            let none : gap ≡ [] = no-length gap (omega arith) in
+            let is : v ≡ others = e ∙ ap (λ (z : Word). z ++ others) none in
+            all.1 (ap (λ (z : Word). tag + length z) is ∙ omega arith, subst (FieldsValid A keep None tag members) (sym is) valid),
+      )
+
+  behind-c : (tag begin size : ℕ) (members : Fields) → tag ≤ begin → begin ≤ size → end_of None 0 (field_layouts members) ≤ 0 + (size - begin) → FieldsSaid members
+      → SaysBehind tag begin 0 size members (field_parts size tag (map (λ place. begin + place) (places None 0 (field_layouts members))) members)
+  unfolding Valid parts_of layout_of
+  behind-c tag begin size no_fields below inside end said v =
+      let free = pads-words pointer A keep (size - tag) v in (
+        λ h.
+            let (long, all) = free.0 h in
+            let (gap, others, e, (wide, clear), (left, rest)) = free-split (begin - tag) (size - begin) v (omega arith, all) in
+            (gap, others, e, omega arith, clear, omega arith, rest),
+        λ (gap, others, e, at, clear, ends, rest).
+            let long : length v ≡ length gap + length others = ap length e ∙ length-append gap others in
+            free.1 (omega arith, subst (All IsFree) (sym e) (All-append IsFree gap others clear rest)),
+      )
+  behind-c tag begin size (field public t rest) below inside end said v =
+      let fields : List Tree = field_parts (size - begin) 0 (places None 0 (field_layouts (field public t rest))) (field public t rest) in
+      let whole : begin + (size - begin) ≡ size = omega arith in
+      let same : field_parts size tag (map (λ place. begin + place) (places None 0 (field_layouts (field public t rest)))) (field public t rest) ≡ pads (begin - tag) ++ fields =
+      subst (λ (n : ℕ). field_parts n tag (map (λ place. begin + place) (places None 0 (field_layouts (field public t rest)))) (field public t rest) ≡ pads (begin - tag) ++ fields) whole
+      (shifted-first begin (size - begin) tag public t rest below) in
+      let both = InTurn-append pointer A keep (pads (begin - tag)) fields v in (
+        λ h.
+            let (gap, others, e, p, q) = both.0 (subst (λ ts. InTurn pointer A keep ts v) same h) in
+            let (wide, clear) = (pads-words pointer A keep (begin - tag) gap).0 p in
+            let (ends, valid) = (said None (size - begin) 0 (omega arith) others).0 q in
+            (gap, others, e, omega arith, clear, omega arith, valid),
+        λ (gap, others, e, at, clear, ends, valid).
+            subst (λ ts. InTurn pointer A keep ts v) (sym same)
+            (both.1 (gap, others, e, (pads-words pointer A keep (begin - tag) gap).1 (omega arith, clear), (said None (size - begin) 0 (omega arith) others).1 (omega arith, valid))),
+      )
+
+  behind : (c : Bool) (tag begin size : ℕ) (members : Fields) → tag ≤ begin → begin ≤ size → (c ≡ false → begin ≡ tag)
+      → end_of None (if c then 0 else tag) (field_layouts members) ≤ (if c then 0 else tag) + (size - begin) → FieldsSaid members
+      → SaysBehind tag begin (if c then 0 else tag) size members
+      (field_parts size tag (if c then map (λ place. begin + place) (places None 0 (field_layouts members)) else places None (if c then 0 else tag) (field_layouts members)) members)
+  behind true tag begin size members below inside alone end said = behind-c tag begin size members below inside end said
+  behind false tag begin size members below inside alone end said = behind-integer tag begin size members (alone refl) end inside said
+
   -- one of an enum's variants, whose fields are said by some trees
   variant-one : (own : Profile) (tag : Option Primitive) (begin first size : ℕ) (value : _) (members : Fields) (ts : List Tree)
-      → magnitude value < 256 ^ (tag_layout own tag).size → (tag_layout own tag).size ≤ begin → begin ≤ size
-      → SaysFields None (first + (size - begin)) first members ts → (w : Word)
-      → TreeWord pointer A keep (joined (tag_form own (tag_layout own tag).size value ∷ (pads (begin - (tag_layout own tag).size) ++ ts))) w
+      → magnitude value < 256 ^ (tag_layout own tag).size → SaysBehind (tag_layout own tag).size begin first size members ts → (w : Word)
+      → TreeWord pointer A keep (joined (tag_form own (tag_layout own tag).size value ∷ ts)) w
       ↔ ((length w ≡ size) × ((front : Word) × (gap : Word) × (others : Word) × (w ≡ front ++ (gap ++ others)) × IsTag own (tag_layout own tag).size value front
       × (length front + length gap ≡ begin) × All IsFree gap × FieldsValid A keep None first members others))
-  variant-one own tag begin first size value members ts small below inside says w =
-      let all = joined-words pointer A keep (tag_form own (tag_layout own tag).size value ∷ (pads (begin - (tag_layout own tag).size) ++ ts)) w in (
+  variant-one own tag begin first size value members ts small says w =
+      let all = joined-words pointer A keep (tag_form own (tag_layout own tag).size value ∷ ts) w in (
         λ h.
             let (front, v, e, p, q) = all.0 h in
-            let (gap, others, e2, p2, q2) = (InTurn-append pointer A keep (pads (begin - (tag_layout own tag).size)) ts v).0 q in
+            let (gap, others, e2, at, free, ends, valid) = (says v).0 q in
             let is_tag = (tag-words pointer A keep own (tag_layout own tag).size value front small).0 p in
-            let (wide, free) = (pads-words pointer A keep (begin - (tag_layout own tag).size) gap).0 p2 in
-            let (ends, valid) = (says others).0 q2 in
             let long = is_tag.0.0 in
             let whole : w ≡ front ++ (gap ++ others) = e ∙ ap (λ z. front ++ z) e2 in
             let total : length w ≡ length front + (length gap + length others) = ap length whole ∙ length-append front (gap ++ others) ∙ ap (λ (n : ℕ). length front + n) (length-append gap others) in
@@ -174,8 +231,7 @@ module _ (profile : Profile) (A : ℕ → ℕ → Type 0) (keep : Bool) where
               gap ++ others,
               whole,
               (tag-words pointer A keep own (tag_layout own tag).size value front small).1 is_tag,
-              (InTurn-append pointer A keep (pads (begin - (tag_layout own tag).size)) ts (gap ++ others)).1
-                  (gap, others, refl, (pads-words pointer A keep (begin - (tag_layout own tag).size) gap).1 (omega arith, free), (says others).1 (omega arith, valid)),
+              (says (gap ++ others)).1 (gap, others, refl, omega arith, free, omega arith, valid),
             ),
       )
 
@@ -190,8 +246,8 @@ module _ (profile : Profile) (A : ℕ → ℕ → Type 0) (keep : Bool) where
 
   struct-either : (size : ℕ) (repr : Repr) (members : Fields) (b : Bool) → repr.transparent ≡ b → (repr.transparent ≡ true → size ≡ (transparent_layout (field_layouts members)).size)
       → (repr.transparent ≡ true → sized_count (field_layouts members) ≤ 1) → ((v : Word) → InTurn pointer A keep (bare_parts members) v ↔ BareValid members v)
-      → (repr.transparent ≡ false → (v : Word) → InTurn pointer A keep (field_parts repr.packed size 0 members) v ↔ ((0 + length v ≡ size) × FieldsValid A keep repr.packed 0 members v))
-      → (v : Word) → InTurn pointer A keep (if b then bare_parts members else field_parts repr.packed size 0 members) v ↔ ((0 + length v ≡ size) × FieldsValid A keep repr.packed 0 members v)
+      → (repr.transparent ≡ false → SaysFields repr.packed size 0 members (field_parts size 0 (places repr.packed 0 (field_layouts members)) members))
+      → SaysFields repr.packed size 0 members (if b then bare_parts members else field_parts size 0 (places repr.packed 0 (field_layouts members)) members)
   struct-either size repr members true e sizes few bares placed v =
       let all = bares v in
       let fields = bare-fields repr.packed 0 size members (bare-gapless repr.packed (field_layouts members) (few e)) (bare-end repr.packed (field_layouts members) (few e) ∙ sym (sizes e)) v in
@@ -223,9 +279,9 @@ module _ (profile : Profile) (A : ℕ → ℕ → Type 0) (keep : Bool) where
         union-words variants (size_of (named own id Union repr variants)) (union-size own id repr variants) fit w
     parts-words (named own id Enum repr variants) (kind, fit) w =
         let one = InTurn-one pointer A keep _ w in
-        let ways = variant_ways own repr.tag (fields_place own repr variants) (first_place own repr) (first_place own repr + (size_of (named own id Enum repr variants) - fields_place own repr variants)) variants in
-        let any = one_of-words pointer A keep ways w in
-        let each = ways-words own repr.tag (fields_place own repr variants) (first_place own repr) (size_of (named own id Enum repr variants)) variants (tag-below own id repr variants) (variants-end own id repr variants) kind fit w in
+        let size = size_of (named own id Enum repr variants) in
+        let any = one_of-words pointer A keep (variant_ways own repr (fields_place own repr variants) size variants) w in
+        let each = ways-words own repr (fields_place own repr variants) size variants (tag-below own id repr variants) (begin-tag own repr variants) (variants-end own id repr variants) kind fit w in
         (λ h. each.0 (any.0 (one.1 h)), λ h. one.0 (any.1 (each.1 h)))
 
     struct-words : (repr : Repr) (variants : Variants) (size : ℕ) → (repr.transparent ≡ false → end_of repr.packed 0 (only (variant_layouts variants)) ≤ size)
@@ -234,7 +290,7 @@ module _ (profile : Profile) (A : ℕ → ℕ → Type 0) (keep : Bool) where
         → InTurn pointer A keep (struct_parts repr size variants) w ↔ ((length w ≡ size) × StructValid A keep repr.packed variants w)
     struct-words repr no_variants size ends sizes few fit w = (λ h. absurd ((never-words pointer A keep w).0 h), λ (long, h). absurd h)
     struct-words repr (variant value members others) size ends sizes few (fit, more) w =
-        struct-one size repr members (if repr.transparent then bare_parts members else field_parts repr.packed size 0 members)
+        struct-one size repr members (if repr.transparent then bare_parts members else field_parts size 0 (places repr.packed 0 (field_layouts members)) members)
         (struct-either size repr members repr.transparent refl sizes few (λ v. bare-words members fit v) (λ e v. fields-words repr.packed size 0 members (ends e) fit v)) w
 
     bare-words : (members : Fields) → AreFit profile members → (w : Word) → InTurn pointer A keep (bare_parts members) w ↔ BareValid members w
@@ -242,10 +298,10 @@ module _ (profile : Profile) (A : ℕ → ℕ → Type 0) (keep : Bool) where
     bare-words (field public t rest) (fit, more) w = bare-more t (parts_of t) (bare_parts rest) (BareValid rest) (λ u. parts-words t fit u) (λ u. bare-words rest more u) w
 
     fields-words : (packed : Option ℕ) (end at : ℕ) (members : Fields) → end_of packed at (field_layouts members) ≤ end → AreFit profile members
-        → (w : Word) → InTurn pointer A keep (field_parts packed end at members) w ↔ ((at + length w ≡ end) × FieldsValid A keep packed at members w)
+        → (w : Word) → InTurn pointer A keep (field_parts end at (places packed at (field_layouts members)) members) w ↔ ((at + length w ≡ end) × FieldsValid A keep packed at members w)
     fields-words packed end at no_fields ends fit w = field-none packed at end ends w
     fields-words packed end at (field public t rest) ends (fit, more) w =
-        field-more packed end at public t rest (parts_of t) (field_parts packed end (place_at packed at (layout_of t) + size_of t) rest)
+        field-more packed end at public t rest (parts_of t) (field_parts end (place_at packed at (layout_of t) + size_of t) (places packed (place_at packed at (layout_of t) + size_of t) (field_layouts rest)) rest)
         (λ u. parts-words t fit u) (λ u. fields-words packed end (place_at packed at (layout_of t) + size_of t) rest ends more u) w
 
     union-words : (variants : Variants) (size : ℕ) → greatest_size (only (variant_layouts variants)) ≤ size → AreVariantsFit profile variants → (w : Word)
@@ -270,14 +326,15 @@ module _ (profile : Profile) (A : ℕ → ℕ → Type 0) (keep : Bool) where
           λ (long, h). ⊎_elim (λ valid. inl (here.1 (long, valid))) (λ valid. inr (others.1 (long, valid))) h,
         )
 
-    ways-words : (own : Profile) (tag : Option Primitive) (begin first size : ℕ) (variants : Variants) → (tag_layout own tag).size ≤ begin → VariantsEnd begin first size (variant_layouts variants)
-        → HoldsValues (tag_layout own tag).size variants → AreVariantsFit profile variants → (w : Word)
-        → OneOf pointer A keep (variant_ways own tag begin first (first + (size - begin)) variants) w ↔ ((length w ≡ size) × SomeVariantValid A keep own tag begin first variants w)
-    ways-words own tag begin first size no_variants below ends holds fit w = (λ h. absurd h, λ (long, h). absurd h)
-    ways-words own tag begin first size (variant value members rest) below (inside, end, ends) (small, holds) (fit, more) w =
-        let here = variant-one own tag begin first size value members (field_parts None (first + (size - begin)) first members) small below inside
-        (λ u. fields-words None (first + (size - begin)) first members end fit u) w in
-        let others = ways-words own tag begin first size rest below ends holds more w in (
+    ways-words : (own : Profile) (repr : Repr) (begin size : ℕ) (variants : Variants) → (tag_layout own repr.tag).size ≤ begin → (repr.c ≡ false → begin ≡ (tag_layout own repr.tag).size)
+        → VariantsEnd begin (first_place own repr) size (variant_layouts variants) → HoldsValues (tag_layout own repr.tag).size variants → AreVariantsFit profile variants → (w : Word)
+        → OneOf pointer A keep (variant_ways own repr begin size variants) w ↔ ((length w ≡ size) × SomeVariantValid A keep own repr.tag begin (first_place own repr) variants w)
+    ways-words own repr begin size no_variants below alone ends holds fit w = (λ h. absurd h, λ (long, h). absurd h)
+    ways-words own repr begin size (variant value members rest) below alone (inside, end, ends) (small, holds) (fit, more) w =
+        let ts = field_parts size (tag_layout own repr.tag).size (variant_places own repr begin (field_layouts members)) members in
+        let here = variant-one own repr.tag begin (first_place own repr) size value members ts small
+        (behind repr.c (tag_layout own repr.tag).size begin size members below inside alone end (λ packed end at ends u. fields-words packed end at members ends fit u)) w in
+        let others = ways-words own repr begin size rest below alone ends holds more w in (
           ⊎_elim (λ p. let (long, valid) = here.0 p in (long, inl valid)) (λ q. let (long, valid) = others.0 q in (long, inr valid)),
           λ (long, h). ⊎_elim (λ valid. inl (here.1 (long, valid))) (λ valid. inr (others.1 (long, valid))) h,
         )

@@ -1,5 +1,5 @@
 -- The tree of a type without alternatives has none.
-use Rattle.std.proofs.Common.{◌≡◌, ℕ, ◌+◌, ◌-◌, ◌==◌, ◌≤◌, refl, nat_le, Bool, true, false, ◌||◌, if◌then◌else◌, Option, None, List, [], ◌∷◌, ◌++◌, length, arith}
+use Rattle.std.proofs.Common.{◌≡◌, ℕ, ◌+◌, ◌-◌, ◌==◌, ◌≤◌, refl, nat_le, Bool, true, false, ◌||◌, if◌then◌else◌, List, [], ◌∷◌, ◌++◌, length, arith}
 use Rattle.std.proofs.lemmas.Bool.Decides.{nat_tests}
 use Rattle.tm_base.specs.declared.definition.Kind.TheVariants.{Struct, Union, Enum}
 use Rattle.tm_base.specs.declared.definition.Repr.{Repr}
@@ -11,9 +11,9 @@ use Rattle.tm_base.specs.declared.profile.Profile.{Profile}
 use Rattle.tm_base.specs.declared.tree.Tree.{Tree, Range, Pad, Ref, Private}
 use Rattle.tm_base.specs.declared.tree.Tree.TheBlock.{shape-the_row-Tree-1, hidden-the_row-Tree-1}
 use Rattle.tm_base.specs.Expanded.{Expanded, Fields, Variants, too_deep, prim, never, unit, tuple, array, nonzero, phantom, wrap, ref, named, no_fields, field, no_variants, variant}
-use Rattle.tm_base.specs.Layout.{layout_of, place_at, size_of, tag_layout}
+use Rattle.tm_base.specs.Layout.{field_layouts, places, size_of, tag_layout}
 use Rattle.tm_base.specs.Parts.{field_count, has_alternatives, is_char, is_maybe_uninit, is_option, some_part, some_field, some_variant, some_within, total_fields, variant_count}
-use Rattle.tm_base.specs.Places.{fields_place, first_place}
+use Rattle.tm_base.specs.Places.{fields_place, variant_places}
 use Rattle.tm_base.specs.Profiles.{pointer_size}
 use Rattle.tm_base.specs.Shapes.{HasNoAlternatives, NoneAlternative}
 use Rattle.tm_base.specs.Valid.{all_public}
@@ -103,10 +103,10 @@ unfolding parts_of
 union-count size no_fields = refl
 union-count size (field public t rest) = let e = union-count size rest in omega arith
 
-variant-count : (own : Profile) (tag : Option Primitive) (begin first end : ℕ) (variants : Variants) → length (variant_ways own tag begin first end variants) ≡ variant_count variants
+variant-count : (own : Profile) (repr : Repr) (begin size : ℕ) (variants : Variants) → length (variant_ways own repr begin size variants) ≡ variant_count variants
 unfolding parts_of
-variant-count own tag begin first end no_variants = refl
-variant-count own tag begin first end (variant value members rest) = let e = variant-count own tag begin first end rest in omega arith
+variant-count own repr begin size no_variants = refl
+variant-count own repr begin size (variant value members rest) = let e = variant-count own repr begin size rest in omega arith
 
 abbrev has_several_parts : Expanded → Bool
 has_several_parts t = some_within has_alternatives t
@@ -131,11 +131,11 @@ mutual
       union-single (size_of (named own id Union repr variants)) variants (few (total_fields variants) (first_none (nat_le 2 (total_fields variants)) (some_variant has_alternatives variants) h))
       (second_none (nat_le 2 (total_fields variants)) (some_variant has_alternatives variants) h)
   parts-single (named own id Enum repr variants) h =
-      let end = first_place own repr + (size_of (named own id Enum repr variants) - fields_place own repr variants) in
+      let size = size_of (named own id Enum repr variants) in
       let several = few (variant_count variants) (first_none (nat_le 2 (variant_count variants)) (some_variant has_alternatives variants) h) in
-      let count = variant-count own repr.tag (fields_place own repr variants) (first_place own repr) end variants in (
-        one_way (variant_ways own repr.tag (fields_place own repr variants) (first_place own repr) end variants) (omega arith)
-            (ways-single own repr.tag (fields_place own repr variants) (first_place own repr) end variants (second_none (nat_le 2 (variant_count variants)) (some_variant has_alternatives variants) h)),
+      let count = variant-count own repr (fields_place own repr variants) size variants in (
+        one_way (variant_ways own repr (fields_place own repr variants) size variants) (omega arith)
+            (ways-single own repr (fields_place own repr variants) size variants (second_none (nat_le 2 (variant_count variants)) (some_variant has_alternatives variants) h)),
         tt,
       )
 
@@ -143,21 +143,23 @@ mutual
   struct-single repr size no_variants h = (single-Never, tt)
   struct-single repr size (variant value members others) h =
       let inside = first_none (some_field has_alternatives members) (some_variant has_alternatives others) h in
-      single-guarded (all_public members) (if repr.transparent then bare_parts members else field_parts repr.packed size 0 members)
-      (either-single repr.transparent (bare_parts members) (field_parts repr.packed size 0 members) (bare-single members inside) (fields-single repr.packed size 0 members inside))
+      let placed = field_parts size 0 (places repr.packed 0 (field_layouts members)) members in
+      single-guarded (all_public members) (if repr.transparent then bare_parts members else placed)
+      (either-single repr.transparent (bare_parts members) placed (bare-single members inside) (fields-single size 0 (places repr.packed 0 (field_layouts members)) members inside))
 
   bare-single : (members : Fields) → some_field has_alternatives members ≡ false → NoneAlternative (bare_parts members)
   bare-single no_fields h = tt
   bare-single (field public t rest) h =
       NoneAlternative-append (parts_of t) (bare_parts rest) (parts-single t (first_none (some_within has_alternatives t) (some_field has_alternatives rest) h)) (bare-single rest (second_none (some_within has_alternatives t) (some_field has_alternatives rest) h))
 
-  fields-single : (packed : Option ℕ) (end at : ℕ) (members : Fields) → some_field has_alternatives members ≡ false → NoneAlternative (field_parts packed end at members)
-  fields-single packed end at no_fields h = single-pads (end - at)
-  fields-single packed end at (field public t rest) h =
-      NoneAlternative-append (pads (place_at packed at (layout_of t) - at)) (parts_of t ++ field_parts packed end (place_at packed at (layout_of t) + size_of t) rest) (single-pads (place_at packed at (layout_of t) - at))
-      (NoneAlternative-append (parts_of t) (field_parts packed end (place_at packed at (layout_of t) + size_of t) rest)
+  fields-single : (end at : ℕ) (ps : List ℕ) (members : Fields) → some_field has_alternatives members ≡ false → NoneAlternative (field_parts end at ps members)
+  fields-single end at ps no_fields h = single-pads (end - at)
+  fields-single end at [] (field public t rest) h = (single-Never, tt)
+  fields-single end at (place ∷ ps) (field public t rest) h =
+      NoneAlternative-append (pads (place - at)) (parts_of t ++ field_parts end (place + size_of t) ps rest) (single-pads (place - at))
+      (NoneAlternative-append (parts_of t) (field_parts end (place + size_of t) ps rest)
       (parts-single t (first_none (some_within has_alternatives t) (some_field has_alternatives rest) h))
-      (fields-single packed end (place_at packed at (layout_of t) + size_of t) rest (second_none (some_within has_alternatives t) (some_field has_alternatives rest) h)))
+      (fields-single end (place + size_of t) ps rest (second_none (some_within has_alternatives t) (some_field has_alternatives rest) h)))
 
   union-single : (size : ℕ) (variants : Variants) → total_fields variants ≤ 1 → some_variant has_alternatives variants ≡ false → NoneAlternative (union_parts size variants)
   union-single size no_variants n h = (single-Never, tt)
@@ -173,16 +175,15 @@ mutual
     union-each size rest (second_none (some_within has_alternatives t) (some_field has_alternatives rest) h),
   )
 
-  ways-single : (own : Profile) (tag : Option Primitive) (begin first end : ℕ) (variants : Variants) → some_variant has_alternatives variants ≡ false → NoneAlternative (variant_ways own tag begin first end variants)
-  ways-single own tag begin first end no_variants h = tt
-  ways-single own tag begin first end (variant value members rest) h = (
-    joined-single (tag_form own (tag_layout own tag).size value ∷ (pads (begin - (tag_layout own tag).size) ++ field_parts None end first members)) (
-      tag-single own (tag_layout own tag).size value,
-      NoneAlternative-append (pads (begin - (tag_layout own tag).size)) (field_parts None end first members) (single-pads (begin - (tag_layout own tag).size))
-          (fields-single None end first members (first_none (some_field has_alternatives members) (some_variant has_alternatives rest) h)),
-    ),
-    ways-single own tag begin first end rest (second_none (some_field has_alternatives members) (some_variant has_alternatives rest) h),
-  )
+  ways-single : (own : Profile) (repr : Repr) (begin size : ℕ) (variants : Variants) → some_variant has_alternatives variants ≡ false → NoneAlternative (variant_ways own repr begin size variants)
+  ways-single own repr begin size no_variants h = tt
+  ways-single own repr begin size (variant value members rest) h =
+      let tag = (tag_layout own repr.tag).size in
+      let ps = variant_places own repr begin (field_layouts members) in (
+        joined-single (tag_form own tag value ∷ field_parts size tag ps members)
+            (tag-single own tag value, fields-single size tag ps members (first_none (some_field has_alternatives members) (some_variant has_alternatives rest) h)),
+        ways-single own repr begin size rest (second_none (some_field has_alternatives members) (some_variant has_alternatives rest) h),
+      )
 
 -- the tree of a type without alternatives has none
 pub tree-single : (t : Expanded) → some_within has_alternatives t ≡ false → HasNoAlternatives (tree_for t)

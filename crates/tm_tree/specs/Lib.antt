@@ -3,3 +3,4 @@ pub mod Fit
 pub mod Laws
 pub mod Exact
 pub mod Pruned
+pub mod LaidOut

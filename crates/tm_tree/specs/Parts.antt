@@ -1,6 +1,6 @@
 -- The tree of a type. Trees in a row say what stands behind one another in memory. Which form they take is
 -- this project's.
-use Rattle.std.specs.Prelude.{ℕ, ◌+◌, ◌-◌, ◌==◌, Bool, if◌then◌else◌, Option, None, List, [], ◌∷◌, ◌++◌}
+use Rattle.std.specs.Prelude.{ℕ, ◌+◌, ◌-◌, ◌==◌, Bool, if◌then◌else◌, List, [], ◌∷◌, ◌++◌}
 use Rattle.tm_base.specs.declared.definition.Kind.TheVariants.{Struct, Union, Enum}
 use Rattle.tm_base.specs.declared.definition.Repr.{Repr}
 use Rattle.tm_base.specs.declared.ground.Primitive.{Primitive}
@@ -10,8 +10,8 @@ use Rattle.tm_base.specs.declared.ground.Wrapper.TheVariants.{Option as option, 
 use Rattle.tm_base.specs.declared.profile.Profile.{Profile}
 use Rattle.tm_base.specs.declared.tree.Tree.{Tree, Never, Range, Pad, Ref, Private}
 use Rattle.tm_base.specs.Expanded.{Expanded, Fields, Variants, too_deep, prim, never, unit, tuple, array, nonzero, phantom, wrap, ref, named, no_fields, field, no_variants, variant}
-use Rattle.tm_base.specs.Layout.{layout_of, place_at, prim_size, size_of, tag_layout}
-use Rattle.tm_base.specs.Places.{fields_place, first_place}
+use Rattle.tm_base.specs.Layout.{field_layouts, places, prim_size, size_of, tag_layout}
+use Rattle.tm_base.specs.Places.{fields_place, variant_places}
 use Rattle.tm_base.specs.Valid.{all_public}
 use Rattle.tm_niche.specs.Forms.{char_form, is_never, joined, nonzero_form, null_form, one_of, repeated, tag_form}
 
@@ -57,25 +57,25 @@ unfoldable mutual
   parts_of (named profile id Struct repr variants) = struct_parts repr (size_of (named profile id Struct repr variants)) variants
   parts_of (named profile id Union repr variants) = union_parts (size_of (named profile id Union repr variants)) variants
   parts_of (named profile id Enum repr variants) =
-      one_of (variant_ways profile repr.tag (fields_place profile repr variants) (first_place profile repr)
-      (first_place profile repr + (size_of (named profile id Enum repr variants) - fields_place profile repr variants)) variants) ∷ []
+      one_of (variant_ways profile repr (fields_place profile repr variants) (size_of (named profile id Enum repr variants)) variants) ∷ []
 
   -- a struct of so many bytes
   pub struct_parts : Repr → ℕ → Variants → List Tree
   struct_parts repr size no_variants = Never ∷ []
   struct_parts repr size (variant value members others) =
-      guarded (all_public members) (if repr.transparent then bare_parts members else field_parts repr.packed size 0 members)
+      guarded (all_public members) (if repr.transparent then bare_parts members else field_parts size 0 (places repr.packed 0 (field_layouts members)) members)
 
   -- fields that nothing stands between
   pub bare_parts : Fields → List Tree
   bare_parts no_fields = []
   bare_parts (field public t rest) = parts_of t ++ bare_parts rest
 
-  -- fields from a place on up to the end of what they are in, with the padding before and behind them
-  pub field_parts : Option ℕ → ℕ → ℕ → Fields → List Tree
-  field_parts packed end at no_fields = pads (end - at)
-  field_parts packed end at (field public t rest) =
-      pads (place_at packed at (layout_of t) - at) ++ (parts_of t ++ field_parts packed end (place_at packed at (layout_of t) + size_of t) rest)
+  -- fields at these places, from a place on up to the end of what they are in, with the padding before each and
+  -- behind the last
+  pub field_parts : ℕ → ℕ → List ℕ → Fields → List Tree
+  field_parts end at ps no_fields = pads (end - at)
+  field_parts end at [] (field public t rest) = Never ∷ []
+  field_parts end at (place ∷ ps) (field public t rest) = pads (place - at) ++ (parts_of t ++ field_parts end (place + size_of t) ps rest)
 
   -- a union of so many bytes
   pub union_parts : ℕ → Variants → List Tree
@@ -87,13 +87,13 @@ unfoldable mutual
   union_ways size no_fields = []
   union_ways size (field public t rest) = joined (parts_of t ++ pads (size - size_of t)) ∷ union_ways size rest
 
-  -- The tag of one of the variants, the padding up to where fields begin, and its fields, which are counted
-  -- from their own first place to their end.
-  pub variant_ways : Profile → Option Primitive → ℕ → ℕ → ℕ → Variants → List Tree
-  variant_ways profile tag begin first end no_variants = []
-  variant_ways profile tag begin first end (variant value members rest) =
-      joined (tag_form profile (tag_layout profile tag).size value ∷ (pads (begin - (tag_layout profile tag).size) ++ field_parts None end first members))
-      ∷ variant_ways profile tag begin first end rest
+  -- the tag of one of the variants of an enum of so many bytes, and its fields behind it
+  pub variant_ways : Profile → Repr → ℕ → ℕ → Variants → List Tree
+  variant_ways profile repr begin size no_variants = []
+  variant_ways profile repr begin size (variant value members rest) =
+      joined (tag_form profile (tag_layout profile repr.tag).size value
+      ∷ field_parts size (tag_layout profile repr.tag).size (variant_places profile repr begin (field_layouts members)) members)
+      ∷ variant_ways profile repr begin size rest
 
 -- the tree of a type
 unfoldable pub tree_for : Expanded → Tree

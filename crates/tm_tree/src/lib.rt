@@ -2,7 +2,11 @@
 //! fields may make.
 #![tactic(auto)]
 
+mod builder;
+mod fields;
 mod laws;
+mod plain;
+mod private;
 mod pruning;
 mod rows;
 mod types;
