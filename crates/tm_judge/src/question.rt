@@ -24,7 +24,7 @@ pub fn judge<L: Ledger>(
     alloc: Global,
     world: &World,
     layouts: &Layouts,
-    order: &Order,
+    _order: &Order,
     compat: &Compat,
     ask: &Ask,
     steps: &mut Steps<L>,

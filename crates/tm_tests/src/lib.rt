@@ -14,3 +14,5 @@ mod lines;
 mod marks;
 #[cfg(test)]
 mod runs;
+#[cfg(test)]
+mod words;
