@@ -1,7 +1,8 @@
 -- The symbols by which a pair is expanded give all its steps.
-use Rattle.std.proofs.Common.{◌≡◌, ◌≢◌, ℕ, zero, suc, ◌+◌, ◌<◌, ◌≤◌, ◌⊎◌, inl, inr, Bool, true, false, ◌&&◌, cond, nat_lt, List, [], ◌∷◌, ◌++◌, map, length, refl, sym, ap, ◌∙◌, subst, arith}
+use Rattle.std.proofs.Common.{◌≡◌, ◌≢◌, ℕ, zero, suc, ◌+◌, ◌<◌, ◌≤◌, ◌⊎◌, inl, inr, Bool, true, false, ◌&&◌, cond, nat_lt, List, [], ◌∷◌, ◌++◌, map, length, drop, get_or, refl, sym, ap, ◌∙◌, subst, arith}
 use Rattle.std.specs.Prelude.{◌==◌, ◌||◌}
 use Rattle.std.proofs.lemmas.Bool.{cases_lt}
+use Rattle.std.proofs.lemmas.List.{drop_more, drop_all}
 use Rattle.tm_base.specs.declared.cell.Cell.{Cell}
 use Rattle.tm_base.specs.declared.cell.Cell.TheVariants as cell
 use Rattle.tm_base.specs.Orders.{cell_less}
@@ -10,17 +11,18 @@ use Rattle.tm_base.proofs.OrderLemmas.{cell_less-asym}
 use Rattle.tm_auto.specs.declared.edge.Edge.{Edge}
 use Rattle.tm_auto.specs.declared.edge.Symbol.{Symbol}
 use Rattle.tm_auto.specs.declared.edge.Symbol.TheVariants as symbol
-use Rattle.tm_auto.specs.Automata.{Automaton, equal}
+use Rattle.tm_auto.specs.Automata.{Automaton, IsStep, equal}
 use Rattle.tm_auto.specs.Classes.{HasCell, IsFormed, AreInOrder, LeavesSet, TakesFrom, AreClasses}
 use Rattle.tm_auto.specs.Labels.{Takes}
 use Rattle.tm_auto.specs.Paths.{Among, here, there}
 use Rattle.tm_auto.specs.Sets.{has_state, with_state, passes, next, symbol_of}
 use Rattle.tm_auto.proofs.AmongLemmas.{none_among, some_among}
-use Rattle.tm_auto.proofs.SetLemmas.{bool_cases, has_to}
-use Rattle.tm_auto.proofs.StepLemmas.{passes_takes, next_to, to_next}
-use Rattle.tm_walk.specs.Layers.{Entry, Precedes, AreRising, first_cell, source_step, target_step, offers, AreSymbols, Goes, IsStepFrom, AreStepsFrom}
+use Rattle.tm_auto.proofs.SetLemmas.{bool_cases, has_to, rises_same, increasing_rises}
+use Rattle.tm_auto.proofs.StepLemmas.{passes_takes, next_to, to_next, next-IsStrictlyIncreasing}
+use Rattle.tm_walk.specs.Layers.{Entry, Precedes, AreRising, IsOffered, AreOffered, first_cell, source_step, target_step, offers, AreSymbols, Goes, IsStepFrom, AreStepsFrom}
 use Rattle.tm_walk.proofs.NumberLemmas.{among_map, among_unmap}
-use Rattle.tm_walk.proofs.OfferLemmas.{among_one}
+use Rattle.tm_walk.specs.Words.{IsLeastCell}
+use Rattle.tm_walk.proofs.OfferLemmas.{among_one, among_cases}
 
 -- two symbols that the same edges pass lead to the same set
 pub next_same : (A : ℕ → ℕ → Bool) (es : List Edge) (from : List ℕ) (x y : Symbol) → ((e : Edge) → Among e es → Among e.from from → passes A e.label x ≡ passes A e.label y) → next A es from x ≡ next A es from y
@@ -32,12 +34,18 @@ next_same A (e ∷ es) from x y h =
       | inr a ↦ rw (a, rest) refl
     ]
 
+-- what a step leads to is told by the states alone
+pub step_is : (A : ℕ → ℕ → Bool) (auto : Automaton) (from : List ℕ) (x : Symbol) (set : List ℕ) → IsStep A auto from x set → set ≡ next A auto.edges from x
+step_is A auto from x set s = rises_same set (next A auto.edges from x) (increasing_rises set s.rising) (increasing_rises _ (next-IsStrictlyIncreasing A auto.edges from x))
+  (λ t a. let (e, ea, ef, ep, eq) = (s.states t).0 a in subst (λ (z : ℕ). Among z (next A auto.edges from x)) eq (to_next A auto.edges from x e ea ef ep))
+  (λ t a. (s.states t).1 (next_to A auto.edges from x t a))
+
 first_in : (x : Symbol) → IsFormed x → HasCell x (first_cell x)
 first_in (symbol.Bytes first last) f = (omega arith, f.0)
 first_in symbol.Uninit f = refl
 first_in (symbol.Ptr r k) f = refl
 
-cell_less-irreflexive : (c : Cell) → cell_less c c ≡ false
+pub cell_less-irreflexive : (c : Cell) → cell_less c c ≡ false
 cell_less-irreflexive c = elim (bool_cases (cell_less c c)) [ inl a ↦ (let b = cell_less-asym c c a in cc) | inr a ↦ a ]
 
 -- no cell of a symbol is less than its first
@@ -54,6 +62,21 @@ first_least (symbol.Ptr r k) c h = subst (λ (z : Cell). cell_less z (cell.Ptr r
 module _ (A : ℕ → ℕ → Bool) (src dst : Automaton) (from to : List ℕ) (k : ℕ) where
   abbrev offer : Symbol → Entry
   offer x = record { src = source_step A src dst from x; dst = target_step A src dst to x; parent = k; cell = first_cell x }
+
+  -- the symbol at a place is offered, and then those behind it
+  pub offer_turn : (xs : List Symbol) (i : ℕ) (d : Symbol) → i < length xs → (s t : List ℕ) (c : Cell)
+      → IsStep equal src from (get_or xs i d) s → IsStep A dst to (get_or xs i d) t → c ≡ first_cell (get_or xs i d)
+      → (before between after : List Entry) → IsOffered (record { src = s; dst = t; parent = k; cell = c }) before between
+      → AreOffered (offers A src dst from to k (drop (i + 1) xs)) between after → AreOffered (offers A src dst from to k (drop i xs)) before after
+  offer_turn xs i d l s t c hs ht hc before between after o rest =
+      let a : s ≡ source_step A src dst from (get_or xs i d) = step_is equal src from (get_or xs i d) s hs in
+      let b : t ≡ target_step A src dst to (get_or xs i d) = step_is A dst to (get_or xs i d) t ht in
+      let same : ◌≡◌ {A = Entry} (record { src = s; dst = t; parent = k; cell = c }) (offer (get_or xs i d)) = rw (a, b, hc) refl in
+      subst (λ (z : List Symbol). AreOffered (offers A src dst from to k z) before after) (sym (drop_more xs i d l))
+        (between, subst (λ (z : Entry). IsOffered z before between) same o, rest)
+
+  pub offers_end : (xs : List Symbol) (i : ℕ) → length xs ≤ i → (next : List Entry) → AreOffered (offers A src dst from to k (drop i xs)) next next
+  offers_end xs i l next = subst (λ (z : List Symbol). AreOffered (offers A src dst from to k z) next next) (sym (drop_all i xs l)) refl
 
   pub offers_rise : (xs : List Symbol) → AreInOrder xs → ((x : Symbol) → Among x xs → IsFormed x) → AreRising (offers A src dst from to k xs)
   offers_rise [] o f = tt
@@ -123,3 +146,18 @@ module _ (A : ℕ → ℕ → Bool) (src dst : Automaton) (from to : List ℕ) (
     | inl l ↦ steps_within xs (s.within l) place l p ps pd
     | inr l ↦ subst (λ (z : List Symbol). AreStepsFrom A src dst place p k (offers A src dst from to k z)) (sym (s.behind l)) (steps_behind place l p ps pd)
   ]
+
+-- the first cell of the first class is the least that the source's states take
+pub some_class : (src dst : Automaton) (from to : List ℕ) (xs : List Symbol) → AreClasses src from dst to xs → (c : Cell) × TakesFrom src from c → 0 < length xs
+some_class src dst from to [] a (c, t) = let (x, m, h) = (a.covers c).0 t in absurd (none_among m)
+some_class src dst from to (x ∷ xs) a t = omega arith
+
+pub first_class : (src dst : Automaton) (from to : List ℕ) (xs : List Symbol) (d : Symbol) → AreClasses src from dst to xs → 0 < length xs → IsLeastCell src from (first_cell (get_or xs 0 d))
+first_class src dst from to [] d a l = absurd (omega arith)
+first_class src dst from to (x ∷ xs) d a l = record {
+  taken = (a.covers (first_cell x)).1 (x, here, first_in x (a.formed x here));
+  least = λ c t. let (y, m, h) = (a.covers c).0 t in elim (among_cases x y m) [
+    | inl e ↦ first_least x c (subst (λ (z : Symbol). HasCell z c) e h)
+    | inr n ↦ cell_less-asym (first_cell x) c (a.ordered.0 y (first_cell x) c n (first_in x (a.formed x here)) h)
+  ];
+}

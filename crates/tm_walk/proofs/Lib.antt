@@ -6,3 +6,11 @@ pub mod PairLemmas
 pub mod OfferLemmas
 pub mod ExpandLemmas
 pub mod NextLayerLemmas
+pub mod LessLemmas
+pub mod ChainLemmas
+pub mod WayLemmas
+pub mod CompletionLemmas
+pub mod LiveLemmas
+pub mod FoundLemmas
+pub mod CostLemmas
+pub mod RunLemmas

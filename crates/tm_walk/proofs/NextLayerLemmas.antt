@@ -1,16 +1,19 @@
 -- One pair after the other is expanded into the next layer.
-use Rattle.std.proofs.Common.{◌≡◌, ◌≢◌, ℕ, zero, suc, ◌+◌, ◌<◌, ◌≤◌, ◌⊎◌, inl, inr, Bool, true, false, cond, List, [], ◌∷◌, ◌++◌, length, take, Some, slice_get, refl, sym, ap, ◌∙◌, subst, arith}
+use Rattle.std.proofs.Common.{◌≡◌, ◌≢◌, ℕ, zero, suc, ◌+◌, ◌<◌, ◌≤◌, ◌⊎◌, inl, inr, Bool, true, false, cond, List, [], ◌∷◌, ◌++◌, length, take, Some, Result, Ok, Err, OnOk, slice_get, add-one, refl, sym, ap, ◌∙◌, subst, arith}
 use Rattle.std.proofs.lemmas.Bool.{cases_lt}
 use Rattle.std.proofs.lemmas.Option.{slice_get_within, same_Some}
 use Rattle.tm_base.specs.declared.cell.Cell.{Cell}
 use Rattle.tm_base.specs.Orders.{cell_less}
 use Rattle.tm_base.proofs.OrderLemmas.{cell_less-total, cell_less-trans, cell_less-asym}
-use Rattle.tm_auto.specs.Automata.{Automaton}
+use Rattle.tm_auto.specs.declared.edge.Symbol.{Symbol}
+use Rattle.tm_auto.specs.Automata.{Automaton, AreStates}
 use Rattle.tm_auto.specs.Paths.{Among, here, there}
 use Rattle.tm_auto.specs.Sets.{symbol_of}
 use Rattle.tm_auto.proofs.AmongLemmas.{among_left, among_right, among_either, none_among}
 use Rattle.tm_auto.proofs.SetLemmas.{bool_cases}
-use Rattle.tm_walk.specs.Layers.{is_live, weight, weights, Entry, HaveSameSets, Precedes, IsHeld, AreOffered, source_step, target_step, Goes, IsStepFrom, AreStepsFrom, IsExpanded, IsFrom, IsReached, IsNext}
+use Rattle.tm_walk.specs.Layers.{is_live, IsFirstStop, weight, weights, weight_at, Entry, HasStates, AreSymbols, offers, HaveSameSets, Precedes, IsHeld, AreOffered, source_step, target_step, Goes, IsStepFrom, AreStepsFrom, IsExpanded, IsFrom, IsReached, IsNext}
+use Rattle.tm_walk.proofs.ExpandLemmas.{steps_are}
+use Rattle.tm_walk.proofs.NumberLemmas.{get_among}
 use Rattle.tm_walk.proofs.OfferLemmas.{Keeps, keeps, rising-append, apart-append}
 
 -- a cell that isn't less than one that isn't less than a third isn't less than that
@@ -133,3 +136,64 @@ weights_one skip (e ∷ es) h = elim (bool_cases (skip (is_live e.dst))) [
       | inl a ↦ rw a (let r = none fs (λ k y q t. g (suc k) y q t) in omega arith)
       | inr a ↦ absurd (g 0 f refl a)
     ]
+
+pub weight_at-entry : (skip : Bool → Bool) (layer : List Entry) (i : ℕ) (x : Entry) → slice_get layer i ≡ Some x → weight_at skip layer i ≡ weight skip x
+weight_at-entry skip [] i x h = cc
+weight_at-entry skip (e ∷ es) zero x h = let q : e ≡ x = cc in ap (weight skip) q
+weight_at-entry skip (e ∷ es) (suc i) x h = weight_at-entry skip es i x h
+
+-- what is read of the pair that is expanded: its sets, and that it isn't skipped
+module _ (skip : Bool → Bool) (layer : List Entry) (k : ℕ) (from to : List ℕ) (read : (e : Entry) × (slice_get layer k ≡ Some e) × (from ≡ e.src) × (to ≡ e.dst)) where
+  pub goes_on_weight : (skipped : Bool) → skipped ≡ skip (is_live to) → skipped ≡ false → weight_at skip layer k ≡ 1
+  goes_on_weight skipped is e =
+      let (x, at, s, d) = read in
+      let z : skip (is_live x.dst) ≡ false = ap (λ (y : List ℕ). skip (is_live y)) (sym d) ∙ sym is ∙ e in
+      weight_at-entry skip layer k x at ∙ rw z refl
+
+  module _ (A : ℕ → ℕ → Bool) (src dst : Automaton) where
+    pub read_source : ((e : Entry) → Among e layer → HasStates A src dst e) → AreStates src from
+    read_source all = let (x, at, s, d) = read in subst (AreStates src) (sym s) (all x (get_among layer k x at)).0
+
+    pub read_target : ((e : Entry) → Among e layer → HasStates A src dst e) → AreStates dst to
+    read_target all = let (x, at, s, d) = read in subst (AreStates dst) (sym d) (all x (get_among layer k x at)).1
+
+    pub skipped_expanded : (place : ℕ) (skipped : Bool) → skipped ≡ skip (is_live to) → skipped ≡ true → (next : List Entry) → IsExpanded A src dst skip place layer k next next
+    skipped_expanded place skipped is e next =
+        let (x, at, s, d) = read in
+        record { pair = x; at = at; either = inl (ap (λ (y : List ℕ). skip (is_live y)) (sym d) ∙ sym is ∙ e, refl) }
+
+    pub steps_expanded : (place : ℕ) (skipped : Bool) → skipped ≡ skip (is_live to) → skipped ≡ false → (symbols : List Symbol) → AreSymbols A src dst place from to symbols
+        → (before after : List Entry) → AreOffered (offers A src dst from to k symbols) before after → IsExpanded A src dst skip place layer k before after
+    steps_expanded place skipped is e symbols a before after o =
+        let (x, at, s, d) = read in
+        record {
+          pair = x; at = at;
+          either = inr (ap (λ (y : List ℕ). skip (is_live y)) (sym d) ∙ sym is ∙ e, (offers A src dst from to k symbols, steps_are A src dst from to k symbols place a x (sym s) (sym d), o));
+        }
+
+pub on_ok : {X E : Type 0} {P Q : Type 0} (r : Result X E) → (P → Q) → OnOk r P → OnOk r Q
+on_ok (Ok x) f h = f h
+on_ok (Err e) f h = h
+
+-- the cost up to one more pair
+pub weights_turn : (skip : Bool → Bool) (layer : List Entry) (i first before after : ℕ) → i < length layer → before ≤ first + weights skip (take i layer) → after ≤ before + weight_at skip layer i → after ≤ first + weights skip (take (i + 1) layer)
+weights_turn skip layer i first before after l b a =
+    let (x, at) = inside layer i l in
+    let m = weights_more skip layer i x at in
+    let w = weight_at-entry skip layer i x at in
+    rw add-one (omega arith)
+  where
+    inside : (xs : List Entry) (i : ℕ) → i < length xs → (x : Entry) × (slice_get xs i ≡ Some x)
+    inside [] i l = absurd (omega arith)
+    inside (x ∷ xs) zero l = (x, refl)
+    inside (x ∷ xs) (suc i) l = inside xs i (omega arith)
+
+-- the first pair on which the quantifier stops, as it is read
+pub stop_found : (stop : Bool → Bool → Bool) (at_end : Bool) (layer : List Entry) (k : ℕ) (from to : List ℕ)
+    → (e : Entry) × (slice_get layer k ≡ Some e) × (from ≡ e.src) × (to ≡ e.dst) → (live : Bool) → live ≡ is_live to → (stops : Bool) → stops ≡ stop live at_end → stops ≡ true
+    → ((j : ℕ) (e : Entry) → j < k → slice_get layer j ≡ Some e → stop (is_live e.dst) at_end ≡ false) → IsFirstStop stop at_end layer k
+stop_found stop at_end layer k from to (e, at, s, t) live l stops h stopped first = record {
+  entry = e; at = at;
+  stops = ap (λ (z : List ℕ). stop (is_live z) at_end) (sym t) ∙ ap (λ (b : Bool). stop b at_end) (sym l) ∙ sym h ∙ stopped;
+  first = first;
+}

@@ -1,9 +1,11 @@
 -- Pairs offered in rising order: what becomes of them.
-use Rattle.std.proofs.Common.{◌≡◌, ℕ, zero, suc, ◌<◌, ◌≤◌, ◌⊎◌, inl, inr, List, [], ◌∷◌, ◌++◌, Some, slice_get, refl, sym, ap, ◌∙◌, subst, arith, append_assoc}
+use Rattle.std.proofs.Common.{◌≡◌, ◌≢◌, ℕ, Bool, true, false, zero, suc, ◌<◌, ◌≤◌, ◌⊎◌, inl, inr, List, [], ◌∷◌, ◌++◌, Some, slice_get, refl, sym, ap, ◌∙◌, subst, arith, append_assoc}
 use Rattle.std.proofs.lemmas.List.{append-nil}
 use Rattle.tm_auto.specs.Paths.{Among, here, there}
 use Rattle.tm_auto.proofs.AmongLemmas.{among_left, among_right, among_either, none_among}
-use Rattle.tm_walk.specs.Layers.{Entry, HaveSameSets, Precedes, AreRising, AreApart, IsHeld, IsOffered, AreOffered}
+use Rattle.tm_base.specs.declared.cell.Cell.{Cell}
+use Rattle.tm_auto.specs.Automata.{Automaton}
+use Rattle.tm_walk.specs.Layers.{is_live, Entry, IsStart, HaveSameSets, Precedes, AreRising, AreApart, IsHeld, IsOffered, AreOffered}
 use Rattle.tm_walk.proofs.NumberLemmas.{get_among}
 
 pub among_one : {X : Type 0} (x y : X) → Among x (y ∷ []) → x ≡ y
@@ -105,3 +107,29 @@ apart_at (x ∷ es) r zero zero e f l a b = absurd (omega arith)
 apart_at (x ∷ es) r zero (suc k) e f l a b = let q : x ≡ e = cc in subst (λ (z : Entry). ¬ HaveSameSets z f) q (r.0 f (get_among es k f b))
 apart_at (x ∷ es) r (suc j) zero e f l a b = absurd (omega arith)
 apart_at (x ∷ es) r (suc j) (suc k) e f l a b = apart_at es r.1 j k e f (omega arith) a b
+
+-- ---- the first layer
+
+pub start_none : (src dst : Automaton) → src.starts ≡ [] → IsStart src dst []
+start_none src dst e = record { each = λ k x h. cc; some = λ n. absurd (n e) }
+
+pub start_one : (src dst : Automaton) (e : Entry) (layer : List Entry) → e.src ≡ src.starts → e.dst ≡ dst.starts → src.starts ≢ [] → IsOffered e [] layer → IsStart src dst layer
+start_one src dst e layer a b n (inl ((f, m, s), q)) = absurd (none_among m)
+start_one src dst e layer a b n (inr (q, new)) = subst (IsStart src dst) (sym q) (record { each = go; some = λ z. (e, refl) })
+  where
+    go : (k : ℕ) (x : Entry) → slice_get (e ∷ []) k ≡ Some x → (k ≡ 0) × (x.src ≡ src.starts) × (x.dst ≡ dst.starts) × (src.starts ≢ [])
+    go zero x h = let z : e ≡ x = cc in (refl, ap (λ (y : Entry). y.src) (sym z) ∙ a, ap (λ (y : Entry). y.dst) (sym z) ∙ b, n)
+    go (suc k) x h = cc
+
+pub started : (src dst : Automaton) (from to : List ℕ) (parent : ℕ) (c : Cell) (layer : List Entry) → from ≡ src.starts → to ≡ dst.starts → is_live from ≡ true
+    → (before : List Entry) → before ≡ [] → IsOffered (record { src = from; dst = to; parent = parent; cell = c }) before layer → IsStart src dst layer
+started src dst from to parent c layer a b live before none o =
+    start_one src dst (record { src = from; dst = to; parent = parent; cell = c }) layer a b (λ q. let z : is_live from ≡ false = ap is_live (a ∙ q) in cc)
+      (subst (λ (z : List Entry). IsOffered (record { src = from; dst = to; parent = parent; cell = c }) z layer) none o)
+
+pub unstarted : (src dst : Automaton) (from : List ℕ) (layer : List Entry) → from ≡ src.starts → is_live from ≡ false → layer ≡ [] → IsStart src dst layer
+unstarted src dst from layer a dead none = subst (IsStart src dst) (sym none) (start_none src dst (sym a ∙ nothing from dead))
+  where
+    nothing : (xs : List ℕ) → is_live xs ≡ false → xs ≡ []
+    nothing [] h = refl
+    nothing (x ∷ xs) h = cc

@@ -66,6 +66,28 @@ abbrev pub weights : (Bool → Bool) → List Entry → ℕ
 weights skip [] = 0
 weights skip (e ∷ es) = weight skip e + weights skip es
 
+-- whether the k-th is
+abbrev pub weight_at : (Bool → Bool) → List Entry → ℕ → ℕ
+weight_at skip [] k = 0
+weight_at skip (e ∷ es) zero = weight skip e
+weight_at skip (e ∷ es) (suc k) = weight_at skip es k
+
+-- the first layer: the pair of the starts, or nothing where the source has no start
+pub record IsStart (src dst : Automaton) (layer : List Entry) : Type 0 where
+  pub each : (k : ℕ) (e : Entry) → slice_get layer k ≡ Some e → (k ≡ 0) × (e.src ≡ src.starts) × (e.dst ≡ dst.starts) × (src.starts ≢ [])
+  pub some : src.starts ≢ [] → (e : Entry) × (slice_get layer 0 ≡ Some e)
+
+-- the quantifier stops on no pair of the layer
+abbrev pub NoneStops : (Bool → Bool → Bool) → Bool → List Entry → Type 0
+NoneStops stop at_end layer = (k : ℕ) (e : Entry) → slice_get layer k ≡ Some e → stop (is_live e.dst) at_end ≡ false
+
+-- the k-th is the first on which it does
+pub record IsFirstStop (stop : Bool → Bool → Bool) (at_end : Bool) (layer : List Entry) (k : ℕ) : Type 0 where
+  pub entry : Entry
+  pub at : slice_get layer k ≡ Some entry
+  pub stops : stop (is_live entry.dst) at_end ≡ true
+  pub first : (j : ℕ) (e : Entry) → j < k → slice_get layer j ≡ Some e → stop (is_live e.dst) at_end ≡ false
+
 module _ (A : ℕ → ℕ → Bool) (src dst : Automaton) where
   abbrev pub source_step : List ℕ → Symbol → List ℕ
   source_step from x = next equal src.edges from x

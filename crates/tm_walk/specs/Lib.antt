@@ -2,3 +2,5 @@ pub mod Sought
 pub mod Meanings
 pub mod Layers
 pub mod Numbers
+pub mod Ways
+pub mod Words

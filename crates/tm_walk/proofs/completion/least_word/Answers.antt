@@ -1,0 +1,40 @@
+use Rattle.std.proofs.Common.{◌≡◌, ◌<◌, ◌≤◌, ℕ, ◌∙◌, sym, ap, subst, arith, List, length, take, min}
+use Rattle.std.proofs.lemmas.List.{take_all}
+use Rattle.tm_base.specs.declared.cell.Cell.{Cell}
+use Rattle.tm_auto.specs.Automata.{Automaton, reached, equal}
+use Rattle.tm_auto.specs.Classes.{TakesFrom}
+use Rattle.tm_walk.specs.Words.{IsLeastCell}
+use Rattle.tm_walk.proofs.CompletionLemmas.{IsBegun, begin, go_on, next_some, finish}
+use Rattle.tm_walk.proofs.completion.least_word.Goals as goal
+
+pub rest-init : goal.rest-init
+rest-init c = record {
+  src = c.given.invariant.src;
+  begun = begin c.args.src.now c.law.ensures.automaton c.law.ensures.reads c.args.cells.now c.given.reading.word c.requires
+    (c.given.invariant.word ∙ take_all c.given.cell-index (take c.min.result c.args.cells.now) c.given-test.false
+      ∙ ap (λ (n : ℕ). take n c.args.cells.now) (c.min.ensures ∙ ap (min (length c.args.cells.now)) c.size-size.ensures));
+}
+
+pub least_next-requires : goal.least_next-requires
+least_next-requires c =
+    let src = c.args.src.now in
+    let l : length c.rest.reading.word < src.size = (let t = c.rest-test.true in let e = c.len.ensures in let z = c.size-size.ensures in omega arith) in
+    let some = next_some src c.law.ensures.automaton c.law.ensures.reads c.args.cells.now c.rest.reading.word c.rest.invariant.begun l in
+    let at : c.rest.reading.set ≡ reached equal src c.rest.reading.word = c.rest.reading.reached ∙ ap (λ (a : Automaton). reached equal a c.rest.reading.word) c.rest.invariant.src in
+    subst (λ (a : Automaton). (x : Cell) × TakesFrom a c.rest.reading.set x) (sym c.rest.invariant.src) (subst (λ (z : List ℕ). (x : Cell) × TakesFrom src z x) (sym at) some)
+
+pub rest-preserved : goal.rest-preserved
+rest-preserved c =
+    let src = c.args.src.now in
+    let l : length c.rest.reading.word < src.size = (let t = c.rest-test.true in let e = c.len.ensures in let z = c.size-size.ensures in omega arith) in
+    let at : c.rest.reading.set ≡ reached equal src c.rest.reading.word = c.rest.reading.reached ∙ ap (λ (a : Automaton). reached equal a c.rest.reading.word) c.rest.invariant.src in
+    let least = subst (λ (z : List ℕ). IsLeastCell src z c.in_ok-cell.cell) at (subst (λ (a : Automaton). IsLeastCell a c.rest.reading.set c.in_ok-cell.cell) c.rest.invariant.src c.in_ok-cell.ensures) in
+    record {
+      src = c.in_ok-read-2.ensures.src ∙ c.rest.invariant.src;
+      begun = rw c.in_ok-read-2.ensures.word (go_on src c.law.ensures.automaton c.law.ensures.reads c.args.cells.now c.rest.reading.word c.in_ok-cell.cell c.rest.invariant.begun l least);
+    }
+
+pub returns : goal.returns
+returns c =
+    let l : c.args.src.now.size ≤ length c.rest.reading.word = (let t = c.rest-test.false in let e = c.len.ensures in let z = c.size-size.ensures in omega arith) in
+    finish c.args.src.now c.law.ensures.automaton c.law.ensures.reads c.args.cells.now c.rest.reading.word c.rest.invariant.begun l

@@ -1,0 +1,57 @@
+ghost use Rattle.std.specs.Prelude.{◌≡◌, [], ◌∷◌, ◌++◌, IfOk, OnOk, OnErr};
+ghost use Rattle.tm_base.specs.declared.cell.Cell.{Cell};
+ghost use Rattle.tm_auto.specs.Automata.{AreStates, reached, equal};
+ghost use Rattle.tm_auto.specs.Classes.{TakesFrom};
+ghost use Rattle.tm_walk.specs.Words.{IsLeastCell};
+
+use crate::symbol::{least, symbol_of};
+use std::alloc::Global;
+use tm_auto::{Auto, StateSet, classes};
+use tm_base::{Cell, Equal, List, Memory, Word};
+
+/// A source word as far as it is read, with the states that it reaches.
+#[derive(Drop)]
+pub struct Reading<'a> {
+    pub src: &'a Auto,
+    pub word: Word,
+    pub set: StateSet,
+    pub ghost reached: { set ≡ reached equal src.now word },
+    pub ghost states: { AreStates src.now set },
+}
+
+impl<'a> Reading<'a> {
+    /// Nothing is read yet.
+    pub fn new(alloc: Global, src: &'a Auto) -> Result<Reading<'a>, Memory>
+        ensures src { IfOk result (λ reading. reading.src.now ≡ src.now) }
+        ensures word { IfOk result (λ reading. reading.word ≡ []) }
+    {
+        let set = src.start(alloc)?;
+        Ok(Reading {
+            src,
+            word: List::new(alloc),
+            set,
+        })
+    }
+
+    /// Reads a cell.
+    pub fn read(&mut self, alloc: Global, cell: Cell) -> Result<(), Memory>
+        ensures src { self.new.src.now ≡ self.old.src.now }
+        ensures word { OnOk result (self.new.word ≡ self.old.word ++ cell ∷ []) }
+    {
+        let set = self
+            .src
+            .step(alloc, &Equal, &self.set, symbol_of(cell))?;
+        self.word.add(cell)?;
+        self.set = set;
+        Ok(())
+    }
+
+    /// The least cell that may come next.
+    pub fn least_next(&self, alloc: Global) -> Result<Cell, Memory>
+        requires { ((c : Cell) × TakesFrom self.now.src.now self.now.set c) }
+        ensures { IfOk result (λ cell. IsLeastCell self.now.src.now self.now.set cell) }
+    {
+        let symbols = classes(alloc, self.src, &self.set, self.src, &self.set)?;
+        Ok(least(symbols.as_slice()[0]))
+    }
+}

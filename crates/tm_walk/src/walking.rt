@@ -1,0 +1,111 @@
+//! The walk itself: layer after layer, up to the first pair on which the quantifier stops.
+ghost use Rattle.std.specs.Prelude.{◌≡◌, ℕ, ◌+◌, ◌<◌, ◌≤◌, ◌^◌, IfOk, IfSome, IfNone, MatchOption, length};
+ghost use Rattle.tm_auto.specs.Automata.{HasOneStateALayer};
+ghost use Rattle.tm_walk.specs.Layers.{NoneStops, IsFirstStop};
+ghost use Rattle.tm_walk.specs.Sought.{NoneIsSought, IsFound, HaltsWhereDead};
+ghost use Rattle.tm_walk.specs.Ways.{cells_to, LeadsBack};
+ghost use Rattle.tm_walk.specs.Words.{IsFront, IsLeastWord, live_length};
+
+use crate::advance::Walk;
+use crate::completion::{least_word, live_length};
+use crate::history::History;
+use crate::layer::Layer;
+use crate::live::is_live;
+use crate::quantifier::Quantifier;
+use std::alloc::Global;
+use std::sync::ledger::Ledger;
+use tm_auto::Auto;
+use tm_base::{Memory, RefTest, Steps, Word};
+
+/// What a walk found.
+#[derive(Debug, Drop)]
+pub struct Found {
+    /// A source word, of the source's size in cells.
+    pub word: Word,
+    /// How many of its cells, fitted to the target's size, the target accepts before it is found.
+    pub offset: u32,
+}
+
+/// Seeks a source word on which the quantifier stops: what it finds is the least of those on which it
+/// stops earliest, and `None` says that there is none. Each pair of sets of states that is expanded
+/// costs one step.
+pub fn walk<Q: Quantifier, M: RefTest, L: Ledger>(
+    alloc: Global,
+    q: &Q,
+    src: &Auto,
+    dst: &Auto,
+    refs: &M,
+    steps: &mut Steps<L>,
+) -> Result<Option<Found>, Memory>
+    ensures found { IfOk result (λ answer. IfSome answer (λ f. IsFound (M.test refs.now) src.now dst.now (Q.stop q.now) (Q.skip q.now) f.word f.offset)) }
+    ensures none { IfOk result (λ answer. IfNone answer (NoneIsSought (M.test refs.now) src.now dst.now (Q.stop q.now) (Q.skip q.now))) }
+    ensures cost { HasOneStateALayer src.now → HasOneStateALayer dst.now → HaltsWhereDead (Q.stop q.now) (Q.skip q.now) → steps.new ≤ steps.old + (dst.now.size + 1) }
+    ensures counted { steps.old ≤ steps.new }
+{
+    Walk {
+        alloc,
+        quantifier: q,
+        src,
+        dst,
+        refs,
+    }
+    .run(steps)
+}
+
+impl<'a, Q: Quantifier, M: RefTest> Walk<'a, Q, M> {
+    /// What `walk` answers.
+    fn run<L: Ledger>(&self, steps: &mut Steps<L>) -> Result<Option<Found>, Memory>
+        ensures found { IfOk result (λ answer. IfSome answer (λ f. IsFound (M.test self.now.refs.now) self.now.src.now self.now.dst.now (Q.stop self.now.quantifier.now) (Q.skip self.now.quantifier.now) f.word f.offset)) }
+        ensures none { IfOk result (λ answer. IfNone answer (NoneIsSought (M.test self.now.refs.now) self.now.src.now self.now.dst.now (Q.stop self.now.quantifier.now) (Q.skip self.now.quantifier.now))) }
+        ensures cost { HasOneStateALayer self.now.src.now → HasOneStateALayer self.now.dst.now → HaltsWhereDead (Q.stop self.now.quantifier.now) (Q.skip self.now.quantifier.now)
+            → steps.new ≤ steps.old + (self.now.dst.now.size + 1) }
+        ensures counted { steps.old ≤ steps.new }
+    {
+        self.src.law();
+        self.dst.law();
+        let size = self.dst.size();
+        let mut history = History::new(self.alloc);
+        let mut layer = self.start()?;
+        let mut place = 0;
+        'places: loop {
+            let at_end = place == size;
+            match self.first_stop(&layer, at_end) {
+                Some(k) => return Ok(Some(self.found(&history, k)?)),
+                None => {}
+            }
+            if at_end || layer.len() == 0 {
+                return Ok(None);
+            }
+            layer = self.advance(place, &layer, steps)?;
+            history.add(layer.ways(self.alloc)?)?;
+            place += 1;
+        }
+    }
+
+    /// The first pair of a layer on which the quantifier stops.
+    fn first_stop(&self, layer: &Layer, at_end: bool) -> Option<usize>
+        ensures { MatchOption result (NoneStops (Q.stop self.now.quantifier.now) at_end layer.now) (λ k. IsFirstStop (Q.stop self.now.quantifier.now) at_end layer.now k) }
+    {
+        for k in 0..layer.len() {
+            let (_, to) = layer.sets(k);
+            if self.quantifier.stops(is_live(to), at_end) {
+                return Some(k);
+            }
+        }
+        None
+    }
+
+    /// The word and the offset to which the ways lead back from the newest layer's k-th pair.
+    fn found(&self, history: &History, k: usize) -> Result<Found, Memory>
+        requires leads { LeadsBack history.now k }
+        requires front { IsFront self.now.src.now (cells_to history.now k) }
+        requires few { length (cells_to history.now k) < 2 ^ 32 }
+        ensures word { IfOk result (λ f. IsLeastWord self.now.src.now (cells_to history.now k) f.word) }
+        ensures offset { IfOk result (λ f. f.offset ≡ live_length (M.test self.now.refs.now) self.now.dst.now self.now.dst.now.starts (cells_to history.now k)) }
+    {
+        let cells = history.cells(self.alloc, k)?;
+        let offset = live_length(self.alloc, self.refs, self.dst, cells.as_slice())?;
+        let word = least_word(self.alloc, self.src, cells.as_slice())?;
+        Ok(Found { word, offset })
+    }
+}
