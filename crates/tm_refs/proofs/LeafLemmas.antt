@@ -1,6 +1,6 @@
 -- Whether a value of one type may be taken as one of another rests on the leaves of the two types alone: on
 -- which leaf of the source may be taken as which leaf of the target.
-use Rattle.std.proofs.Common.{◌≡◌, ℕ, zero, suc, ◌-◌, refl, sym, subst, Bool, true, false, ◌||◌, IsTrue, List, [], ◌∷◌, ◌++◌, length, take, inl, inr, arith, Option, None}
+use Rattle.std.proofs.Common.{◌≡◌, ℕ, zero, suc, ◌-◌, sym, subst, Bool, true, false, List, [], ◌∷◌, ◌++◌, length, take, inl, inr, arith, Option, None}
 use Rattle.std.specs.Prelude.{◌==◌, replicate}
 use Rattle.std.specs.List.{All, range_with_len}
 use Rattle.std.proofs.lemmas.Bool.{or_left, or_right}
@@ -20,7 +20,7 @@ use Rattle.tm_base.specs.declared.profile.Profile.TheVariants.{Le64, Be64, Le32}
 use Rattle.tm_base.specs.Cells.{Word, IsByte, IsFree, Times, fit, pointer_of}
 use Rattle.tm_base.specs.Expanded.{Expanded, Fields, Variants, too_deep, prim, never, unit, tuple, array, nonzero, phantom, wrap, ref, named, no_fields, field, no_variants, variant}
 use Rattle.tm_base.specs.Layout.{size_of}
-use Rattle.tm_base.specs.Parts.{some_part, some_field, some_variant, some_within}
+use Rattle.tm_base.specs.Parts.{some_part, some_field, some_variant}
 use Rattle.tm_base.specs.Profiles.{pointer_size}
 use Rattle.tm_base.specs.Transmutes.{Same, Transmutes}
 use Rattle.tm_base.specs.Valid.{Valid, StructValid, UnionValid, FieldsValid, SomeFieldValid, SomeVariantValid, PrimValid, WrapValid}

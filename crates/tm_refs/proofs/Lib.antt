@@ -3,4 +3,10 @@ pub mod LeafLemmas
 pub mod PointeeLemmas
 pub mod RuleLemmas
 pub mod TableLemmas
+pub mod CastLemmas
 pub mod RoundLemmas
+pub mod PairLemmas
+pub mod SumLemmas
+pub mod StepLemmas
+pub mod NextLemmas
+pub mod FirstLemmas

@@ -1,18 +1,17 @@
 -- What a round makes of the table, and when the table is solved.
-use Rattle.std.proofs.Common.{◌≡◌, ℕ, zero, suc, ◌+◌, ◌-◌, ◌<◌, ◌≤◌, ◌⊎◌, ◌↔◌, inl, inr, refl, sym, ◌∙◌, ap, subst, Bool, true, false, IsTrue, List, [], ◌∷◌, Option, None, Some, slice_get, arith}
+use Rattle.std.proofs.Common.{◌≡◌, ℕ, zero, suc, ◌+◌, ◌-◌, ◌<◌, ◌≤◌, ◌⊎◌, ◌↔◌, inl, inr, refl, sym, subst, true, IsTrue, List, Option, None, Some, slice_get, arith}
 use Rattle.std.specs.Prelude.{is_none, MatchOption, nat_lt}
-use Rattle.std.specs.List.{Contains}
-use Rattle.std.proofs.lemmas.Bool.{both_ways, cases_lt}
+use Rattle.std.proofs.lemmas.Bool.{cases_lt}
 use Rattle.std.proofs.lemmas.Bool.Decides.{nat_tests}
 use Rattle.tm_base.specs.declared.assume.Assume.{Assume}
-use Rattle.tm_base.specs.declared.definition.RefRow.{RefRow}
-use Rattle.tm_base.specs.Compatible.{Compatible, CompatibleTo, MeetsOver, MeetsLocally}
-use Rattle.tm_base.specs.Tables.{Tables, OnRows}
+use Rattle.tm_base.specs.Compatible.{Compatible, CompatibleTo, MeetsOver}
+use Rattle.tm_base.specs.Tables.{Tables}
 use Rattle.tm_base.proofs.CompatibleLemmas.{CompatibleTo-falls, MeetsOver-grows, OnRows-grows}
+use Rattle.tm_refs.specs.declared.compat.Compat.{Compat}
 use Rattle.tm_refs.specs.declared.pair.Pair.{Pair}
 use Rattle.tm_refs.specs.declared.standing.Standing.{Standing}
-use Rattle.tm_refs.specs.Rounds.{AgreesTo, AreLost, IsEnough, IsRound, IsSettled, IsStanding, IsTable}
-use Rattle.tm_refs.specs.Solved.{FailsFirstAt, IsDepthAnswer}
+use Rattle.tm_refs.specs.Rounds.{AgreesTo, IsSolvedTable, IsTable}
+use Rattle.tm_refs.specs.Solved.{FailsFirstAt, IsDepthAnswer, IsSolvedFor, depth_in}
 use Rattle.tm_refs.specs.Standings.{depth_of, is_deeper, is_held, standing_in, standing_of, stands_to}
 
 module _ (tables : Tables) (assume : Assume) where
@@ -61,8 +60,10 @@ module _ (tables : Tables) (assume : Assume) where
   standing-exact n r t (Some m) first = (λ h. first.first n (lt n m h), λ h. go (cases_lt n m) h) where
     lt : (a b : ℕ) → nat_lt a b ≡ true → a < b
     lt a b h = grind (arith, nat_tests)
+
     le : (a b : ℕ) → a < b → nat_lt a b ≡ true
     le a b h = grind (arith, nat_tests)
+
     go : (n < m) ⊎ (m ≤ n) → To n r t → nat_lt n m ≡ true
     go (inl below) h = le n m below
     go (inr past) h = absurd (first.fails (To-lesser m n r t past h))
@@ -86,3 +87,16 @@ module _ (tables : Tables) (assume : Assume) where
       by : (depth : Option ℕ) → (is_none depth ≡ true → Compatible tables assume r t) → MatchOption depth (To n r t) (λ m. FailsFirstAt tables assume r t m) → IsDepthAnswer tables assume r t depth
       by None h k = h refl
       by (Some m) h k = k
+
+  -- a table that answers each depth is exact
+  pub solved-exact : (r t : ℕ) (depth : Option ℕ) → IsDepthAnswer tables assume r t depth → IsTrue (is_none depth) ↔ Compatible tables assume r t
+  solved-exact r t None answer = (λ _. answer, λ _. refl)
+  solved-exact r t (Some n) answer = (λ h. cc, λ compatible. absurd (answer.fails (compatible n)))
+
+  pub solved-for : (compat : Compat) → compat.assume ≡ assume → IsSolvedTable tables assume compat.table.rows.items → IsSolvedFor tables assume compat
+  solved-for compat same solved = record {
+    assumed = same;
+    exact = λ r t. solved-exact r t (depth_in compat r t) (solved.depth r t);
+    depth = solved.depth;
+    why = solved.why;
+  }

@@ -1,14 +1,13 @@
 -- The table of what is known of pairs of references, and a pair that is lost from it.
-use Rattle.std.proofs.Common.{◌≡◌, ℕ, ◌+◌, ◌<◌, ◌≤◌, ◌⊎◌, inl, inr, refl, sym, ◌∙◌, ap, subst, Bool, true, false, ◌&&◌, nat_eq, List, [], ◌∷◌, length, Option, None, Some, slice_index_or, slice_set, arith}
-use Rattle.std.specs.Prelude.{◌==◌, is_none, if◌then◌else◌, nat_lt}
+use Rattle.std.proofs.Common.{◌≡◌, ℕ, ◌<◌, ◌≤◌, ◌⊎◌, inl, inr, refl, sym, ◌∙◌, ap, Bool, true, false, ◌&&◌, List, [], length, slice_index_or, slice_set}
+use Rattle.std.specs.Prelude.{◌==◌, is_none, if◌then◌else◌}
 use Rattle.std.proofs.lemmas.Bool.{and_from, eq-eqb, ne_eqb, cases_lt, cases_eq, both_ways}
 use Rattle.std.proofs.lemmas.Grind.{get_or-set_at}
-use Rattle.std.proofs.lemmas.List.{get_or_past, get_or-set_same, get_or-set_other}
-use Rattle.tm_base.specs.declared.cell.RefId.{RefId}
+use Rattle.std.proofs.lemmas.List.{get_or_past, get_or-set_other}
 use Rattle.tm_refs.specs.declared.pair.Pair.{Pair}
 use Rattle.tm_refs.specs.declared.standing.Standing.{Standing}
-use Rattle.tm_refs.specs.declared.standing.Standing.TheVariants.{Holds, Unjudged, Breaks, Fails}
-use Rattle.tm_refs.specs.Standings.{depth_of, is_held, standing_after, standing_in, standing_of}
+use Rattle.tm_refs.specs.declared.standing.Standing.TheVariants.{Unjudged, Fails}
+use Rattle.tm_refs.specs.Standings.{depth_of, is_held, standing_after, standing_in}
 
 -- a pair that is held stands inside the table
 pub held-row : (rows : List (List Standing)) (pair : Pair) → is_held rows pair ≡ true → pair.source.0 < length rows
@@ -23,6 +22,7 @@ pub held-place : (rows : List (List Standing)) (pair : Pair) → is_held rows pa
 held-place rows pair held = go (cases_lt pair.target.0 (length row)) where
   row : List Standing
   row = slice_index_or rows pair.source.0 []
+
   go : (pair.target.0 < length row) ⊎ (length row ≤ pair.target.0) → pair.target.0 < length row
   go (inl below) = below
   go (inr past) = absurd (both_ways (is_held rows pair) (ap (λ (s : Standing). is_none (depth_of s)) (get_or_past row pair.target.0 Unjudged past)) held)
@@ -38,6 +38,7 @@ pub standing-put : (rows : List (List Standing)) (pair : Pair) (row : List Stand
 standing-put rows pair row depth inside within same r t = go (cases_eq r pair.source.0) (cases_eq t pair.target.0) where
   changed : List (List Standing)
   changed = slice_set rows pair.source.0 (slice_set row pair.target.0 (Fails depth))
+
   go : (r ≡ pair.source.0) ⊎ (r ≡ pair.source.0 → ⊥) → (t ≡ pair.target.0) ⊎ (t ≡ pair.target.0 → ⊥) → standing_in changed r t ≡ standing_after rows pair depth r t
   go (inl e) (inl f) =
       ap (λ (line : List Standing). slice_index_or line t Unjudged) (get_or-set_at rows pair.source.0 r (slice_set row pair.target.0 (Fails depth)) [] e inside)

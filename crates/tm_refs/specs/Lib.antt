@@ -4,3 +4,5 @@ pub mod Looks
 pub mod Standings
 pub mod Solved
 pub mod Rounds
+pub mod Leaves
+pub mod Pointees

@@ -1,7 +1,7 @@
 -- How often the pointees of two references are looked at until it is known which go together: each pair once,
 -- and again where what its answer rests on was lost. This project's.
 use Rattle.std.specs.Prelude.{ℕ, ◌+◌, ◌==◌, ◌↔◌, Bool, false, ◌&&◌, ◌||◌, not, IsTrue, Option, None, Some, List, length, map, flat_map, filter, count_by, sum_by, slice_get}
-use Rattle.std.specs.List.{range_with_len}
+use Rattle.std.specs.List.{list_any, range_with_len}
 use Rattle.tm_base.specs.declared.assume.Assume.{Assume}
 use Rattle.tm_base.specs.declared.cell.RefId.{RefId}
 use Rattle.tm_base.specs.declared.definition.RefRow.{RefRow}
@@ -20,10 +20,21 @@ is_reference x t = false
 abbrev pub has_leaf : Expanded → ℕ → Bool
 has_leaf t x = some_within (is_reference x) t
 
+abbrev pub pair_of : ℕ → ℕ → Pair
+pair_of r t = record { source = record { 0 = r }; target = record { 0 = t } }
+
+-- the pairs of one source and targets below a number
+abbrev pub pairs_from : ℕ → ℕ → List Pair
+pairs_from r n = map (pair_of r) (range_with_len 0 n)
+
 -- all pairs of numbers below one
 abbrev pub pairs_below : ℕ → List Pair
-pairs_below n =
-    flat_map (λ r. map (λ t. record { source = record { 0 = r }; target = record { 0 = t } }) (range_with_len 0 n)) (range_with_len 0 n)
+pairs_below n = flat_map (λ r. pairs_from r n) (range_with_len 0 n)
+
+-- a reference is `&mut`
+abbrev pub row_is_mutable : Option RefRow → Bool
+row_is_mutable None = false
+row_is_mutable (Some row) = row.mutable
 
 module _ (tables : Tables) where
   -- a reference's pointee has the leaf
@@ -34,10 +45,6 @@ module _ (tables : Tables) where
   abbrev pub leads_to : RefId → RefId → Bool
   leads_to r x = row_leads_to (slice_get tables.refs r.0) x.0
 
-  abbrev pub row_is_mutable : Option RefRow → Bool
-  row_is_mutable None = false
-  row_is_mutable (Some row) = row.mutable
-
   -- Whether the one pair's pointees go together may rest on whether the other pair does: its source is a leaf of
   -- what is taken, and its target one of what it is taken as; where the target is `&mut`, also back again.
   abbrev pub depends_on : Pair → Pair → Bool
@@ -47,6 +54,10 @@ module _ (tables : Tables) where
 
   abbrev pub all_pairs : List Pair
   all_pairs = pairs_below (length tables.refs)
+
+  -- it depends on some of these
+  abbrev pub depends_on_some : List Pair → Pair → Bool
+  depends_on_some others pair = list_any (depends_on pair) others
 
   -- how many pairs depend on one
   abbrev pub dependents : Pair → ℕ

@@ -1,6 +1,6 @@
 -- The table of pairs of references: in the row of a source reference, what is known of it and each target
 -- reference.
-use Rattle.std.specs.Prelude.{ℕ, ◌+◌, ◌==◌, ◌&&◌, nat_lt, Bool, true, is_none, if◌then◌else◌, Option, None, Some, List, [], slice_index_or}
+use Rattle.std.specs.Prelude.{ℕ, ◌==◌, ◌&&◌, nat_lt, Bool, true, is_none, if◌then◌else◌, Option, None, Some, List, [], slice_index_or}
 use Rattle.tm_base.specs.declared.answer.LocalRule.{LocalRule}
 use Rattle.tm_refs.specs.declared.pair.Pair.{Pair}
 use Rattle.tm_refs.specs.declared.standing.Standing.{Standing}

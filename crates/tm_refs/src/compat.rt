@@ -7,6 +7,10 @@ ghost use Rattle.tm_refs.specs.Looks.{IsCompatibility, most_looks};
 ghost use Rattle.tm_refs.specs.Solved.{IsDepthAnswer, IsSolvedFor, IsWhyAnswer, compatible_in, depth_in, why_in};
 ghost use Rattle.tm_region.specs.Order.{IsOrderOf};
 
+use crate::first::first_table;
+use crate::leaves::Leaves;
+use crate::pointees::Pointees;
+use crate::rounds::Rounds;
 use crate::table::Table;
 use std::alloc::Global;
 use std::sync::ledger::Ledger;
@@ -49,7 +53,18 @@ impl Compat {
             → IsCompatibility (tables_of world.now) assume compatible
             → looks.new ≤ looks.old + most_looks (tables_of world.now) compatible }
     {
-        Err(Memory)
+        let pointees = Pointees::new(alloc, world, layouts, assume)?;
+        let first = first_table(alloc, world, layouts, order, assume, &pointees)?;
+        let leaves = Leaves::new(alloc, world)?;
+        let rounds = Rounds {
+            alloc,
+            world,
+            assume,
+            pointees,
+            leaves,
+        };
+        let table = rounds.solve(first, looks)?;
+        Ok(Compat { assume, table })
     }
 
     /// How many levels of pointees it takes to see that the source reference may not be taken as the

@@ -2,7 +2,13 @@
 #![tactic(auto)]
 
 mod compat;
+mod first;
+mod laid_out;
+mod leaves;
+mod look;
 mod pair;
+mod pointees;
+mod rounds;
 mod rules;
 mod standing;
 mod table;

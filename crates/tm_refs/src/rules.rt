@@ -1,15 +1,15 @@
 ghost use Rattle.std.specs.Prelude.{◌≡◌, ◌<◌, ◌↔◌, Some, IsTrue, length, slice_get};
 ghost use Rattle.tm_base.specs.Compatible.{Keeps};
-ghost use Rattle.tm_base.specs.Layout.{align_of, size_of};
-ghost use Rattle.tm_base.specs.Tables.{OnRows, expanded_in};
+ghost use Rattle.tm_base.specs.Tables.{OnRows};
 ghost use Rattle.tm_base.specs.Worlds.{tables_of};
 ghost use Rattle.tm_layout.specs.Made.{IsMadeFor};
 ghost use Rattle.tm_refs.specs.LaidOut.{HasLayout};
 ghost use Rattle.tm_refs.specs.Local.{AreJudged, IsLocalAnswer};
 ghost use Rattle.tm_region.specs.Order.{IsOrderOf};
 
-use tm_base::{Assume, Ground, LocalRule, RefId, RefRow, World};
-use tm_layout::{Layout, Layouts};
+use crate::laid_out::layout;
+use tm_base::{Assume, LocalRule, RefId, RefRow, World};
+use tm_layout::Layouts;
 use tm_region::Order;
 
 /// The local rules in the order in which they are asked.
@@ -88,19 +88,5 @@ fn keeps(
                 || (!layouts.interior(&source.pointee) && !layouts.interior(&target.pointee))
         }
         LocalRule::Lifetime => order.outlives(source.region, target.region) || assume.lifetimes,
-    }
-}
-
-/// The layout of a type that has one.
-fn layout(world: &World, layouts: &Layouts, g: &Ground) -> Layout
-    requires made { IsMadeFor (tables_of world.now) layouts.now }
-    requires has { HasLayout (tables_of world.now) g.now }
-    ensures size { result.size ≡ size_of (expanded_in (tables_of world.now) g.now) }
-    ensures align { result.align ≡ align_of (expanded_in (tables_of world.now) g.now) }
-{
-    let _ = world;
-    match layouts.of(g) {
-        Ok(layout) => layout,
-        Err(_) => unreachable!(),
     }
 }

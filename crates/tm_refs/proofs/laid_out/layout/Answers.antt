@@ -1,6 +1,6 @@
 use Rattle.std.proofs.lemmas.Bool.{both_ways}
 use Rattle.tm_base.specs.Worlds.{tables_of}
-use Rattle.tm_refs.proofs.rules.layout.Goals as goal
+use Rattle.tm_refs.proofs.laid_out.layout.Goals as goal
 
 pub unreachable-requires : goal.unreachable-requires
 unreachable-requires c = both_ways _ c.requires.has.laid_out (c.in-Err.ensures.answer (tables_of c.args.world.now) c.requires.made c.requires.has.over).0
