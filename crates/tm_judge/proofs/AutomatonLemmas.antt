@@ -15,7 +15,7 @@ use Rattle.tm_base.specs.Trees.{TreeWord}
 use Rattle.tm_base.proofs.ValidLemmas.{Valid-length}
 use Rattle.tm_auto.specs.Automata.{Automaton, AutoWord}
 use Rattle.tm_tree.specs.Exact.{IsTreeOf}
-use Rattle.tm_witness.specs.Refused.{IsAutomatonOf}
+use Rattle.tm_refs.specs.Pointees.{IsAutomatonOf}
 
 pub pointer-size : (profile : Profile) → (pointer_size profile ≡ 4) ⊎ (pointer_size profile ≡ 8)
 pointer-size Le64 = inr refl

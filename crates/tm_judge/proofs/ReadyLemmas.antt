@@ -19,7 +19,7 @@ use Rattle.tm_refs.specs.declared.compat.Compat.{Compat}
 use Rattle.tm_refs.specs.Solved.{compatible_in}
 use Rattle.tm_walk.specs.Sought.{IsSourceWord, IsViableTo}
 use Rattle.tm_walk.specs.Meanings as walk
-use Rattle.tm_witness.specs.Refused.{IsAutomatonOf}
+use Rattle.tm_refs.specs.Pointees.{IsAutomatonOf}
 use Rattle.tm_witness.proofs.TypeAutomata.{word-valid, viable-same}
 use Rattle.tm_judge.specs.Ready.{IsReady, HasStart}
 

@@ -8,7 +8,7 @@ use Rattle.tm_base.specs.Worlds.{tables_of, IsTypeOver}
 use Rattle.tm_auto.specs.Automata.{Automaton}
 use Rattle.tm_refs.specs.declared.compat.Compat.{Compat}
 use Rattle.tm_refs.specs.Solved.{IsSolvedFor}
-use Rattle.tm_witness.specs.Refused.{IsAutomatonOf}
+use Rattle.tm_refs.specs.Pointees.{IsAutomatonOf}
 
 -- A question between judged types of a world, the automata of the values that the source has and of those that
 -- may be made of the target, and the table of the references.

@@ -1,8 +1,8 @@
 -- What a walk through the automata of two types answers.
 use Rattle.std.specs.Prelude.{ℕ, Bool, Option, None, Some}
 use Rattle.tm_auto.specs.Automata.{Automaton}
+use Rattle.tm_walk.specs.declared.walking.Found.{Found}
 use Rattle.tm_walk.specs.Meanings.{EachWordFits, IsFirstRefusal, IsLeastExample, NoWordFits}
-use Rattle.tm_judge.specs.declared.walks.Found.{Found}
 
 module _ (A : ℕ → ℕ → Bool) (src dst : Automaton) where
   -- the source word that the target refuses first; none where each fits

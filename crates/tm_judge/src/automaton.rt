@@ -8,7 +8,7 @@ ghost use Rattle.tm_base.specs.Tables.{expanded_in};
 ghost use Rattle.tm_base.specs.Worlds.{IsTypeOver, tables_of};
 ghost use Rattle.tm_judge.specs.Ready.{HasStart};
 ghost use Rattle.tm_layout.specs.Made.{IsMadeFor};
-ghost use Rattle.tm_witness.specs.Refused.{IsAutomatonOf};
+ghost use Rattle.tm_refs.specs.Pointees.{IsAutomatonOf};
 
 use std::alloc::Global;
 use tm_auto::Auto;

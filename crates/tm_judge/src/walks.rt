@@ -7,15 +7,9 @@ ghost use Rattle.tm_refs.specs.Solved.{compatible_in};
 use std::alloc::Global;
 use std::sync::ledger::Ledger;
 use tm_auto::Auto;
-use tm_base::{Memory, Steps, Word};
+use tm_base::{Memory, Steps};
 use tm_refs::Compat;
-
-/// A source word, and how many of its cells some target word begins with.
-#[derive(Debug, Drop)]
-pub(crate) struct Found {
-    pub(crate) word: Word,
-    pub(crate) offset: u32,
-}
+use tm_walk::{Exists, ForAll, Found, exists_seeks_examples, for_all_seeks_refusals, walk};
 
 /// The source word that the target refuses first; `None` where each, fitted, is a target word.
 pub(crate) fn first_refusal<L: Ledger>(
@@ -29,7 +23,8 @@ pub(crate) fn first_refusal<L: Ledger>(
     ensures cost { HasOneStateALayer src.now → HasOneStateALayer dst.now
         → steps.new ≤ steps.old + (dst.now.size + 1) }
 {
-    Err(Memory)
+    for_all_seeks_refusals(src, dst);
+    walk(alloc, &ForAll, src, dst, compat, steps)
 }
 
 /// The least source word that, fitted, is a target word; `None` where none is.
@@ -44,5 +39,6 @@ pub(crate) fn least_example<L: Ledger>(
     ensures cost { HasOneStateALayer src.now → HasOneStateALayer dst.now
         → steps.new ≤ steps.old + (dst.now.size + 1) }
 {
-    Err(Memory)
+    exists_seeks_examples(src, dst);
+    walk(alloc, &Exists, src, dst, compat, steps)
 }

@@ -12,7 +12,7 @@ use Rattle.tm_base.proofs.CellLemmas.{or_own-exact}
 use Rattle.tm_base.proofs.ValidLemmas.{Valid-grows}
 use Rattle.tm_auto.specs.Automata.{Automaton, AutoWord, IsViable}
 use Rattle.tm_auto.proofs.AutomatonLemmas.{leads_wider}
-use Rattle.tm_witness.specs.Refused.{IsAutomatonOf}
+use Rattle.tm_refs.specs.Pointees.{IsAutomatonOf}
 
 -- more lists are words where references may hold more
 pub AutoWord-grows : (A B : ℕ → ℕ → Type 0) → ((x t : ℕ) → A x t → B x t) → (auto : Automaton) (w : Word) → AutoWord A auto w → AutoWord B auto w

@@ -1,29 +1,19 @@
 -- The cell at which a target refuses a word of a source, and what is told of it.
-use Rattle.std.specs.Prelude.{◌≡◌, ◌↔◌, ℕ, Bool, take, Option}
+use Rattle.std.specs.Prelude.{◌≡◌, ℕ, take, Option}
 use Rattle.tm_base.specs.declared.answer.RefFault.{RefFault}
 use Rattle.tm_base.specs.declared.answer.Rule.{Rule}
 use Rattle.tm_base.specs.declared.ask.Ask.{Ask}
-use Rattle.tm_base.specs.declared.ground.Ground.{Ground}
 use Rattle.tm_base.specs.declared.world.World.{World}
 use Rattle.tm_base.specs.Answers.{AreJudged, IsValue, IsRefusedAt, IsLeastFault}
 use Rattle.tm_base.specs.Cells.{Word, fit}
 use Rattle.tm_base.specs.Layout.{size_of}
-use Rattle.tm_base.specs.Profiles.{pointer_size}
 use Rattle.tm_base.specs.Rules.{source, target, IsRuleOfNo}
-use Rattle.tm_base.specs.Tables.{Tables, expanded_in}
-use Rattle.tm_base.specs.Transmutes.{holds}
-use Rattle.tm_base.specs.Valid.{Valid}
+use Rattle.tm_base.specs.Tables.{Tables}
 use Rattle.tm_base.specs.Worlds.{tables_of, IsTypeOver}
-use Rattle.tm_auto.specs.Automata.{Automaton, AutoWord}
+use Rattle.tm_auto.specs.Automata.{Automaton}
 use Rattle.tm_refs.specs.declared.compat.Compat.{Compat}
+use Rattle.tm_refs.specs.Pointees.{IsAutomatonOf}
 use Rattle.tm_refs.specs.Solved.{IsSolvedFor}
-
--- The automaton of a type: whatever its references may hold, its words are the type's, with private types kept
--- or not.
-pub record IsAutomatonOf (tables : Tables) (keep : Bool) (g : Ground) (auto : Automaton) : Type 0 where
-  pub words : (A : ℕ → ℕ → Bool) (w : Word) → AutoWord (holds A) auto w ↔ Valid (holds A) keep (expanded_in tables g) w
-  pub size : auto.size ≡ size_of (expanded_in tables g)
-  pub pointer : auto.pointer ≡ pointer_size tables.profile
 
 -- In a question over a world, whose types are judged, the target goes along with the first cells of a value of
 -- the source, and not with the next; and these are the target's automaton, the table of the references and the

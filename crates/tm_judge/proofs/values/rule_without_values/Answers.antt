@@ -6,7 +6,7 @@ use Rattle.tm_base.specs.Worlds.{tables_of}
 use Rattle.tm_auto.specs.Automata.{Automaton, ReadsWords}
 use Rattle.tm_laws.proofs.CompatibleKnownLemmas.{Compatible-known}
 use Rattle.tm_laws.proofs.DecideLemmas.{test_of, test_of-to, test_of-from}
-use Rattle.tm_witness.specs.Refused.{IsAutomatonOf}
+use Rattle.tm_refs.specs.Pointees.{IsAutomatonOf}
 use Rattle.tm_judge.specs.Ready.{HasStart}
 use Rattle.tm_judge.proofs.ReadyLemmas.{start-word}
 use Rattle.tm_judge.proofs.values.rule_without_values.Goals as goal
