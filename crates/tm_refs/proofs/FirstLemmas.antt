@@ -28,12 +28,12 @@ row-at [] k below = absurd (omega arith)
 row-at (x ∷ xs) zero below = (x, refl)
 row-at (x ∷ xs) (suc k) below = row-at xs k (omega arith)
 
-get_or-append_left : {X : Type 0} (xs ys : List X) (k : ℕ) (d : X) → k < length xs → slice_index_or (xs ++ ys) k d ≡ slice_index_or xs k d
+pub get_or-append_left : {X : Type 0} (xs ys : List X) (k : ℕ) (d : X) → k < length xs → slice_index_or (xs ++ ys) k d ≡ slice_index_or xs k d
 get_or-append_left [] ys k d below = absurd (omega arith)
 get_or-append_left (x ∷ xs) ys zero d below = refl
 get_or-append_left (x ∷ xs) ys (suc k) d below = get_or-append_left xs ys k d (omega arith)
 
-last : {X : Type 0} (xs : List X) (x : X) (k : ℕ) (d : X) → length xs ≡ k → slice_index_or (xs ++ x ∷ []) k d ≡ x
+pub last : {X : Type 0} (xs : List X) (x : X) (k : ℕ) (d : X) → length xs ≡ k → slice_index_or (xs ++ x ∷ []) k d ≡ x
 last [] x zero d e = refl
 last [] x (suc k) d e = absurd (omega arith)
 last (y ∷ xs) x zero d e = absurd (omega arith)

@@ -10,3 +10,4 @@ pub mod SumLemmas
 pub mod StepLemmas
 pub mod NextLemmas
 pub mod FirstLemmas
+pub mod LevelLemmas

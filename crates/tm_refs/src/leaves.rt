@@ -1,13 +1,15 @@
 //! The leaves of the pointees: the references that they are or hold by value.
-ghost use Rattle.std.specs.Prelude.{◌≡◌, ◌&&◌, ◌||◌, IfOk, slice_get};
-ghost use Rattle.tm_base.specs.Worlds.{tables_of};
-ghost use Rattle.tm_refs.specs.Leaves.{AreLeavesOf, leads_in};
+ghost use Rattle.std.specs.Prelude.{◌≡◌, ◌&&◌, ◌||◌, IfOk, length, slice_get};
+ghost use Rattle.tm_base.specs.declared.ground.Ground.{Named};
+ghost use Rattle.tm_base.specs.Worlds.{IsTypeOver, tables_of};
+ghost use Rattle.tm_layout.specs.Made.{EachIs};
+ghost use Rattle.tm_refs.specs.Leaves.{AreAdded, AreLeavesOf, leads_in, leaf_of, some_leaf, variant_leaf};
 ghost use Rattle.tm_refs.specs.Looks.{depends_on, depends_on_some, row_is_mutable};
 
 use crate::pair::Pair;
 use crate::table::MOST;
 use std::alloc::Global;
-use tm_base::{Memory, RefId, World};
+use tm_base::{Ground, List, Memory, NamedId, RefId, World, Wrapper};
 
 /// For each reference, whether it is a leaf.
 pub type Row = [bool; MOST];
@@ -23,7 +25,13 @@ impl Leaves {
     pub fn new(alloc: Global, world: &World) -> Result<Leaves, Memory>
         ensures { IfOk result (λ leaves. AreLeavesOf (tables_of world.now) leaves.rows.items) }
     {
-        Err(Memory)
+        let mut rows = Vec::new(alloc);
+        for row in world.refs.as_slice() {
+            let mut leaves = [false; MOST];
+            add_type(world, &row.pointee, &mut leaves);
+            rows.push(leaves)?;
+        }
+        Ok(Leaves { rows })
     }
 
     /// Whether the pointee of a reference has the leaf.
@@ -62,4 +70,64 @@ pub fn is_mutable(world: &World, id: RefId) -> bool
         Some(row) => row.mutable,
         None => false,
     }
+}
+
+/// Adds the leaves of a type.
+#[cycle(leaves)]
+fn add_type(world: &World, g: &Ground, leaves: &mut [bool])
+    requires over { IsTypeOver (tables_of world.now) g.now }
+    requires room { length leaves.old ≡ 64 }
+    ensures { AreAdded (leaf_of (tables_of world.now) g.now) leaves.old leaves.new }
+{
+    match g {
+        Ground::Ref(id) => leaves[id.0 as usize] = true,
+        Ground::Tuple(elements) => add_types(world, elements.as_slice(), leaves),
+        Ground::Array(element, _) => add_type(world, element.get(), leaves),
+        Ground::Wrap(wrapper, argument) => match *wrapper {
+            Wrapper::PhantomData => {}
+            _ => add_type(world, argument.get(), leaves),
+        },
+        Ground::Named(id) => add_row(world, *id, leaves),
+        Ground::Prim(_) => {}
+        Ground::Never => {}
+        Ground::Unit => {}
+        Ground::NonZero(_) => {}
+    }
+}
+
+/// Adds the leaves of some types.
+#[cycle(leaves)]
+fn add_types(world: &World, types: &[Ground], leaves: &mut [bool])
+    requires over { EachIs (IsTypeOver (tables_of world.now)) types.now }
+    requires room { length leaves.old ≡ 64 }
+    ensures { AreAdded (some_leaf (tables_of world.now) types.now) leaves.old leaves.new }
+{
+    for g in types {
+        add_type(world, g, leaves);
+    }
+}
+
+/// Adds the leaves of the fields of some variants.
+#[cycle(leaves)]
+fn add_variants(world: &World, variants: &[List<Ground>], leaves: &mut [bool])
+    requires over { EachIs (EachIs (IsTypeOver (tables_of world.now))) variants.now }
+    requires room { length leaves.old ≡ 64 }
+    ensures { AreAdded (variant_leaf (tables_of world.now) variants.now) leaves.old leaves.new }
+{
+    for types in variants {
+        add_types(world, types.as_slice(), leaves);
+    }
+}
+
+/// Adds the leaves of a named type.
+#[cycle(leaves)]
+fn add_row(world: &World, id: NamedId, leaves: &mut [bool])
+    requires over { IsTypeOver (tables_of world.now) (Named id) }
+    requires room { length leaves.old ≡ 64 }
+    ensures { AreAdded (leaf_of (tables_of world.now) (Named id)) leaves.old leaves.new }
+{
+    let Some(row) = world.named.get(id.0 as usize) else {
+        unreachable!();
+    };
+    add_variants(world, row.types.as_slice(), leaves);
 }

@@ -1,5 +1,5 @@
 -- Layers that follow one from another: the least words that lead to their pairs.
-use Rattle.std.proofs.Common.{◌≡◌, ◌≢◌, ℕ, zero, suc, ◌+◌, ◌<◌, ◌≤◌, ◌⊎◌, inl, inr, ◌↔◌, Bool, true, false, IsTrue, List, [], ◌∷◌, ◌++◌, length, take, Option, Some, None, slice_get, refl, sym, ap, ◌∙◌, subst, arith, append_assoc, length-append}
+use Rattle.std.proofs.Common.{◌≡◌, ◌≢◌, ℕ, suc, ◌<◌, ◌≤◌, inl, inr, Bool, true, false, List, [], ◌∷◌, ◌++◌, length, take, Option, Some, None, slice_get, refl, sym, ap, ◌∙◌, subst, arith, length-append}
 use Rattle.std.specs.Prelude.{◌==◌}
 use Rattle.std.proofs.lemmas.Bool.{cases_lt}
 use Rattle.std.proofs.lemmas.List.{take-append-le}
@@ -15,13 +15,12 @@ use Rattle.tm_auto.specs.Paths.{Among}
 use Rattle.tm_auto.specs.Sets.{next, symbol_of, reached_from}
 use Rattle.tm_auto.proofs.AmongLemmas.{none_among}
 use Rattle.tm_auto.proofs.NextLemmas.{next_states}
-use Rattle.tm_auto.proofs.SetLemmas.{bool_cases}
-use Rattle.tm_walk.specs.Layers.{is_live, Entry, IsStart, NoneStops, IsFirstStop, HasStates, source_step, target_step, Goes, IsFrom, IsReached, IsNext}
+use Rattle.tm_walk.specs.Layers.{is_live, Entry, IsStart, NoneStops, IsFirstStop, HasStates, source_step, target_step, Goes, IsNext}
 use Rattle.tm_walk.specs.Sought.{IsSourceWord}
 use Rattle.tm_walk.proofs.LessLemmas.{nothing_less, less_begins, less_behind, less_cell, less_most, last_not_less}
 use Rattle.tm_walk.proofs.NumberLemmas.{get_among, among_get}
 use Rattle.tm_walk.proofs.OfferLemmas.{rising_at}
-use Rattle.tm_walk.proofs.PaddedLemmas.{padded, cell_at, cell_past, padded_more, padded_front, padded_self, padded_within, length-padded, take-padded}
+use Rattle.tm_walk.proofs.PaddedLemmas.{padded, cell_at, cell_past, padded_more, padded_front, padded_within, length-padded, take-padded}
 
 abbrev pub cells_by : Option Entry → (ℕ → Word) → Word
 cells_by None f = []
@@ -128,7 +127,8 @@ module _ (A : ℕ → ℕ → Bool) (src dst : Automaton) (hs : IsAutomaton src)
       let (w, word, more) = extends m.whole m.word p e.cell f.pair.src m.source f.step.goes in
       let same : padded w p ≡ padded m.whole p = sym (take-padded w p (suc p) (omega arith)) ∙ ap (take p) more ∙ take-append-le p (padded m.whole p) (e.cell ∷ []) (let z = length-padded m.whole p in omega arith) ∙ take-padded m.whole p p (omega arith) in
       record {
-        whole = w; word = word;
+        whole = w;
+        word = word;
         front = at_entry l older layer k e h ∙ ap (λ (z : Word). z ++ e.cell ∷ []) m.front ∙ sym more;
         source = f.step.source ∙ ap (λ (z : List ℕ). source_step A src dst z (symbol_of e.cell)) m.source ∙ sym (reached_more equal src (padded m.whole p) e.cell) ∙ ap source_by (sym more);
         target = f.step.target ∙ ap (λ (z : List ℕ). target_step A src dst z (symbol_of e.cell)) m.target ∙ sym (reached_more A dst (padded m.whole p) e.cell) ∙ ap target_by (sym more);
@@ -141,7 +141,8 @@ module _ (A : ℕ → ℕ → Bool) (src dst : Automaton) (hs : IsAutomaton src)
               let here : f.pair.dst ≡ target_by (padded w p) = m.target ∙ ap target_by (sym same) in
               subst (λ (n : ℕ). On w n) (sym at) (
                 subst (λ (s : List ℕ). stop (is_live s) (p == dst.size) ≡ false) here (none e.parent f.pair f.at),
-                subst (λ (s : List ℕ). skip (is_live s) ≡ false) here f.goes_on))
+                subst (λ (s : List ℕ). skip (is_live s) ≡ false) here f.goes_on,
+              ))
         ];
       }
 
@@ -177,9 +178,9 @@ module _ (A : ℕ → ℕ → Bool) (src dst : Automaton) (hs : IsAutomaton src)
   goes_next w word p from is =
       let size = hs.sized equal w word in (
         λ l e. (
-          let (t, split) = padded_within w (suc p) (omega arith) in
-          let some : source_by (padded w (suc p)) ≢ [] = (rs.source (padded w (suc p))).1 (t, subst (λ (z : Word). AutoWord (holds equal) src z) split word) in
-          some (ap source_by (padded_more w p) ∙ reached_more equal src (padded w p) (cell_at w p) ∙ ap (λ (z : List ℕ). source_step A src dst z (symbol_of (cell_at w p))) (sym is) ∙ e)),
+            let (t, split) = padded_within w (suc p) (omega arith) in
+            let some : source_by (padded w (suc p)) ≢ [] = (rs.source (padded w (suc p))).1 (t, subst (λ (z : Word). AutoWord (holds equal) src z) split word) in
+            some (ap source_by (padded_more w p) ∙ reached_more equal src (padded w p) (cell_at w p) ∙ ap (λ (z : List ℕ). source_step A src dst z (symbol_of (cell_at w p))) (sym is) ∙ e)),
         λ l. cell_past w p (omega arith),
       )
 
@@ -199,20 +200,22 @@ module _ (A : ℕ → ℕ → Bool) (src dst : Automaton) (hs : IsAutomaton src)
       let (k, at) = among_get layer r.entry r.among in
       let f = next.from r.entry r.among in
       record {
-        place = k; entry = r.entry; at = at;
+        place = k;
+        entry = r.entry;
+        at = at;
         source = r.source ∙ ap (λ (z : List ℕ). source_step A src dst z (symbol_of d)) x.source ∙ sym (reached_more equal src (padded w p) d) ∙ ap source_by (sym (padded_more w p));
         target = r.target ∙ ap (λ (z : List ℕ). target_step A src dst z (symbol_of d)) x.target ∙ sym (reached_more A dst (padded w p) d) ∙ ap target_by (sym (padded_more w p));
         least = rw (padded_more w p, at_entry l older layer k r.entry at)
-          (elim r.early [
-            | inl lt ↦ (
-                let before = order older l c r.entry.parent x.place f.pair x.entry lt f.at x.at in
-                let less = less_most (word_at older l r.entry.parent) (word_at older l x.place) (padded w p) before x.least in
-                word_less-asym (word_at older l r.entry.parent ++ r.entry.cell ∷ []) (padded w p ++ d ∷ [])
+            (elim r.early [
+              | inl lt ↦ (
+                  let before = order older l c r.entry.parent x.place f.pair x.entry lt f.at x.at in
+                  let less = less_most (word_at older l r.entry.parent) (word_at older l x.place) (padded w p) before x.least in
+                  word_less-asym (word_at older l r.entry.parent ++ r.entry.cell ∷ []) (padded w p ++ d ∷ [])
                   (less_begins (word_at older l r.entry.parent) (padded w p) (r.entry.cell ∷ []) (d ∷ []) (long older l c r.entry.parent f.pair f.at ∙ sym (length-padded w p)) less))
-            | inr (q, ge) ↦ (
-                let same : word_at older l r.entry.parent ≡ word_at older l x.place = ap (word_at older l) q in
-                rw same (last_not_less (word_at older l x.place) (padded w p) r.entry.cell d (long older l c x.place x.entry x.at ∙ sym (length-padded w p)) x.least ge))
-          ]);
+              | inr (q, ge) ↦ (
+                  let same : word_at older l r.entry.parent ≡ word_at older l x.place = ap (word_at older l) q in
+                  rw same (last_not_less (word_at older l x.place) (padded w p) r.entry.cell d (long older l c x.place x.entry x.at ∙ sym (length-padded w p)) x.least ge))
+            ]);
       }
 
   -- ---- what is found
@@ -261,19 +264,20 @@ module _ (A : ℕ → ℕ → Bool) (src dst : Automaton) (hs : IsAutomaton src)
   found older layer k c l f =
       let m = means older layer c k f.entry f.at in
       record {
-        whole = m.whole; front = m.front;
+        whole = m.whole;
+        front = m.front;
         stopped = record { word = m.word; within = l; stops = subst (λ (z : List ℕ). stop (is_live z) (length older == dst.size) ≡ true) m.target f.stops; passes = m.passes };
         earliest = λ v q s. elim (cases_lt q (length older)) [ inl lt ↦ absurd (early older layer c v q lt s) | inr ge ↦ ge ];
         least = λ v s.
-          let x = complete older layer c v s.word s.passes in
-          let st : stop (is_live x.entry.dst) (length older == dst.size) ≡ true = subst (λ (z : List ℕ). stop (is_live z) (length older == dst.size) ≡ true) (sym x.target) s.stops in
-          elim (cases_lt x.place k) [
-            | inl lt ↦ (let z = f.first x.place x.entry lt x.at in cc)
-            | inr ge ↦ elim (cases_lt k x.place) [
-              | inl lt ↦ word_less-asym (word_at older layer k) (padded v (length older)) (less_most (word_at older layer k) (word_at older layer x.place) (padded v (length older)) (order older layer c k x.place f.entry x.entry lt f.at x.at) x.least)
-              | inr le ↦ (let same : x.place ≡ k = omega arith in subst (λ (n : ℕ). word_less (padded v (length older)) (word_at older layer n) ≡ false) same x.least)
-            ]
-          ];
+            let x = complete older layer c v s.word s.passes in
+            let st : stop (is_live x.entry.dst) (length older == dst.size) ≡ true = subst (λ (z : List ℕ). stop (is_live z) (length older == dst.size) ≡ true) (sym x.target) s.stops in
+            elim (cases_lt x.place k) [
+              | inl lt ↦ (let z = f.first x.place x.entry lt x.at in cc)
+              | inr ge ↦ elim (cases_lt k x.place) [
+                | inl lt ↦ word_less-asym (word_at older layer k) (padded v (length older)) (less_most (word_at older layer k) (word_at older layer x.place) (padded v (length older)) (order older layer c k x.place f.entry x.entry lt f.at x.at) x.least)
+                | inr le ↦ (let same : x.place ≡ k = omega arith in subst (λ (n : ℕ). word_less (padded v (length older)) (word_at older layer n) ≡ false) same x.least)
+              ]
+            ];
       }
 
   -- ---- each set is one of states
@@ -284,6 +288,7 @@ module _ (A : ℕ → ℕ → Bool) (src dst : Automaton) (hs : IsAutomaton src)
       let (z, a, b, n) = c.each k e at in
       (subst (AreStates src) (sym a) hs.below, subst (AreStates dst) (sym b) hd.below)
   states hd (l ∷ older) layer (next, none, c) e m =
-      let f = next.from e m in
-      (subst (AreStates src) (sym f.step.source) (next_states equal (symbol_of e.cell) src hs f.pair.src),
-       subst (AreStates dst) (sym f.step.target) (next_states A (symbol_of e.cell) dst hd f.pair.dst))
+      let f = next.from e m in (
+        subst (AreStates src) (sym f.step.source) (next_states equal (symbol_of e.cell) src hs f.pair.src),
+        subst (AreStates dst) (sym f.step.target) (next_states A (symbol_of e.cell) dst hd f.pair.dst),
+      )

@@ -1,9 +1,9 @@
 -- The least source word behind some cells: the least cell that may come next, again and again.
-use Rattle.std.proofs.Common.{◌≡◌, ◌≢◌, ℕ, zero, suc, ◌+◌, ◌<◌, ◌≤◌, ◌⊎◌, inl, inr, ◌↔◌, Bool, true, false, List, [], ◌∷◌, ◌++◌, length, take, min, refl, sym, ap, ◌∙◌, subst, arith, append_assoc, length-append}
+use Rattle.std.proofs.Common.{◌≡◌, ◌≢◌, ℕ, suc, ◌<◌, ◌≤◌, ◌⊎◌, inl, inr, ◌↔◌, true, false, List, [], ◌∷◌, ◌++◌, length, take, min, sym, ap, ◌∙◌, subst, arith, length-append}
 use Rattle.std.proofs.lemmas.Bool.{cases_lt}
 use Rattle.std.proofs.lemmas.List.{take-append-le, take_all}
 use Rattle.tm_base.specs.declared.cell.Cell.{Cell}
-use Rattle.tm_base.specs.Cells.{Word, fit}
+use Rattle.tm_base.specs.Cells.{Word}
 use Rattle.tm_base.specs.Orders.{cell_less, word_less}
 use Rattle.tm_base.specs.Transmutes.{holds}
 use Rattle.tm_base.proofs.OrderLemmas.{cell_less-total, word_less-asym}
@@ -61,7 +61,9 @@ module _ (src : Automaton) (hs : IsAutomaton src) (rs : ReadsWords src) where
       let at : padded w (length begun) ≡ begun = ap (padded w) long ∙ sym cut in
       record {
         within = omega arith;
-        whole = w; word = word; front = at;
+        whole = w;
+        word = word;
+        front = at;
         enough = λ v x e. elim (cases_lt src.size (length cells)) [
           | inl lt ↦ (
               let n : length begun ≡ src.size = omega arith in
@@ -82,24 +84,25 @@ module _ (src : Automaton) (hs : IsAutomaton src) (rs : ReadsWords src) where
       let (t, word) = (rs.source (begun ++ c ∷ [])).0 some in
       let w = (begun ++ c ∷ []) ++ t in
       let back : (v : Word) → padded v (length (begun ++ c ∷ [])) ≡ begun ++ c ∷ [] → padded v (length begun) ≡ begun = λ v e.
-        sym (take-padded v (length begun) (length (begun ++ c ∷ [])) (omega arith)) ∙ ap (take (length begun)) e ∙ take-append-le (length begun) begun (c ∷ []) (omega arith) ∙ take_all (length begun) begun (omega arith) in
+      sym (take-padded v (length begun) (length (begun ++ c ∷ [])) (omega arith)) ∙ ap (take (length begun)) e ∙ take-append-le (length begun) begun (c ∷ []) (omega arith) ∙ take_all (length begun) begun (omega arith) in
       record {
         within = omega arith;
-        whole = w; word = word;
+        whole = w;
+        word = word;
         front = padded_front (begun ++ c ∷ []) t;
         enough = λ v x e. b.enough v x (back v e);
         least = λ v x e.
-          let more : padded v (length (begun ++ c ∷ [])) ≡ padded v (length begun) ++ cell_at v (length begun) ∷ [] = ap (padded v) long ∙ padded_more v (length begun) in
-          elim (b.least v x e) [
-            | inr less ↦ inr (rw more (less_begins begun (padded v (length begun)) (c ∷ []) (cell_at v (length begun) ∷ []) (sym (length-padded v (length begun))) less))
-            | inl same ↦ (
-                let t : TakesFrom src (reached equal src begun) (cell_at v (length begun)) = subst (λ (z : Word). TakesFrom src (reached equal src z) (cell_at v (length begun))) same (next_taken v x (length begun) l) in
-                let not_less = least.least (cell_at v (length begun)) t in
-                elim (bool_cases (cell_less c (cell_at v (length begun)))) [
-                  | inl lt ↦ inr (rw (more, same) (less_behind begun (c ∷ []) (cell_at v (length begun) ∷ []) ∙ less_cell c (cell_at v (length begun)) ∙ lt))
-                  | inr ge ↦ (let d : cell_at v (length begun) ≡ c = cell_less-total (cell_at v (length begun)) c not_less ge in inl (more ∙ (λ i. same i ++ d i ∷ [])))
-                ])
-          ];
+            let more : padded v (length (begun ++ c ∷ [])) ≡ padded v (length begun) ++ cell_at v (length begun) ∷ [] = ap (padded v) long ∙ padded_more v (length begun) in
+            elim (b.least v x e) [
+              | inr less ↦ inr (rw more (less_begins begun (padded v (length begun)) (c ∷ []) (cell_at v (length begun) ∷ []) (sym (length-padded v (length begun))) less))
+              | inl same ↦ (
+                  let t : TakesFrom src (reached equal src begun) (cell_at v (length begun)) = subst (λ (z : Word). TakesFrom src (reached equal src z) (cell_at v (length begun))) same (next_taken v x (length begun) l) in
+                  let not_less = least.least (cell_at v (length begun)) t in
+                  elim (bool_cases (cell_less c (cell_at v (length begun)))) [
+                    | inl lt ↦ inr (rw (more, same) (less_behind begun (c ∷ []) (cell_at v (length begun) ∷ []) ∙ less_cell c (cell_at v (length begun)) ∙ lt))
+                    | inr ge ↦ (let d : cell_at v (length begun) ≡ c = cell_less-total (cell_at v (length begun)) c not_less ge in inl (more ∙ (λ i. same i ++ d i ∷ [])))
+                  ])
+            ];
       }
 
   pub finish : (cells begun : Word) → IsBegun src cells begun → src.size ≤ length begun → IsLeastWord src cells begun
@@ -113,12 +116,12 @@ module _ (src : Automaton) (hs : IsAutomaton src) (rs : ReadsWords src) where
         word = word;
         begins = fit-padded begun (length cells) ∙ b.enough begun word (padded_self begun);
         least = λ v x e.
-          let long = hs.sized equal v x in
-          let self : padded v (length begun) ≡ v = ap (padded v) (n ∙ sym long) ∙ padded_self v in
-          elim (b.least v x (sym (fit-padded v (length cells)) ∙ e)) [
-            | inl same ↦ (let q : v ≡ begun = sym self ∙ same in subst (λ (z : Word). word_less z begun ≡ false) (sym q) (word_less-irreflexive begun))
-            | inr less ↦ word_less-asym begun v (subst (λ (z : Word). word_less begun z ≡ true) self less)
-          ];
+            let long = hs.sized equal v x in
+            let self : padded v (length begun) ≡ v = ap (padded v) (n ∙ sym long) ∙ padded_self v in
+            elim (b.least v x (sym (fit-padded v (length cells)) ∙ e)) [
+              | inl same ↦ (let q : v ≡ begun = sym self ∙ same in subst (λ (z : Word). word_less z begun ≡ false) (sym q) (word_less-irreflexive begun))
+              | inr less ↦ word_less-asym begun v (subst (λ (z : Word). word_less begun z ≡ true) self less)
+            ];
       }
 
   -- some cell may come next

@@ -1,25 +1,22 @@
 -- The symbols by which a pair is expanded give all its steps.
-use Rattle.std.proofs.Common.{◌≡◌, ◌≢◌, ℕ, zero, suc, ◌+◌, ◌<◌, ◌≤◌, ◌⊎◌, inl, inr, Bool, true, false, ◌&&◌, cond, nat_lt, List, [], ◌∷◌, ◌++◌, map, length, drop, get_or, refl, sym, ap, ◌∙◌, subst, arith}
-use Rattle.std.specs.Prelude.{◌==◌, ◌||◌}
+use Rattle.std.proofs.Common.{◌≡◌, ◌≢◌, ℕ, ◌+◌, ◌<◌, ◌≤◌, inl, inr, Bool, false, nat_lt, List, [], ◌∷◌, length, drop, get_or, refl, sym, ap, subst, arith}
 use Rattle.std.proofs.lemmas.Bool.{cases_lt}
 use Rattle.std.proofs.lemmas.List.{drop_more, drop_all}
 use Rattle.tm_base.specs.declared.cell.Cell.{Cell}
 use Rattle.tm_base.specs.declared.cell.Cell.TheVariants as cell
 use Rattle.tm_base.specs.Orders.{cell_less}
-use Rattle.tm_base.specs.Transmutes.{holds}
 use Rattle.tm_base.proofs.OrderLemmas.{cell_less-asym}
 use Rattle.tm_auto.specs.declared.edge.Edge.{Edge}
 use Rattle.tm_auto.specs.declared.edge.Symbol.{Symbol}
 use Rattle.tm_auto.specs.declared.edge.Symbol.TheVariants as symbol
 use Rattle.tm_auto.specs.Automata.{Automaton, IsStep, equal}
-use Rattle.tm_auto.specs.Classes.{HasCell, IsFormed, AreInOrder, LeavesSet, TakesFrom, AreClasses}
-use Rattle.tm_auto.specs.Labels.{Takes}
+use Rattle.tm_auto.specs.Classes.{HasCell, IsFormed, AreInOrder, TakesFrom, AreClasses}
 use Rattle.tm_auto.specs.Paths.{Among, here, there}
-use Rattle.tm_auto.specs.Sets.{has_state, with_state, passes, next, symbol_of}
+use Rattle.tm_auto.specs.Sets.{has_state, passes, next, symbol_of}
 use Rattle.tm_auto.proofs.AmongLemmas.{none_among, some_among}
 use Rattle.tm_auto.proofs.SetLemmas.{bool_cases, has_to, rises_same, increasing_rises}
 use Rattle.tm_auto.proofs.StepLemmas.{passes_takes, next_to, to_next, next-IsStrictlyIncreasing}
-use Rattle.tm_walk.specs.Layers.{Entry, Precedes, AreRising, IsOffered, AreOffered, first_cell, source_step, target_step, offers, AreSymbols, Goes, IsStepFrom, AreStepsFrom}
+use Rattle.tm_walk.specs.Layers.{Entry, Precedes, AreRising, IsOffered, AreOffered, first_cell, source_step, target_step, offers, AreSymbols, IsStepFrom, AreStepsFrom}
 use Rattle.tm_walk.proofs.NumberLemmas.{among_map, among_unmap}
 use Rattle.tm_walk.specs.Words.{IsLeastCell}
 use Rattle.tm_walk.proofs.OfferLemmas.{among_one, among_cases}
@@ -37,8 +34,8 @@ next_same A (e ∷ es) from x y h =
 -- what a step leads to is told by the states alone
 pub step_is : (A : ℕ → ℕ → Bool) (auto : Automaton) (from : List ℕ) (x : Symbol) (set : List ℕ) → IsStep A auto from x set → set ≡ next A auto.edges from x
 step_is A auto from x set s = rises_same set (next A auto.edges from x) (increasing_rises set s.rising) (increasing_rises _ (next-IsStrictlyIncreasing A auto.edges from x))
-  (λ t a. let (e, ea, ef, ep, eq) = (s.states t).0 a in subst (λ (z : ℕ). Among z (next A auto.edges from x)) eq (to_next A auto.edges from x e ea ef ep))
-  (λ t a. (s.states t).1 (next_to A auto.edges from x t a))
+    (λ t a. let (e, ea, ef, ep, eq) = (s.states t).0 a in subst (λ (z : ℕ). Among z (next A auto.edges from x)) eq (to_next A auto.edges from x e ea ef ep))
+    (λ t a. (s.states t).1 (next_to A auto.edges from x t a))
 
 first_in : (x : Symbol) → IsFormed x → HasCell x (first_cell x)
 first_in (symbol.Bytes first last) f = (omega arith, f.0)
@@ -73,7 +70,7 @@ module _ (A : ℕ → ℕ → Bool) (src dst : Automaton) (from to : List ℕ) (
       let b : t ≡ target_step A src dst to (get_or xs i d) = step_is A dst to (get_or xs i d) t ht in
       let same : ◌≡◌ {A = Entry} (record { src = s; dst = t; parent = k; cell = c }) (offer (get_or xs i d)) = rw (a, b, hc) refl in
       subst (λ (z : List Symbol). AreOffered (offers A src dst from to k z) before after) (sym (drop_more xs i d l))
-        (between, subst (λ (z : Entry). IsOffered z before between) same o, rest)
+      (between, subst (λ (z : Entry). IsOffered z before between) same o, rest)
 
   pub offers_end : (xs : List Symbol) (i : ℕ) → length xs ≤ i → (next : List Entry) → AreOffered (offers A src dst from to k (drop i xs)) next next
   offers_end xs i l next = subst (λ (z : List Symbol). AreOffered (offers A src dst from to k z) next next) (sym (drop_all i xs l)) refl
@@ -82,7 +79,7 @@ module _ (A : ℕ → ℕ → Bool) (src dst : Automaton) (from to : List ℕ) (
   offers_rise [] o f = tt
   offers_rise (x ∷ xs) o f = (
     λ e m. (let (y, n, q) = among_unmap offer xs e m in
-      subst (λ (z : Entry). Precedes (offer x) z) q (inr (refl, o.0 y (first_cell x) (first_cell y) n (first_in x (f x here)) (first_in y (f y (there n)))))),
+        subst (λ (z : Entry). Precedes (offer x) z) q (inr (refl, o.0 y (first_cell x) (first_cell y) n (first_in x (f x here)) (first_in y (f y (there n)))))),
     offers_rise xs o.1 (λ y n. f y (there n)),
   )
 
@@ -107,21 +104,23 @@ module _ (A : ℕ → ℕ → Bool) (src dst : Automaton) (from to : List ℕ) (
     steps_within : (place : ℕ) → place < src.size → (p : Entry) → p.src ≡ from → p.dst ≡ to → AreStepsFrom A src dst place p k (offers A src dst from to k xs)
     steps_within place l p ps pd = record {
       each = λ e m.
-        let (x, n, q) = among_unmap offer xs e m in
-        let h = first_in x (c.formed x n) in
-        subst (λ (z : Entry). IsStepFrom A src dst place p k z) q (record {
-          parent = refl;
-          goes = (λ w. subst (λ (z : List ℕ). source_step A src dst z (symbol_of (first_cell x)) ≢ []) (sym ps) (takes_on (first_cell x) ((c.covers (first_cell x)).1 (x, n, h))), λ w. absurd (omega arith));
-          source = subst (λ (z : List ℕ). source_step A src dst from x ≡ source_step A src dst z (symbol_of (first_cell x))) (sym ps) (source_same x (first_cell x) n h);
-          target = subst (λ (z : List ℕ). target_step A src dst to x ≡ target_step A src dst z (symbol_of (first_cell x))) (sym pd) (target_same x (first_cell x) n h);
-        });
+          let (x, n, q) = among_unmap offer xs e m in
+          let h = first_in x (c.formed x n) in
+          subst (λ (z : Entry). IsStepFrom A src dst place p k z) q (record {
+            parent = refl;
+            goes = (λ w. subst (λ (z : List ℕ). source_step A src dst z (symbol_of (first_cell x)) ≢ []) (sym ps) (takes_on (first_cell x) ((c.covers (first_cell x)).1 (x, n, h))), λ w. absurd (omega arith));
+            source = subst (λ (z : List ℕ). source_step A src dst from x ≡ source_step A src dst z (symbol_of (first_cell x))) (sym ps) (source_same x (first_cell x) n h);
+            target = subst (λ (z : List ℕ). target_step A src dst to x ≡ target_step A src dst z (symbol_of (first_cell x))) (sym pd) (target_same x (first_cell x) n h);
+          });
       rising = offers_rise xs c.ordered c.formed;
       covers = λ d g.
-        let (x, n, h) = (c.covers d).0 (taken d (subst (λ (z : List ℕ). source_step A src dst z (symbol_of d) ≢ []) ps (g.0 l))) in
-        (offer x, among_map offer xs x n,
-          subst (λ (z : List ℕ). source_step A src dst from x ≡ source_step A src dst z (symbol_of d)) (sym ps) (source_same x d n h),
-          subst (λ (z : List ℕ). target_step A src dst to x ≡ target_step A src dst z (symbol_of d)) (sym pd) (target_same x d n h),
-          first_least x d h);
+          let (x, n, h) = (c.covers d).0 (taken d (subst (λ (z : List ℕ). source_step A src dst z (symbol_of d) ≢ []) ps (g.0 l))) in (
+            offer x,
+            among_map offer xs x n,
+            subst (λ (z : List ℕ). source_step A src dst from x ≡ source_step A src dst z (symbol_of d)) (sym ps) (source_same x d n h),
+            subst (λ (z : List ℕ). target_step A src dst to x ≡ target_step A src dst z (symbol_of d)) (sym pd) (target_same x d n h),
+            first_least x d h,
+          );
     }
 
   steps_behind : (place : ℕ) → src.size ≤ place → (p : Entry) → p.src ≡ from → p.dst ≡ to → AreStepsFrom A src dst place p k (offers A src dst from to k (symbol.Uninit ∷ []))
@@ -134,11 +133,13 @@ module _ (A : ℕ → ℕ → Bool) (src dst : Automaton) (from to : List ℕ) (
     });
     rising = (λ f m. absurd (none_among m), tt);
     covers = λ d g.
-      let u : d ≡ cell.Uninit = g.1 l in
-      (offer symbol.Uninit, here,
-        subst (λ (z : Cell). source_step A src dst from symbol.Uninit ≡ source_step A src dst p.src (symbol_of z)) (sym u) (ap (λ (z : List ℕ). source_step A src dst z symbol.Uninit) (sym ps)),
-        subst (λ (z : Cell). target_step A src dst to symbol.Uninit ≡ target_step A src dst p.dst (symbol_of z)) (sym u) (ap (λ (z : List ℕ). target_step A src dst z symbol.Uninit) (sym pd)),
-        subst (λ (z : Cell). cell_less z cell.Uninit ≡ false) (sym u) refl);
+        let u : d ≡ cell.Uninit = g.1 l in (
+          offer symbol.Uninit,
+          here,
+          subst (λ (z : Cell). source_step A src dst from symbol.Uninit ≡ source_step A src dst p.src (symbol_of z)) (sym u) (ap (λ (z : List ℕ). source_step A src dst z symbol.Uninit) (sym ps)),
+          subst (λ (z : Cell). target_step A src dst to symbol.Uninit ≡ target_step A src dst p.dst (symbol_of z)) (sym u) (ap (λ (z : List ℕ). target_step A src dst z symbol.Uninit) (sym pd)),
+          subst (λ (z : Cell). cell_less z cell.Uninit ≡ false) (sym u) refl,
+        );
   }
 
   pub steps_are : (xs : List Symbol) (place : ℕ) → AreSymbols A src dst place from to xs → (p : Entry) → p.src ≡ from → p.dst ≡ to → AreStepsFrom A src dst place p k (offers A src dst from to k xs)

@@ -1,18 +1,17 @@
 -- From the layers to what is sought: the least word on which the quantifier stops, and its offset.
-use Rattle.std.proofs.Common.{◌≡◌, ◌≢◌, ℕ, zero, suc, ◌+◌, ◌-◌, ◌<◌, ◌≤◌, ◌⊎◌, inl, inr, ◌↔◌, Bool, true, false, IsTrue, List, [], ◌∷◌, ◌++◌, length, take, map, Option, Some, None, slice_get, refl, sym, ap, ◌∙◌, subst, arith}
+use Rattle.std.proofs.Common.{◌≡◌, ℕ, suc, ◌+◌, ◌-◌, ◌≤◌, inl, inr, Bool, true, false, List, [], ◌∷◌, ◌++◌, length, take, map, Option, Some, None, slice_get, refl, sym, ap, ◌∙◌, subst, arith}
 use Rattle.std.specs.Prelude.{◌==◌}
 use Rattle.std.specs.Option.{option_map}
 use Rattle.std.proofs.lemmas.Bool.{cases_lt}
 use Rattle.std.proofs.lemmas.Option.{slice_get-map}
-use Rattle.tm_base.specs.Cells.{Word, fit}
+use Rattle.tm_base.specs.Cells.{Word}
 use Rattle.tm_base.specs.Orders.{word_less}
 use Rattle.tm_base.proofs.OrderLemmas.{word_less-asym}
 use Rattle.tm_auto.specs.Automata.{Automaton, IsAutomaton, ReadsWords, reached, equal}
-use Rattle.tm_auto.specs.Paths.{Among}
 use Rattle.tm_walk.specs.declared.way.Way.{Way}
-use Rattle.tm_walk.specs.Layers.{is_live, Entry, IsNext}
+use Rattle.tm_walk.specs.Layers.{is_live, Entry}
 use Rattle.tm_walk.specs.Numbers.{way_of}
-use Rattle.tm_walk.specs.Sought.{IsSourceWord, IsViableTo, StopsAt, SkipsAt, IsSought, NoneIsSought, IsLeastSought, IsViableLength, IsFound}
+use Rattle.tm_walk.specs.Sought.{IsSourceWord, IsSought, IsLeastSought, IsViableLength, IsFound}
 use Rattle.tm_walk.specs.Ways.{cells_by, cells_to, LeadsBack}
 use Rattle.tm_walk.specs.Words.{IsFront, IsLeastWord, live_length}
 use Rattle.tm_walk.proofs.ChainLemmas.{word_at, IsStopped, IsChained, IsLeastFront, alike_earlier}
@@ -21,7 +20,7 @@ use Rattle.tm_walk.proofs.LessLemmas.{less_begins, less_split, at_most, word_les
 use Rattle.tm_walk.proofs.LiveLemmas.{live_least, live_there, live_most}
 use Rattle.tm_walk.proofs.NumberLemmas.{get_among, get_map}
 use Rattle.tm_walk.proofs.PaddedLemmas.{padded, fit-padded, length-padded, take-padded, padded_within}
-use Rattle.tm_walk.proofs.ViableLemmas.{target_at, tells_live, stops_are, skips_are}
+use Rattle.tm_walk.proofs.ViableLemmas.{tells_live, stops_are, skips_are}
 
 -- ---- what is kept of the layers
 
@@ -77,7 +76,8 @@ module _ (A : ℕ → ℕ → Bool) (src dst : Automaton) (hs : IsAutomaton src)
   sought_stopped w p s =
       let within = s.within in
       record {
-        word = s.word; within = within;
+        word = s.word;
+        within = within;
         stops = (stops_are A src dst hs hd rd stop skip w s.word p within).0 s.stops;
         passes = λ q l. (
           not_true _ (λ h. (s.goes_on q l).0 ((stops_are A src dst hs hd rd stop skip w s.word q (omega arith)).1 h)),
@@ -89,7 +89,8 @@ module _ (A : ℕ → ℕ → Bool) (src dst : Automaton) (hs : IsAutomaton src)
   stopped_sought w p s =
       let within = s.within in
       record {
-        word = s.word; within = within;
+        word = s.word;
+        within = within;
         stops = (stops_are A src dst hs hd rd stop skip w s.word p within).1 s.stops;
         goes_on = λ q l. (
           λ h. (let a = (stops_are A src dst hs hd rd stop skip w s.word q (omega arith)).0 h in let b = (s.passes q l).0 in cc),
@@ -100,7 +101,8 @@ module _ (A : ℕ → ℕ → Bool) (src dst : Automaton) (hs : IsAutomaton src)
   -- a word that is padded alike is sought alike
   stopped_alike : (v w : Word) (p : ℕ) → IsSourceWord src w → padded v p ≡ padded w p → Stopped v p → Stopped w p
   stopped_alike v w p word e s = record {
-    word = word; within = s.within;
+    word = word;
+    within = s.within;
     stops = subst (λ (u : Word). stop (is_live (reached A dst u)) (p == dst.size) ≡ true) e s.stops;
     passes = λ q l. subst (λ (u : Word). (stop (is_live (reached A dst u)) (q == dst.size) ≡ false) × (skip (is_live (reached A dst u)) ≡ false)) (alike_earlier v w p q (omega arith) e) (s.passes q l);
   }

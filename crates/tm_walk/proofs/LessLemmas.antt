@@ -1,9 +1,9 @@
 -- The order of words that are made of others.
-use Rattle.std.proofs.Common.{◌≡◌, ℕ, zero, suc, ◌⊎◌, inl, inr, Bool, true, false, ◌||◌, ◌&&◌, not, List, [], ◌∷◌, ◌++◌, length, refl, sym, ap, ◌∙◌, subst, arith}
+use Rattle.std.proofs.Common.{◌≡◌, ◌⊎◌, inl, inr, Bool, true, false, ◌||◌, ◌&&◌, not, [], ◌∷◌, ◌++◌, length, refl, sym, ◌∙◌, subst, arith}
 use Rattle.tm_base.specs.declared.cell.Cell.{Cell}
 use Rattle.tm_base.specs.Cells.{Word}
 use Rattle.tm_base.specs.Orders.{list_less, cell_less, word_less}
-use Rattle.tm_base.proofs.OrderLemmas.{cell_less-asym, word_less-total, word_less-asym, word_less-trans}
+use Rattle.tm_base.proofs.OrderLemmas.{word_less-total, word_less-asym, word_less-trans}
 use Rattle.tm_auto.proofs.SetLemmas.{bool_cases}
 use Rattle.tm_walk.proofs.ExpandLemmas.{cell_less-irreflexive}
 

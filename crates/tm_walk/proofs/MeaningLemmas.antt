@@ -1,19 +1,18 @@
 -- What the two quantifiers seek.
-use Rattle.std.proofs.Common.{◌≡◌, ◌≢◌, ℕ, zero, suc, ◌+◌, ◌<◌, ◌≤◌, ◌⊎◌, inl, inr, ◌↔◌, Bool, true, false, IsTrue, not, List, [], ◌∷◌, ◌++◌, length, take, refl, sym, ap, ◌∙◌, subst, arith, eq-eqb}
-use Rattle.std.specs.Prelude.{◌==◌, ◌&&◌}
-use Rattle.std.proofs.lemmas.Bool.{cases_lt, ne_eqb}
+use Rattle.std.proofs.Common.{◌≡◌, ◌≢◌, ℕ, zero, suc, ◌+◌, ◌<◌, ◌≤◌, inl, inr, ◌↔◌, Bool, true, false, [], ◌++◌, length, take, refl, sym, ap, ◌∙◌, subst, arith, eq-eqb}
+use Rattle.std.specs.Prelude.{◌==◌}
+use Rattle.std.proofs.lemmas.Bool.{cases_lt}
 use Rattle.std.proofs.lemmas.List.{take_all}
 use Rattle.tm_base.specs.Cells.{Word, fit}
-use Rattle.tm_base.specs.Orders.{word_less}
 use Rattle.tm_base.specs.Transmutes.{holds}
-use Rattle.tm_auto.specs.Automata.{Automaton, AutoWord, IsViable, IsAutomaton, ReadsWords}
+use Rattle.tm_auto.specs.Automata.{Automaton, IsViable, IsAutomaton, ReadsWords}
 use Rattle.tm_auto.proofs.SetLemmas.{same_at}
 use Rattle.tm_auto.proofs.StepLemmas.{both_true}
 use Rattle.tm_walk.specs.Layers.{is_live}
-use Rattle.tm_walk.specs.Meanings.{for_all_stops, for_all_skips, exists_stops, exists_skips, Fits, EachWordFits, NoWordFits, IsInhabited, IsRefusedAt, IsFirstRefusal, IsLeastExample}
-use Rattle.tm_walk.specs.Sought.{IsSourceWord, IsViableTo, StopsAt, SkipsAt, IsSought, NoneIsSought, IsLeastSought, IsViableLength, IsFound}
-use Rattle.tm_walk.proofs.PaddedLemmas.{padded, fit-padded, length-padded}
-use Rattle.tm_walk.proofs.ViableLemmas.{either, target_at, tells_live, viable_is, viable_earlier, viable_fits, fits_viable}
+use Rattle.tm_walk.specs.Meanings.{for_all_stops, for_all_skips, exists_stops, exists_skips, Fits, EachWordFits, NoWordFits, IsRefusedAt, IsFirstRefusal, IsLeastExample}
+use Rattle.tm_walk.specs.Sought.{IsSourceWord, IsViableTo, StopsAt, SkipsAt, IsSought, NoneIsSought, IsViableLength, IsFound}
+use Rattle.tm_walk.proofs.PaddedLemmas.{fit-padded, length-padded}
+use Rattle.tm_walk.proofs.ViableLemmas.{either, target_at, tells_live, viable_earlier, viable_fits, fits_viable}
 
 module _ (A : ℕ → ℕ → Bool) (src dst : Automaton) (hs : IsAutomaton src) (hd : IsAutomaton dst) (rd : ReadsWords dst) where
   -- ---- for all
@@ -34,7 +33,9 @@ module _ (A : ℕ → ℕ → Bool) (src dst : Automaton) (hs : IsAutomaton src)
   -- a word that is viable to each earlier place, and not to this one, is sought here
   refusal : (w : Word) (p : ℕ) → IsSourceWord src w → p ≤ dst.size → ¬ IsViableTo A dst w p → ((q : ℕ) → q < p → IsViableTo A dst w q) → Refusal w p
   refusal w p word l n before = record {
-    word = word; within = l; stops = dead_stops w p n;
+    word = word;
+    within = l;
+    stops = dead_stops w p n;
     goes_on = λ q m. (λ s. stopped_dead w q s (before q m), never_skips w q);
   }
 
@@ -86,11 +87,13 @@ module _ (A : ℕ → ℕ → Bool) (src dst : Automaton) (hs : IsAutomaton src)
       let high : offset ≢ suc q = λ e. stopped_dead w (suc q) s.stops (subst (λ (n : ℕ). IsViableTo A dst w n) e (v.viable (λ z. omega arith))) in
       let within = v.within in
       let same : q ≡ offset = omega arith in
-      let next : suc q ≡ offset + 1 = omega arith in
-      (next, record {
-        viable = subst (λ (n : ℕ). IsViableTo A dst w n) same viable;
-        refused = λ h. stopped_dead w (suc q) s.stops (subst (λ (n : ℕ). IsViableTo A dst w n) (sym next) h);
-      })
+      let next : suc q ≡ offset + 1 = omega arith in (
+        next,
+        record {
+          viable = subst (λ (n : ℕ). IsViableTo A dst w n) same viable;
+          refused = λ h. stopped_dead w (suc q) s.stops (subst (λ (n : ℕ). IsViableTo A dst w n) (sym next) h);
+        },
+      )
 
   nothing_viable : (v : Word) (k : ℕ) → IsRefusedAt A src dst v k → IsViable (holds A) dst []
   nothing_viable v k r = let (u, word) = r.viable in (take k (fit v dst.size) ++ u, word)
@@ -103,12 +106,12 @@ module _ (A : ℕ → ℕ → Bool) (src dst : Automaton) (hs : IsAutomaton src)
         misfit = λ h. stopped_dead w f.place s.stops (viable_earlier A src dst hs hd rd w f.place dst.size s.within (omega arith) (fits_viable A src dst hs hd rd w h));
         refused = λ some. (found_at w f.place offset some s f.viable).1;
         earliest = λ v other word r.
-          let at = (found_at w f.place offset (nothing_viable v _ r) s f.viable).0 in
-          let first = f.least.earliest v (other + 1) (refused_sought v other word r) in
-          omega arith;
+            let at = (found_at w f.place offset (nothing_viable v _ r) s f.viable).0 in
+            let first = f.least.earliest v (other + 1) (refused_sought v other word r) in
+            omega arith;
         least = λ v word r.
-          let at = (found_at w f.place offset (nothing_viable v _ r) s f.viable).0 in
-          f.least.least v (subst (λ (n : ℕ). Refusal v n) (sym at) (refused_sought v offset word r));
+            let at = (found_at w f.place offset (nothing_viable v _ r) s f.viable).0 in
+            f.least.least v (subst (λ (n : ℕ). Refusal v n) (sym at) (refused_sought v offset word r));
       }
 
   -- ---- exists
@@ -121,7 +124,8 @@ module _ (A : ℕ → ℕ → Bool) (src dst : Automaton) (hs : IsAutomaton src)
   fitting_sought w word f =
       let viable : (p : ℕ) → p ≤ dst.size → IsViableTo A dst w p = λ p l. viable_earlier A src dst hs hd rd w p dst.size l (omega arith) (fits_viable A src dst hs hd rd w f) in
       record {
-        word = word; within = omega arith;
+        word = word;
+        within = omega arith;
         stops = record { live = true; tells = (λ h. viable dst.size (omega arith), λ h. refl); stops = eq-eqb dst.size dst.size refl };
         goes_on = λ p l. (
           λ s. (let end = (both_true s.live (p == dst.size) s.stops).1 in let same = same_at p dst.size end in omega arith),
@@ -151,7 +155,7 @@ module _ (A : ℕ → ℕ → Bool) (src dst : Automaton) (hs : IsAutomaton src)
         fits = fits;
         least = λ v word g. f.least.least v (subst (λ (n : ℕ). Example v n) (sym end) (fitting_sought v word g));
         whole =
-          let low = f.viable.longest dst.size (omega arith) (fits_viable A src dst hs hd rd w fits) in
-          let high = f.viable.within in
-          omega arith;
+            let low = f.viable.longest dst.size (omega arith) (fits_viable A src dst hs hd rd w fits) in
+            let high = f.viable.within in
+            omega arith;
       }

@@ -1,17 +1,17 @@
 -- One pair after the other is expanded into the next layer.
-use Rattle.std.proofs.Common.{◌≡◌, ◌≢◌, ℕ, zero, suc, ◌+◌, ◌<◌, ◌≤◌, ◌⊎◌, inl, inr, Bool, true, false, cond, List, [], ◌∷◌, ◌++◌, length, take, Some, Result, Ok, Err, OnOk, slice_get, add-one, refl, sym, ap, ◌∙◌, subst, arith}
+use Rattle.std.proofs.Common.{◌≡◌, ℕ, zero, suc, ◌+◌, ◌<◌, ◌≤◌, inl, inr, Bool, true, false, List, [], ◌∷◌, ◌++◌, length, take, Some, Result, Ok, Err, OnOk, slice_get, add-one, refl, sym, ap, ◌∙◌, subst, arith}
 use Rattle.std.proofs.lemmas.Bool.{cases_lt}
-use Rattle.std.proofs.lemmas.Option.{slice_get_within, same_Some}
+use Rattle.std.proofs.lemmas.Option.{same_Some}
 use Rattle.tm_base.specs.declared.cell.Cell.{Cell}
 use Rattle.tm_base.specs.Orders.{cell_less}
 use Rattle.tm_base.proofs.OrderLemmas.{cell_less-total, cell_less-trans, cell_less-asym}
 use Rattle.tm_auto.specs.declared.edge.Symbol.{Symbol}
 use Rattle.tm_auto.specs.Automata.{Automaton, AreStates}
-use Rattle.tm_auto.specs.Paths.{Among, here, there}
+use Rattle.tm_auto.specs.Paths.{Among}
 use Rattle.tm_auto.specs.Sets.{symbol_of}
 use Rattle.tm_auto.proofs.AmongLemmas.{among_left, among_right, among_either, none_among}
 use Rattle.tm_auto.proofs.SetLemmas.{bool_cases}
-use Rattle.tm_walk.specs.Layers.{is_live, IsFirstStop, weight, weights, weight_at, Entry, HasStates, AreSymbols, offers, HaveSameSets, Precedes, IsHeld, AreOffered, source_step, target_step, Goes, IsStepFrom, AreStepsFrom, IsExpanded, IsFrom, IsReached, IsNext}
+use Rattle.tm_walk.specs.Layers.{is_live, IsFirstStop, weight, weights, weight_at, Entry, HasStates, AreSymbols, offers, AreOffered, source_step, target_step, Goes, IsStepFrom, AreStepsFrom, IsExpanded, IsReached, IsNext}
 use Rattle.tm_walk.proofs.ExpandLemmas.{steps_are}
 use Rattle.tm_walk.proofs.NumberLemmas.{get_among}
 use Rattle.tm_walk.proofs.OfferLemmas.{Keeps, keeps, rising-append, apart-append}
@@ -29,7 +29,10 @@ not_less_trans c d e a b = elim (bool_cases (cell_less c e)) [
 module _ (A : ℕ → ℕ → Bool) (src dst : Automaton) (skip : Bool → Bool) (place : ℕ) (layer : List Entry) where
   pub next_none : IsNext A src dst skip place layer 0 []
   next_none = record {
-    from = λ e m. absurd (none_among m); before = λ e m. absurd (none_among m); rising = tt; apart = tt;
+    from = λ e m. absurd (none_among m);
+    before = λ e m. absurd (none_among m);
+    rising = tt;
+    apart = tt;
     done = λ k x c l. absurd (omega arith);
   }
 
@@ -39,7 +42,10 @@ module _ (A : ℕ → ℕ → Bool) (src dst : Automaton) (skip : Bool → Bool)
   -- a skipped pair makes nothing
   next_skipped : (n : ℕ) (next : List Entry) (p : Entry) → IsNext A src dst skip place layer n next → slice_get layer n ≡ Some p → skip (is_live p.dst) ≡ true → IsNext A src dst skip place layer (n + 1) next
   next_skipped n next p i at skipped = record {
-    from = i.from; before = λ e m. let b = i.before e m in omega arith; rising = i.rising; apart = i.apart;
+    from = i.from;
+    before = λ e m. let b = i.before e m in omega arith;
+    rising = i.rising;
+    apart = i.apart;
     done = λ k x c l a s g. elim (cases_lt k n) [
       | inl m ↦ i.done k x c m a s g
       | inr m ↦ (
@@ -62,7 +68,9 @@ module _ (A : ℕ → ℕ → Bool) (src dst : Automaton) (skip : Bool → Bool)
         | inr a ↦ (
             let q = new_parent k e a in
             record {
-              pair = p; at = ap (slice_get layer) q ∙ at; goes_on = goes_on;
+              pair = p;
+              at = ap (slice_get layer) q ∙ at;
+              goes_on = goes_on;
               step = subst (λ (z : ℕ). IsStepFrom A src dst place p z e) (sym q) (s.each e (k.from e a));
             })
       ];
@@ -167,7 +175,8 @@ module _ (skip : Bool → Bool) (layer : List Entry) (k : ℕ) (from to : List �
     steps_expanded place skipped is e symbols a before after o =
         let (x, at, s, d) = read in
         record {
-          pair = x; at = at;
+          pair = x;
+          at = at;
           either = inr (ap (λ (y : List ℕ). skip (is_live y)) (sym d) ∙ sym is ∙ e, (offers A src dst from to k symbols, steps_are A src dst from to k symbols place a x (sym s) (sym d), o));
         }
 
@@ -193,7 +202,8 @@ pub stop_found : (stop : Bool → Bool → Bool) (at_end : Bool) (layer : List E
     → (e : Entry) × (slice_get layer k ≡ Some e) × (from ≡ e.src) × (to ≡ e.dst) → (live : Bool) → live ≡ is_live to → (stops : Bool) → stops ≡ stop live at_end → stops ≡ true
     → ((j : ℕ) (e : Entry) → j < k → slice_get layer j ≡ Some e → stop (is_live e.dst) at_end ≡ false) → IsFirstStop stop at_end layer k
 stop_found stop at_end layer k from to (e, at, s, t) live l stops h stopped first = record {
-  entry = e; at = at;
+  entry = e;
+  at = at;
   stops = ap (λ (z : List ℕ). stop (is_live z) at_end) (sym t) ∙ ap (λ (b : Bool). stop b at_end) (sym l) ∙ sym h ∙ stopped;
   first = first;
 }

@@ -1,15 +1,13 @@
 -- What an index of sets says of the number of a set.
-use Rattle.std.proofs.Common.{◌≡◌, ℕ, zero, suc, ◌+◌, ◌<◌, ◌≤◌, ◌⊎◌, inl, inr, Bool, true, false, cond, not, List, [], ◌∷◌, ◌++◌, map, length, get_or, Option, Some, None, slice_get, position, refl, sym, ap, ◌∙◌, subst, arith, lt-ltb, nat_lt, nat_eq, bytes_eq}
+use Rattle.std.proofs.Common.{◌≡◌, ℕ, zero, suc, ◌+◌, ◌<◌, ◌⊎◌, inl, inr, Bool, true, false, cond, List, [], ◌∷◌, ◌++◌, map, length, Some, None, slice_get, position, refl, sym, ap, ◌∙◌, subst, arith, lt-ltb, nat_lt, nat_eq}
 use Rattle.std.specs.Global.{Vec}
 use Rattle.std.specs.List.{position_or_len}
 use Rattle.std.specs.Map.{keys_of}
 use Rattle.std.specs.Cmp.Lexicographic.{pointwise}
 use Rattle.std.proofs.lemmas.Slice.Eq.{bytes_eq-Decides}
-use Rattle.std.proofs.lemmas.List.{length_push}
-use Rattle.std.proofs.lemmas.Option.{slice_get-get_or}
 use Rattle.indexmap.specs.IndexMap.{insert_entry}
 use Rattle.tm_auto.specs.Paths.{Among, here, there}
-use Rattle.tm_auto.proofs.AmongLemmas.{among_left, among_right, among_either, none_among}
+use Rattle.tm_auto.proofs.AmongLemmas.{among_either, none_among}
 use Rattle.tm_walk.specs.Numbers.{Row, sets_of, AreNumbered}
 
 either : (b : Bool) → (b ≡ true) ⊎ (b ≡ false)

@@ -1,5 +1,5 @@
 -- Pairs offered in rising order: what becomes of them.
-use Rattle.std.proofs.Common.{◌≡◌, ◌≢◌, ℕ, Bool, true, false, zero, suc, ◌<◌, ◌≤◌, ◌⊎◌, inl, inr, List, [], ◌∷◌, ◌++◌, Some, slice_get, refl, sym, ap, ◌∙◌, subst, arith, append_assoc}
+use Rattle.std.proofs.Common.{◌≡◌, ◌≢◌, ℕ, true, false, zero, suc, ◌<◌, ◌⊎◌, inl, inr, List, [], ◌∷◌, ◌++◌, Some, slice_get, refl, sym, ap, ◌∙◌, subst, arith, append_assoc}
 use Rattle.std.proofs.lemmas.List.{append-nil}
 use Rattle.tm_auto.specs.Paths.{Among, here, there}
 use Rattle.tm_auto.proofs.AmongLemmas.{among_left, among_right, among_either, none_among}
@@ -37,15 +37,23 @@ pub record Keeps (es before after : List Entry) : Type 0 where
 
 pub keeps : (es before after : List Entry) → AreRising es → AreOffered es before after → Keeps es before after
 keeps [] before after rise is = record {
-  more = []; is = is ∙ sym (append-nil before);
-  from = λ f m. m; fresh = λ f m. absurd (none_among m); apart = tt; rising = tt; early = λ o m. absurd (none_among m);
+  more = [];
+  is = is ∙ sym (append-nil before);
+  from = λ f m. m;
+  fresh = λ f m. absurd (none_among m);
+  apart = tt;
+  rising = tt;
+  early = λ o m. absurd (none_among m);
 }
 keeps (e ∷ es) before after (first, rise) (between, inl ((f, m, s), q), rest) =
     let k = keeps es before after rise (subst (λ (z : List Entry). AreOffered es z after) q rest) in
     record {
-      more = k.more; is = k.is;
+      more = k.more;
+      is = k.is;
       from = λ g h. there (k.from g h);
-      fresh = k.fresh; apart = k.apart; rising = k.rising;
+      fresh = k.fresh;
+      apart = k.apart;
+      rising = k.rising;
       early = λ o h. elim (among_cases e o h) [
         | inl z ↦ record { entry = f; same = (s.0 ∙ ap (λ (x : Entry). x.src) (sym z), s.1 ∙ ap (λ (x : Entry). x.dst) (sym z)); where_ = inl m }
         | inr n ↦ k.early o n
@@ -125,7 +133,7 @@ pub started : (src dst : Automaton) (from to : List ℕ) (parent : ℕ) (c : Cel
     → (before : List Entry) → before ≡ [] → IsOffered (record { src = from; dst = to; parent = parent; cell = c }) before layer → IsStart src dst layer
 started src dst from to parent c layer a b live before none o =
     start_one src dst (record { src = from; dst = to; parent = parent; cell = c }) layer a b (λ q. let z : is_live from ≡ false = ap is_live (a ∙ q) in cc)
-      (subst (λ (z : List Entry). IsOffered (record { src = from; dst = to; parent = parent; cell = c }) z layer) none o)
+    (subst (λ (z : List Entry). IsOffered (record { src = from; dst = to; parent = parent; cell = c }) z layer) none o)
 
 pub unstarted : (src dst : Automaton) (from : List ℕ) (layer : List Entry) → from ≡ src.starts → is_live from ≡ false → layer ≡ [] → IsStart src dst layer
 unstarted src dst from layer a dead none = subst (IsStart src dst) (sym none) (start_none src dst (sym a ∙ nothing from dead))

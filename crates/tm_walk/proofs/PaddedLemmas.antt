@@ -1,11 +1,11 @@
 -- What the bytes up to a place hold where a word was written.
-use Rattle.std.proofs.Common.{◌≡◌, ℕ, zero, suc, ◌+◌, ◌-◌, ◌<◌, ◌≤◌, List, [], ◌∷◌, ◌++◌, length, take, drop, get_or, refl, sym, ap, ◌∙◌, subst, arith}
+use Rattle.std.proofs.Common.{◌≡◌, ℕ, zero, suc, ◌-◌, ◌≤◌, [], ◌∷◌, ◌++◌, length, take, get_or, refl, sym, ap, ◌∙◌, arith}
 use Rattle.std.specs.Prelude.{replicate}
 use Rattle.std.proofs.lemmas.List.{get_or_past}
 use Rattle.tm_base.specs.declared.cell.Cell.{Cell}
-use Rattle.tm_base.specs.declared.cell.Cell.TheVariants.{Byte, Uninit, Ptr}
+use Rattle.tm_base.specs.declared.cell.Cell.TheVariants.{Uninit}
 use Rattle.tm_base.specs.Cells.{Word, fit}
-use Rattle.tm_auto.specs.Joined.{JoinedAfter, IsJoined, HasNoOwn}
+use Rattle.tm_auto.specs.Joined.{JoinedAfter, HasNoOwn}
 
 -- so many cells: the word's first ones, and behind its end uninitialised bytes
 abbrev pub padded : Word → ℕ → Word

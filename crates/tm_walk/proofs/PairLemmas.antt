@@ -1,8 +1,7 @@
 -- What offering a pair of sets to a layer does.
-use Rattle.std.proofs.Common.{◌≡◌, ℕ, ◌+◌, ◌<◌, ◌⊎◌, inl, inr, Bool, true, false, cond, ◌&&◌, List, [], ◌∷◌, ◌++◌, map, length, get_or, Option, Some, None, is_some, slice_get, refl, sym, ap, ◌∙◌, subst, arith, nat_eq, eq-eqb, length-append}
-use Rattle.std.specs.List.{slice_index_or}
+use Rattle.std.proofs.Common.{◌≡◌, ℕ, ◌<◌, ◌⊎◌, inl, inr, Bool, true, false, ◌&&◌, List, [], ◌∷◌, ◌++◌, map, length, get_or, Some, is_some, slice_get, refl, sym, ap, ◌∙◌, arith, nat_eq, eq-eqb, length-append}
 use Rattle.std.specs.Map.{lookup}
-use Rattle.std.proofs.lemmas.Bool.{and_from, and_parts}
+use Rattle.std.proofs.lemmas.Bool.{and_from}
 use Rattle.std.proofs.lemmas.List.{get_or_append_left, map-append}
 use Rattle.std.proofs.lemmas.Option.{slice_get-get_or, get_or_from_slice_get, slice_get_within}
 use Rattle.indexmap.specs.IndexMap.{insert_entry}
@@ -11,7 +10,7 @@ use Rattle.tm_auto.proofs.AmongLemmas.{among_either}
 use Rattle.tm_auto.proofs.SetLemmas.{same_at}
 use Rattle.tm_walk.specs.declared.way.Pair.{Pair}
 use Rattle.tm_walk.specs.declared.way.Way.{Way}
-use Rattle.tm_walk.specs.Layers.{Entry, HaveSameSets, IsHeld, IsOffered}
+use Rattle.tm_walk.specs.Layers.{Entry, IsHeld, IsOffered}
 use Rattle.tm_walk.specs.Numbers.{entry_by, way_of, entry_of, entries_of, AreWithin}
 use Rattle.tm_walk.proofs.NumberLemmas.{get_among, get_map, among_map, among_unmap, insert_last}
 
@@ -130,13 +129,13 @@ module _ (s0 t0 s1 t1 : List (List ℕ)) (src dst : List ℕ) (s t : ℕ)
       inr (
         map-append (entry_of s1 t1) rows ((offered, way) ∷ []) ∙ (λ i. entries_same i ++ last i ∷ []),
         λ (f, m, (a, b)).
-          let (row, r, e) = among_unmap (entry_of s0 t0) rows f m in
-          let x : get_or s0 row.0.source [] ≡ src = ap (λ (z : Entry). z.src) e ∙ a in
-          let y : get_or t0 row.0.target [] ≡ dst = ap (λ (z : Entry). z.dst) e ∙ b in
-          let (p, q) = numbers row r x y in
-          let fails = passes_none (pair_is offered) rows h row r in
-          let passes = and_from (nat_eq s row.0.source) (nat_eq t row.0.target) (eq-eqb s row.0.source (sym p)) (eq-eqb t row.0.target (sym q)) in
-          cc,
+            let (row, r, e) = among_unmap (entry_of s0 t0) rows f m in
+            let x : get_or s0 row.0.source [] ≡ src = ap (λ (z : Entry). z.src) e ∙ a in
+            let y : get_or t0 row.0.target [] ≡ dst = ap (λ (z : Entry). z.dst) e ∙ b in
+            let (p, q) = numbers row r x y in
+            let fails = passes_none (pair_is offered) rows h row r in
+            let passes = and_from (nat_eq s row.0.source) (nat_eq t row.0.target) (eq-eqb s row.0.source (sym p)) (eq-eqb t row.0.target (sym q)) in
+            cc,
       )
 
 -- ---- reading a layer

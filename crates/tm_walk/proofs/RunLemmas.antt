@@ -1,12 +1,11 @@
 -- What a walk knows at each place, and what it answers from that.
-use Rattle.std.proofs.Common.{◌≡◌, ◌≢◌, ℕ, zero, suc, ◌+◌, ◌<◌, ◌≤◌, ◌⊎◌, inl, inr, Bool, true, false, List, [], ◌∷◌, ◌++◌, length, map, Some, slice_get, refl, sym, ap, ◌∙◌, subst, arith, eq-eqb}
+use Rattle.std.proofs.Common.{◌≡◌, ◌≢◌, ℕ, ◌+◌, ◌≤◌, Bool, List, [], ◌∷◌, length, map, refl, sym, ap, ◌∙◌, subst, arith}
 use Rattle.std.specs.Prelude.{◌==◌}
-use Rattle.std.proofs.lemmas.Bool.{ne_eqb}
 use Rattle.tm_base.specs.Cells.{Word}
 use Rattle.tm_auto.specs.Automata.{Automaton, IsAutomaton, ReadsWords, HasOneStateALayer}
 use Rattle.tm_auto.specs.Paths.{Among}
 use Rattle.tm_walk.specs.declared.way.Way.{Way}
-use Rattle.tm_walk.specs.Layers.{is_live, Entry, IsStart, HasStates, NoneStops, IsFirstStop, IsNext, weights}
+use Rattle.tm_walk.specs.Layers.{Entry, IsStart, HasStates, NoneStops, IsFirstStop, IsNext, weights}
 use Rattle.tm_walk.specs.Numbers.{way_of}
 use Rattle.tm_walk.specs.Sought.{NoneIsSought, IsFound, HaltsWhereDead}
 use Rattle.tm_walk.specs.Ways.{cells_to, LeadsBack}

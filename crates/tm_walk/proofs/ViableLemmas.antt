@@ -1,17 +1,17 @@
 -- Where a source word is viable in the target, told by the set of states that its cells reach.
-use Rattle.std.proofs.Common.{◌≡◌, ◌≢◌, ℕ, zero, suc, ◌+◌, ◌<◌, ◌≤◌, ◌⊎◌, inl, inr, ◌↔◌, Bool, true, false, IsTrue, ◌^◌, List, [], ◌∷◌, ◌++◌, length, take, refl, sym, ap, ◌∙◌, subst, arith, append_assoc, length-append, eq-eqb}
-use Rattle.std.specs.Prelude.{◌==◌, ◌||◌}
+use Rattle.std.proofs.Common.{◌≡◌, ◌≢◌, ℕ, ◌<◌, ◌≤◌, ◌⊎◌, inl, inr, ◌↔◌, Bool, true, false, IsTrue, ◌^◌, List, [], ◌∷◌, ◌++◌, length, refl, sym, ap, ◌∙◌, subst, arith, append_assoc, length-append, eq-eqb}
+use Rattle.std.specs.Prelude.{◌==◌}
 use Rattle.std.proofs.lemmas.Bool.{or_left, or_right}
 use Rattle.std.proofs.lemmas.List.{append-nil, nil_from_length}
 use Rattle.tm_base.specs.declared.cell.Cell.{Cell}
 use Rattle.tm_base.specs.declared.cell.Cell.TheVariants.{Byte, Uninit, Ptr}
-use Rattle.tm_base.specs.Cells.{Word, fit, own, OrOwn, or_own}
+use Rattle.tm_base.specs.Cells.{Word, own, OrOwn, or_own}
 use Rattle.tm_base.specs.Transmutes.{holds}
 use Rattle.tm_auto.specs.declared.edge.Edge.{Edge}
 use Rattle.tm_auto.specs.declared.edge.Label.{Label}
 use Rattle.tm_auto.specs.declared.edge.Label.TheVariants.{Bytes, Free, Leaf}
 use Rattle.tm_auto.specs.Automata.{Automaton, AutoWord, IsViable, IsAutomaton, ReadsWords, reached, equal}
-use Rattle.tm_auto.specs.Joined.{IsJoined, IsNotOwn, HasNoOwn}
+use Rattle.tm_auto.specs.Joined.{IsNotOwn, HasNoOwn}
 use Rattle.tm_auto.specs.Labels.{Takes, CanTake}
 use Rattle.tm_auto.specs.Paths.{Leads}
 use Rattle.tm_auto.proofs.AutomatonLemmas.{leads_wider}
@@ -128,7 +128,7 @@ module _ (A : ℕ → ℕ → Bool) (src dst : Automaton) (hs : IsAutomaton src)
   viable_fits w word h =
       let v = (viable_is w dst.size (omega arith)).0 h in
       subst (λ (z : Word). AutoWord (holds A) dst z) (sym (fit-padded w dst.size))
-        (viable_whole A dst hd (padded w dst.size) (no_own-padded w dst.size (source_no_own src hs w word)) (length-padded w dst.size) v)
+      (viable_whole A dst hd (padded w dst.size) (no_own-padded w dst.size (source_no_own src hs w word)) (length-padded w dst.size) v)
 
   pub fits_viable : (w : Word) → Fits A src dst w → IsViableTo A dst w dst.size
   fits_viable w f = (viable_is w dst.size (omega arith)).1 (whole_viable A dst hd (padded w dst.size) (subst (λ (z : Word). AutoWord (holds A) dst z) (fit-padded w dst.size) f))

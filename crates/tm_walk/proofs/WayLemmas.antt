@@ -1,12 +1,9 @@
 -- Ways back: the cells along them, of layers and of what is kept of them.
-use Rattle.std.proofs.Common.{◌≡◌, ℕ, ◌+◌, ◌<◌, ◌≤◌, List, [], ◌∷◌, ◌++◌, map, reverse, length, Option, Some, None, slice_get, refl, sym, ap, ◌∙◌, subst, arith}
+use Rattle.std.proofs.Common.{◌≡◌, ℕ, ◌<◌, List, [], ◌∷◌, ◌++◌, map, reverse, length, Option, Some, slice_get, sym, ap, ◌∙◌, subst}
 use Rattle.std.specs.Global.{Vec}
 use Rattle.std.proofs.lemmas.List.{map-append, reverse-append}
 use Rattle.std.proofs.lemmas.Option.{slice_get_within, same_Some}
-use Rattle.tm_base.specs.Cells.{Word}
 use Rattle.tm_walk.specs.declared.way.Way.{Way}
-use Rattle.tm_walk.specs.Layers.{Entry}
-use Rattle.tm_walk.specs.Numbers.{way_of}
 use Rattle.tm_walk.specs.Ways.{newest_first, cells_by, cells_to, LeadsBack}
 
 pub newest_more : (before : List (Vec Way)) (last : Vec Way) → newest_first (before ++ last ∷ []) ≡ last.items ∷ newest_first before

@@ -3,7 +3,7 @@ use Rattle.std.specs.Prelude.{◌≡◌, ℕ, suc, Bool, false, if◌then◌else
 use Rattle.tm_base.specs.declared.cell.Cell.{Cell}
 use Rattle.tm_base.specs.Cells.{Word, fit}
 use Rattle.tm_base.specs.Orders.{cell_less, word_less}
-use Rattle.tm_auto.specs.Automata.{Automaton, equal}
+use Rattle.tm_auto.specs.Automata.{Automaton}
 use Rattle.tm_auto.specs.Classes.{TakesFrom}
 use Rattle.tm_auto.specs.Sets.{next, symbol_of}
 use Rattle.tm_walk.specs.Layers.{is_live}

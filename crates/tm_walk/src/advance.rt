@@ -25,7 +25,8 @@ pub struct Walk<'a, Q, M> {
 }
 
 impl<'a, Q: Quantifier, M: RefTest> Walk<'a, Q, M> {
-    /// The first layer: the pair of the automata's starts, or nothing where the source has no word.
+    /// The first layer: the pair of the automata's starts, or nothing where the source has no word. The
+    /// way of that pair says nothing: nothing leads to it.
     pub fn start(&self) -> Result<Layer, Memory>
         ensures { IfOk result (λ layer. IsStart self.now.src.now self.now.dst.now layer) }
     {
@@ -46,7 +47,9 @@ impl<'a, Q: Quantifier, M: RefTest> Walk<'a, Q, M> {
     fn symbols(&self, place: u32, from: &StateSet, to: &StateSet) -> Result<List<Symbol>, Memory>
         requires from { AreStates self.now.src.now from.now }
         requires to { AreStates self.now.dst.now to.now }
-        ensures { IfOk result (λ symbols. AreSymbols (M.test self.now.refs.now) self.now.src.now self.now.dst.now place from.now to.now symbols) }
+        ensures { IfOk result (λ symbols. AreSymbols
+            (M.test self.now.refs.now) self.now.src.now self.now.dst.now
+            place from.now to.now symbols) }
     {
         if place < self.src.size() {
             return classes(self.alloc, self.src, from, self.dst, to);
@@ -67,7 +70,10 @@ impl<'a, Q: Quantifier, M: RefTest> Walk<'a, Q, M> {
     ) -> Result<(), Memory>
         requires from { AreStates self.now.src.now from.now }
         requires to { AreStates self.now.dst.now to.now }
-        ensures { OnOk result (AreOffered (offers (M.test self.now.refs.now) self.now.src.now self.now.dst.now from.now to.now k symbols.now) next.old next.new) }
+        ensures { OnOk result (AreOffered
+            (offers (M.test self.now.refs.now) self.now.src.now self.now.dst.now
+            from.now to.now k symbols.now)
+            next.old next.new) }
     {
         for symbol in symbols {
             let src = self.src.step(self.alloc, &Equal, from, *symbol)?;
@@ -91,9 +97,13 @@ impl<'a, Q: Quantifier, M: RefTest> Walk<'a, Q, M> {
         steps: &mut Steps<L>,
     ) -> Result<(), Memory>
         requires within { k < length layer.now }
-        requires states { (e : Entry) → Among e layer.now → HasStates (M.test self.now.refs.now) self.now.src.now self.now.dst.now e }
-        ensures expanded { OnOk result (IsExpanded (M.test self.now.refs.now) self.now.src.now self.now.dst.now (Q.skip self.now.quantifier.now) place layer.now k next.old next.new) }
-        ensures cost { steps.new ≤ steps.old + weight_at (Q.skip self.now.quantifier.now) layer.now k }
+        requires states { (e : Entry) → Among e layer.now
+            → HasStates (M.test self.now.refs.now) self.now.src.now self.now.dst.now e }
+        ensures expanded { OnOk result (IsExpanded
+            (M.test self.now.refs.now) self.now.src.now self.now.dst.now
+            (Q.skip self.now.quantifier.now) place layer.now k next.old next.new) }
+        ensures cost { steps.new
+            ≤ steps.old + weight_at (Q.skip self.now.quantifier.now) layer.now k }
         ensures counted { steps.old ≤ steps.new }
     {
         let (from, to) = layer.sets(k);
@@ -112,9 +122,13 @@ impl<'a, Q: Quantifier, M: RefTest> Walk<'a, Q, M> {
         layer: &Layer,
         steps: &mut Steps<L>,
     ) -> Result<Layer, Memory>
-        requires states { (e : Entry) → Among e layer.now → HasStates (M.test self.now.refs.now) self.now.src.now self.now.dst.now e }
-        ensures next { IfOk result (λ next. IsNext (M.test self.now.refs.now) self.now.src.now self.now.dst.now (Q.skip self.now.quantifier.now) place layer.now (length layer.now) next) }
-        ensures cost { steps.new ≤ steps.old + weights (Q.skip self.now.quantifier.now) layer.now }
+        requires states { (e : Entry) → Among e layer.now
+            → HasStates (M.test self.now.refs.now) self.now.src.now self.now.dst.now e }
+        ensures next { IfOk result (λ next. IsNext
+            (M.test self.now.refs.now) self.now.src.now self.now.dst.now
+            (Q.skip self.now.quantifier.now) place layer.now (length layer.now) next) }
+        ensures cost { steps.new
+            ≤ steps.old + weights (Q.skip self.now.quantifier.now) layer.now }
         ensures counted { steps.old ≤ steps.new }
     {
         let mut next = Layer::new(self.alloc);

@@ -9,7 +9,7 @@ use std::alloc::Global;
 use tm_auto::Auto;
 use tm_base::{Cell, Memory, RefTest, Word};
 
-/// The least source word where it holds that as many bytes hold these cells where it was written.
+/// The least source word of which as many bytes, fitted, hold these cells.
 pub fn least_word(alloc: Global, src: &Auto, cells: &[Cell]) -> Result<Word, Memory>
     requires { IsFront src.now cells.now }
     ensures { IfOk result (λ word. IsLeastWord src.now cells.now word) }
@@ -24,7 +24,11 @@ pub fn least_word(alloc: Global, src: &Auto, cells: &[Cell]) -> Result<Word, Mem
         let cell = reading.least_next(alloc)?;
         reading.read(alloc, cell)?;
     }
-    let Reading { src: _, word, set: _ } = reading;
+    let Reading {
+        src: _,
+        word,
+        set: _,
+    } = reading;
     Ok(word)
 }
 
@@ -36,7 +40,8 @@ pub fn live_length<M: RefTest>(
     cells: &[Cell],
 ) -> Result<u32, Memory>
     requires { length cells.now < 2 ^ 32 }
-    ensures { IfOk result (λ count. count ≡ live_length (M.test refs.now) dst.now dst.now.starts cells.now) }
+    ensures { IfOk result (λ count. count
+        ≡ live_length (M.test refs.now) dst.now dst.now.starts cells.now) }
 {
     let mut set = dst.start(alloc)?;
     let mut count = 0;

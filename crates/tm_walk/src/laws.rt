@@ -10,9 +10,12 @@ use tm_auto::Auto;
 /// For all: none is sought exactly where each source word fits, and what is found is the word that the
 /// target refuses first.
 pub fn for_all_seeks_refusals(src: &Auto, dst: &Auto)
-    ensures none { (A : ℕ → ℕ → Bool) → NoneIsSought A src.now dst.now for_all_stops for_all_skips ↔ EachWordFits A src.now dst.now }
+    ensures none { (A : ℕ → ℕ → Bool)
+        → NoneIsSought A src.now dst.now for_all_stops for_all_skips
+        ↔ EachWordFits A src.now dst.now }
     ensures found { (A : ℕ → ℕ → Bool) (w : Word) (offset : ℕ)
-        → IsFound A src.now dst.now for_all_stops for_all_skips w offset → IsFirstRefusal A src.now dst.now w offset }
+        → IsFound A src.now dst.now for_all_stops for_all_skips w offset
+        → IsFirstRefusal A src.now dst.now w offset }
 {
     src.law();
     dst.law();
@@ -20,9 +23,12 @@ pub fn for_all_seeks_refusals(src: &Auto, dst: &Auto)
 
 /// Exists: none is sought exactly where no source word fits, and what is found is the least that does.
 pub fn exists_seeks_examples(src: &Auto, dst: &Auto)
-    ensures none { (A : ℕ → ℕ → Bool) → NoneIsSought A src.now dst.now exists_stops exists_skips ↔ NoWordFits A src.now dst.now }
+    ensures none { (A : ℕ → ℕ → Bool)
+        → NoneIsSought A src.now dst.now exists_stops exists_skips
+        ↔ NoWordFits A src.now dst.now }
     ensures found { (A : ℕ → ℕ → Bool) (w : Word) (offset : ℕ)
-        → IsFound A src.now dst.now exists_stops exists_skips w offset → IsLeastExample A src.now dst.now w offset }
+        → IsFound A src.now dst.now exists_stops exists_skips w offset
+        → IsLeastExample A src.now dst.now w offset }
 {
     src.law();
     dst.law();

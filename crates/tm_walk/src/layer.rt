@@ -53,13 +53,11 @@ impl Layer {
     /// The sets of the pair at a place.
     pub fn sets(&self, place: usize) -> (&StateSet, &StateSet)
         requires { place < length self.now }
-        ensures { ((e : Entry) × (slice_get self.now place ≡ Some e) × (result.0.now ≡ e.src) × (result.1.now ≡ e.dst)) }
+        ensures { ((e : Entry) × (slice_get self.now place ≡ Some e)
+            × (result.0.now ≡ e.src) × (result.1.now ≡ e.dst)) }
     {
         let (pair, _) = self.pairs.get_index(place).unwrap();
-        (
-            self.sources.get(pair.source),
-            self.targets.get(pair.target),
-        )
+        (self.sources.get(pair.source), self.targets.get(pair.target))
     }
 
     /// Puts a pair last, unless it is there.

@@ -18,7 +18,8 @@ pub trait Quantifier {
         ensures { result ≡ skip self.now live };
 
     // No pair is both.
-    ghost apart: { (q : Self) (live at_end : Bool) → IsTrue (stop q live at_end) → ¬ IsTrue (skip q live) };
+    ghost apart: { (q : Self) (live at_end : Bool)
+        → IsTrue (stop q live at_end) → ¬ IsTrue (skip q live) };
 }
 
 /// Seeks a source word that the target refuses: stops where the target's set is empty, and skips nothing.

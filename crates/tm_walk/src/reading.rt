@@ -38,9 +38,7 @@ impl<'a> Reading<'a> {
         ensures src { self.new.src.now ≡ self.old.src.now }
         ensures word { OnOk result (self.new.word ≡ self.old.word ++ cell ∷ []) }
     {
-        let set = self
-            .src
-            .step(alloc, &Equal, &self.set, symbol_of(cell))?;
+        let set = self.src.step(alloc, &Equal, &self.set, symbol_of(cell))?;
         self.word.add(cell)?;
         self.set = set;
         Ok(())

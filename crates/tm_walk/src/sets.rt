@@ -45,7 +45,8 @@ impl Sets {
     /// The number of a set, which is put last where it isn't there.
     pub fn number(&mut self, alloc: Global, set: StateSet) -> Result<usize, Memory>
         ensures number { IfOk result (λ number. slice_get self.new number ≡ Some set) }
-        ensures only { IfOk result (λ number. (k : ℕ) → slice_get self.new k ≡ Some set → k ≡ number) }
+        ensures only { IfOk result (λ number. (k : ℕ)
+            → slice_get self.new k ≡ Some set → k ≡ number) }
         ensures grown { (self.new ≡ self.old) ⊎ (self.new ≡ self.old ++ set ∷ []) }
     {
         match self.numbers.get_index_of(set.as_slice()) {

@@ -17,12 +17,13 @@ use std::sync::ledger::Ledger;
 use tm_auto::Auto;
 use tm_base::{Memory, RefTest, Steps, Word};
 
-/// What a walk found.
+/// The word that a walk found, and how far the target accepts it.
 #[derive(Debug, Drop)]
 pub struct Found {
-    /// A source word, of the source's size in cells.
+    /// A source word: as many cells as the source has bytes.
     pub word: Word,
-    /// How many of its cells, fitted to the target's size, the target accepts before it is found.
+    /// How many cells of its fit, from the first on, are viable in the target, of those before the place
+    /// at which it is sought: 0 to the target's size, and 0 where the target has no word.
     pub offset: u32,
 }
 
@@ -37,9 +38,14 @@ pub fn walk<Q: Quantifier, M: RefTest, L: Ledger>(
     refs: &M,
     steps: &mut Steps<L>,
 ) -> Result<Option<Found>, Memory>
-    ensures found { IfOk result (λ answer. IfSome answer (λ f. IsFound (M.test refs.now) src.now dst.now (Q.stop q.now) (Q.skip q.now) f.word f.offset)) }
-    ensures none { IfOk result (λ answer. IfNone answer (NoneIsSought (M.test refs.now) src.now dst.now (Q.stop q.now) (Q.skip q.now))) }
-    ensures cost { HasOneStateALayer src.now → HasOneStateALayer dst.now → HaltsWhereDead (Q.stop q.now) (Q.skip q.now) → steps.new ≤ steps.old + (dst.now.size + 1) }
+    ensures found { IfOk result (λ answer. IfSome answer (λ found. IsFound
+        (M.test refs.now) src.now dst.now (Q.stop q.now) (Q.skip q.now)
+        found.word found.offset)) }
+    ensures none { IfOk result (λ answer. IfNone answer (NoneIsSought
+        (M.test refs.now) src.now dst.now (Q.stop q.now) (Q.skip q.now))) }
+    ensures cost { HasOneStateALayer src.now → HasOneStateALayer dst.now
+        → HaltsWhereDead (Q.stop q.now) (Q.skip q.now)
+        → steps.new ≤ steps.old + (dst.now.size + 1) }
     ensures counted { steps.old ≤ steps.new }
 {
     Walk {
@@ -55,9 +61,15 @@ pub fn walk<Q: Quantifier, M: RefTest, L: Ledger>(
 impl<'a, Q: Quantifier, M: RefTest> Walk<'a, Q, M> {
     /// What `walk` answers.
     fn run<L: Ledger>(&self, steps: &mut Steps<L>) -> Result<Option<Found>, Memory>
-        ensures found { IfOk result (λ answer. IfSome answer (λ f. IsFound (M.test self.now.refs.now) self.now.src.now self.now.dst.now (Q.stop self.now.quantifier.now) (Q.skip self.now.quantifier.now) f.word f.offset)) }
-        ensures none { IfOk result (λ answer. IfNone answer (NoneIsSought (M.test self.now.refs.now) self.now.src.now self.now.dst.now (Q.stop self.now.quantifier.now) (Q.skip self.now.quantifier.now))) }
-        ensures cost { HasOneStateALayer self.now.src.now → HasOneStateALayer self.now.dst.now → HaltsWhereDead (Q.stop self.now.quantifier.now) (Q.skip self.now.quantifier.now)
+        ensures found { IfOk result (λ answer. IfSome answer (λ found. IsFound
+            (M.test self.now.refs.now) self.now.src.now self.now.dst.now
+            (Q.stop self.now.quantifier.now) (Q.skip self.now.quantifier.now)
+            found.word found.offset)) }
+        ensures none { IfOk result (λ answer. IfNone answer (NoneIsSought
+            (M.test self.now.refs.now) self.now.src.now self.now.dst.now
+            (Q.stop self.now.quantifier.now) (Q.skip self.now.quantifier.now))) }
+        ensures cost { HasOneStateALayer self.now.src.now → HasOneStateALayer self.now.dst.now
+            → HaltsWhereDead (Q.stop self.now.quantifier.now) (Q.skip self.now.quantifier.now)
             → steps.new ≤ steps.old + (self.now.dst.now.size + 1) }
         ensures counted { steps.old ≤ steps.new }
     {
@@ -84,7 +96,9 @@ impl<'a, Q: Quantifier, M: RefTest> Walk<'a, Q, M> {
 
     /// The first pair of a layer on which the quantifier stops.
     fn first_stop(&self, layer: &Layer, at_end: bool) -> Option<usize>
-        ensures { MatchOption result (NoneStops (Q.stop self.now.quantifier.now) at_end layer.now) (λ k. IsFirstStop (Q.stop self.now.quantifier.now) at_end layer.now k) }
+        ensures { MatchOption result
+            (NoneStops (Q.stop self.now.quantifier.now) at_end layer.now)
+            (λ k. IsFirstStop (Q.stop self.now.quantifier.now) at_end layer.now k) }
     {
         for k in 0..layer.len() {
             let (_, to) = layer.sets(k);
@@ -100,8 +114,11 @@ impl<'a, Q: Quantifier, M: RefTest> Walk<'a, Q, M> {
         requires leads { LeadsBack history.now k }
         requires front { IsFront self.now.src.now (cells_to history.now k) }
         requires few { length (cells_to history.now k) < 2 ^ 32 }
-        ensures word { IfOk result (λ f. IsLeastWord self.now.src.now (cells_to history.now k) f.word) }
-        ensures offset { IfOk result (λ f. f.offset ≡ live_length (M.test self.now.refs.now) self.now.dst.now self.now.dst.now.starts (cells_to history.now k)) }
+        ensures word { IfOk result (λ found. IsLeastWord
+            self.now.src.now (cells_to history.now k) found.word) }
+        ensures offset { IfOk result (λ found. found.offset ≡ live_length
+            (M.test self.now.refs.now) self.now.dst.now self.now.dst.now.starts
+            (cells_to history.now k)) }
     {
         let cells = history.cells(self.alloc, k)?;
         let offset = live_length(self.alloc, self.refs, self.dst, cells.as_slice())?;

@@ -4,14 +4,14 @@ use Rattle.tm_base.specs.declared.cell.Cell.{Cell}
 use Rattle.tm_auto.specs.Automata.{Automaton, reached, equal}
 use Rattle.tm_auto.specs.Classes.{TakesFrom}
 use Rattle.tm_walk.specs.Words.{IsLeastCell}
-use Rattle.tm_walk.proofs.CompletionLemmas.{IsBegun, begin, go_on, next_some, finish}
+use Rattle.tm_walk.proofs.CompletionLemmas.{begin, go_on, next_some, finish}
 use Rattle.tm_walk.proofs.completion.least_word.Goals as goal
 
 pub rest-init : goal.rest-init
 rest-init c = record {
   src = c.given.invariant.src;
   begun = begin c.args.src.now c.law.ensures.automaton c.law.ensures.reads c.args.cells.now c.given.reading.word c.requires
-    (c.given.invariant.word ∙ take_all c.given.cell-index (take c.min.result c.args.cells.now) c.given-test.false
+      (c.given.invariant.word ∙ take_all c.given.cell-index (take c.min.result c.args.cells.now) c.given-test.false
       ∙ ap (λ (n : ℕ). take n c.args.cells.now) (c.min.ensures ∙ ap (min (length c.args.cells.now)) c.size-size.ensures));
 }
 

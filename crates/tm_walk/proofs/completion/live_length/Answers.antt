@@ -1,5 +1,5 @@
 use Rattle.std.proofs.Common.{arith, sym, ◌∙◌}
-use Rattle.tm_walk.proofs.LiveLemmas.{live_turn, live_stop, live_end}
+use Rattle.tm_walk.proofs.LiveLemmas.{live_turn, live_stop}
 use Rattle.tm_walk.proofs.completion.live_length.Goals as goal
 
 pub returns-then-not-is_live : goal.returns-then-not-is_live

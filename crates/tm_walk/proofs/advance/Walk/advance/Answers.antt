@@ -1,5 +1,4 @@
 use Rattle.std.proofs.Common.{◌≡◌, ◌+◌, ◌<◌, length, arith}
-
 use Rattle.tm_walk.proofs.NextLayerLemmas.{next_none, next_more, weights_turn, weights_most}
 use Rattle.tm_walk.proofs.advance.Walk.advance.Goals as goal
 

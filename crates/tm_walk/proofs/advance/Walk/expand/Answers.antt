@@ -1,5 +1,4 @@
-use Rattle.std.proofs.Common.{◌≡◌, ◌∙◌, ap, arith, Result, Ok, Err, OnOk, refl, sym}
-use Rattle.tm_walk.specs.Layers.{is_live}
+use Rattle.std.proofs.Common.{◌∙◌, ap, arith}
 use Rattle.tm_walk.proofs.NextLayerLemmas.{on_ok, goes_on_weight, read_source, read_target, steps_expanded}
 use Rattle.tm_walk.proofs.advance.Walk.expand.Goals as goal
 
@@ -24,7 +23,7 @@ offer_steps-requires-clause-to g c = read_target (g.Q.Quantifier.skip c.args.sel
 pub returns-clause-expanded : goal.returns-clause-expanded
 returns-clause-expanded g c = on_ok c.offer_steps.result (λ o.
     steps_expanded (g.Q.Quantifier.skip c.args.self.now.quantifier.now) c.args.layer.now c.args.k _ _ c.sets.ensures (g.M.RefTest.test c.args.self.now.refs.now) c.args.self.now.src.now c.args.self.now.dst.now c.args.place
-      _ (c.skips.ensures ∙ ap (g.Q.Quantifier.skip c.args.self.now.quantifier.now) c.is_live.ensures) c.if-skips.false _ (rw c.as_slice.ensures c.in_ok-symbols.ensures) _ _ o) c.offer_steps.ensures
+    _ (c.skips.ensures ∙ ap (g.Q.Quantifier.skip c.args.self.now.quantifier.now) c.is_live.ensures) c.if-skips.false _ (rw c.as_slice.ensures c.in_ok-symbols.ensures) _ _ o) c.offer_steps.ensures
 
 pub returns-clause-cost : goal.returns-clause-cost
 returns-clause-cost g c =

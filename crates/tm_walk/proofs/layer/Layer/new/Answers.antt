@@ -1,4 +1,4 @@
-use Rattle.std.proofs.Common.{[], ap, subst}
+use Rattle.std.proofs.Common.{subst}
 use Rattle.std.proofs.lemmas.List.{nil_from_length}
 use Rattle.tm_auto.specs.Paths.{Among}
 use Rattle.tm_auto.proofs.AmongLemmas.{none_among}

@@ -1,5 +1,4 @@
-use Rattle.std.proofs.Common.{◌≡◌, ◌∙◌, Some, sym, ap, refl}
-use Rattle.std.specs.Option.{option_map}
+use Rattle.std.proofs.Common.{sym}
 use Rattle.tm_walk.proofs.PairLemmas.{read_row, read_entry}
 use Rattle.tm_walk.proofs.layer.Layer.sets.Goals as goal
 

@@ -1,4 +1,4 @@
-use Rattle.std.proofs.Common.{◌∙◌, sym}
+use Rattle.std.proofs.Common.{◌∙◌}
 use Rattle.tm_walk.proofs.PairLemmas.{ways_are}
 use Rattle.tm_walk.proofs.layer.Layer.ways.Goals as goal
 

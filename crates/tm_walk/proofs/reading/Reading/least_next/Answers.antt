@@ -1,5 +1,3 @@
-use Rattle.std.proofs.Common.{◌<◌, length, subst, sym}
-use Rattle.tm_walk.specs.Words.{IsLeastCell}
 use Rattle.tm_walk.proofs.ExpandLemmas.{some_class, first_class}
 use Rattle.tm_walk.proofs.reading.Reading.least_next.Goals as goal
 

@@ -1,6 +1,6 @@
-use Rattle.std.proofs.Common.{◌≡◌, ◌∙◌, sym, ap, List, ℕ}
+use Rattle.std.proofs.Common.{◌∙◌, sym, ap, List, ℕ}
 use Rattle.tm_auto.specs.Automata.{equal, reached}
-use Rattle.tm_auto.specs.Sets.{next, symbol_of}
+use Rattle.tm_auto.specs.Sets.{next}
 use Rattle.tm_walk.proofs.ExpandLemmas.{step_is}
 use Rattle.tm_walk.proofs.ChainLemmas.{reached_more}
 use Rattle.tm_walk.proofs.reading.Reading.read.Goals as goal
@@ -11,9 +11,9 @@ invariant_of-self-2 c =
     let set = step_is equal src _ _ _ c.in_ok-set.ensures.step in
     record {
       reached = set
-        ∙ ap (λ (z : List ℕ). next equal src.edges z c.symbol_of.result) c.args.self.now.reached
-        ∙ ap (λ z. next equal src.edges (reached equal src c.args.self.now.word) z) c.symbol_of.ensures
-        ∙ sym (reached_more equal src c.args.self.now.word c.args.cell)
-        ∙ ap (reached equal src) (sym c.in_ok-add.ensures.added);
+          ∙ ap (λ (z : List ℕ). next equal src.edges z c.symbol_of.result) c.args.self.now.reached
+          ∙ ap (λ z. next equal src.edges (reached equal src c.args.self.now.word) z) c.symbol_of.ensures
+          ∙ sym (reached_more equal src c.args.self.now.word c.args.cell)
+          ∙ ap (reached equal src) (sym c.in_ok-add.ensures.added);
       states = c.in_ok-set.ensures.states;
     }

@@ -1,5 +1,4 @@
-use Rattle.std.proofs.Common.{◌≡◌, ◌∙◌, sym, ap, subst, inl, inr, refl, List, ℕ, None, Some, Option, position}
-use Rattle.tm_walk.specs.Numbers.{AreNumbered, sets_of}
+use Rattle.std.proofs.Common.{◌∙◌, sym, inr}
 use Rattle.tm_walk.proofs.NumberLemmas.{number_found, only_number, added_is, added_numbered, added_sets, added_number}
 use Rattle.tm_walk.proofs.sets.Sets.number.Goals as goal
 
