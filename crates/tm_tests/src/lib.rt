@@ -15,4 +15,6 @@ mod marks;
 #[cfg(test)]
 mod runs;
 #[cfg(test)]
+mod walks;
+#[cfg(test)]
 mod words;
