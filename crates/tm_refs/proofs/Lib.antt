@@ -1,4 +1,3 @@
-pub mod HeldLemmas
 pub mod LeafLemmas
 pub mod PointeeLemmas
 pub mod RuleLemmas
@@ -11,3 +10,4 @@ pub mod StepLemmas
 pub mod NextLemmas
 pub mod FirstLemmas
 pub mod LevelLemmas
+pub mod WalkLemmas

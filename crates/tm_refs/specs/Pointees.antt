@@ -11,6 +11,7 @@ use Rattle.tm_base.specs.Tables.{Tables, expanded_in, pointee_in}
 use Rattle.tm_base.specs.Transmutes.{Transmutes, holds}
 use Rattle.tm_base.specs.Valid.{Valid}
 use Rattle.tm_auto.specs.Automata.{AutoWord, Automaton, equal}
+use Rattle.tm_walk.specs.Meanings.{EachWordFits}
 use Rattle.tm_refs.specs.declared.pointees.Pointee.{Pointee}
 
 -- the automaton of a type's values, where private types keep theirs or have none
@@ -53,9 +54,16 @@ module _ (tables : Tables) (assume : Assume) where
 abbrev pub IsWordOf : Automaton → Word → Type 0
 IsWordOf source w = AutoWord (holds equal) source w
 
+abbrev pub HasNoWord : Automaton → Type 0
+HasNoWord source = (w : Word) → ¬ IsWordOf source w
+
+-- some word of the source, fitted, is one of the target
+abbrev pub SomeWordFits : (ℕ → ℕ → Bool) → Automaton → Automaton → Type 0
+SomeWordFits A source target = (w : Word) × IsWordOf source w × AutoWord (holds A) target (fit w target.size)
+
 -- The source has no word; or each of its words, fitted, is one of the target; or, where validity is assumed, some is.
 abbrev pub AutoCasts : (ℕ → ℕ → Bool) → Bool → Automaton → Automaton → Type 0
 AutoCasts A validity source target =
-    ((w : Word) → ¬ IsWordOf source w)
-    ⊎ ((validity ≡ false) × ((w : Word) → IsWordOf source w → AutoWord (holds A) target (fit w target.size)))
-    ⊎ ((validity ≡ true) × ((w : Word) × IsWordOf source w × AutoWord (holds A) target (fit w target.size)))
+    HasNoWord source
+    ⊎ ((validity ≡ false) × EachWordFits A source target)
+    ⊎ ((validity ≡ true) × SomeWordFits A source target)

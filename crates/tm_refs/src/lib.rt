@@ -1,6 +1,7 @@
 //! Which references may be taken as which, at every depth of what they point to.
 #![tactic(auto)]
 
+mod casts;
 mod compat;
 mod first;
 mod laid_out;

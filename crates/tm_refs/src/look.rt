@@ -4,13 +4,13 @@ ghost use Rattle.tm_base.specs.Tables.{OnRows};
 ghost use Rattle.tm_base.specs.Transmutes.{holds};
 ghost use Rattle.tm_base.specs.Worlds.{tables_of};
 ghost use Rattle.tm_refs.specs.Local.{AreJudged};
-ghost use Rattle.tm_refs.specs.Pointees.{ArePointees, AutoCasts, GoTogether};
+ghost use Rattle.tm_refs.specs.Pointees.{ArePointees, GoTogether};
 
+use crate::casts::casts;
 use crate::leaves::is_mutable;
 use crate::pair::Pair;
 use crate::pointees::Pointees;
 use std::alloc::Global;
-use tm_auto::Auto;
 use tm_base::{Assume, Memory, RefTest, World};
 
 /// Whether the values of the pointees of a pair go together, where the test says which references in
@@ -40,19 +40,4 @@ pub fn go_together<M: RefTest>(
         return Ok(true);
     }
     casts(alloc, &target.source, &source.target, refs, assume.validity)
-}
-
-/// Whether a value of the source may be taken as one of the target, where the test says which
-/// references in it may: the source has no value; or each fits, or, where validity is assumed, some
-/// does.
-fn casts<M: RefTest>(
-    alloc: Global,
-    source: &Auto,
-    target: &Auto,
-    refs: &M,
-    validity: bool,
-) -> Result<bool, Memory>
-    ensures { IfOk result (λ casts. IsTrue casts ↔ AutoCasts (M.test refs.now) validity source.now target.now) }
-{
-    Err(Memory)
 }
