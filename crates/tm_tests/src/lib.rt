@@ -18,3 +18,5 @@ mod references;
 mod runs;
 #[cfg(test)]
 mod walks;
+#[cfg(test)]
+mod words;

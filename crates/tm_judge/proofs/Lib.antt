@@ -1,0 +1,4 @@
+pub mod ReadyLemmas
+pub mod ValueLemmas
+pub mod AutomatonLemmas
+pub mod WalkLemmas

@@ -1,0 +1,9 @@
+//! The answer to one question.
+#![tactic(auto)]
+
+mod automaton;
+mod question;
+mod values;
+mod walks;
+
+pub use question::judge;

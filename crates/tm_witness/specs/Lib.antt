@@ -1,0 +1,3 @@
+pub mod Search
+pub mod GoingOn
+pub mod Refused
