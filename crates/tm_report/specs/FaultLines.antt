@@ -7,7 +7,7 @@ use Rattle.tm_base.specs.declared.limit.NameWhy.TheVariants.{Twice, Unknown, Ari
 use Rattle.tm_base.specs.Limits.{limit_number, limit_word}
 use Rattle.tm_report.specs.declared.fault.At.{At}
 use Rattle.tm_report.specs.declared.fault.FileFault.{FileFault}
-use Rattle.tm_report.specs.declared.fault.FileFault.TheVariants.{NotUtf8, NoToken, BadNumber, OpenComment, Unexpected, EndOfFile, Passed, Names, BadRefutation, NoQuestion, NotYet}
+use Rattle.tm_report.specs.declared.fault.FileFault.TheVariants.{NotUtf8, NoToken, BadNumber, OpenComment, Unexpected, EndOfFile, Passed, Names, BadRefutation, NoQuestion}
 
 -- the byte that ends a line
 abbrev pub line_end : List ℕ
@@ -52,7 +52,6 @@ fault_text (Passed kind place) = limit_text kind ++ place_if_some place
 fault_text (Names why at) = name_text why ++ place_text at
 fault_text (BadRefutation line) = codes "bad refutation at line " ++ decimal line
 fault_text (NoQuestion number) = codes "no question " ++ decimal number
-fault_text NotYet = codes "not built yet"
 
 -- the line of a fault
 abbrev pub line_of : FileFault → List ℕ

@@ -33,6 +33,4 @@ pub enum FileFault {
     BadRefutation(u32),
     /// The file has no question with the number, which is as it was asked for.
     NoQuestion(u32),
-    /// The file is in form, and asks what isn't answered yet.
-    NotYet,
 }

@@ -34,7 +34,6 @@ fn line(alloc: Global, fault: FileFault) -> Result<String, AllocError>
             format!(in alloc; "bad refutation at line {number}\n")
         }
         FileFault::NoQuestion(number) => format!(in alloc; "no question {number}\n"),
-        FileFault::NotYet => String::from_str(alloc, "not built yet\n"),
     }
 }
 

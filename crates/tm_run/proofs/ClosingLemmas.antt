@@ -1,35 +1,34 @@
 -- What closing the types of a file answers to it: the one fault that the answer names, or that there is none.
-use Rattle.std.proofs.Common.{◌≡◌, ℕ, inr, refl, sym, ap, subst, true, false, None, Some, List}
+use Rattle.std.proofs.Common.{◌≡◌, ℕ, inr, refl, sym, ap, subst, None, Some, List}
 use Rattle.tm_base.specs.declared.limit.LimitKind.{LimitKind}
 use Rattle.tm_base.specs.declared.limit.LimitKind.TheVariants as limit
 use Rattle.tm_base.specs.declared.world.World.{World}
+use Rattle.tm_names.specs.ApartNames.{HasApartNames}
+use Rattle.tm_names.specs.InForm.{IsInForm}
 use Rattle.tm_names.specs.declared.resolved.Resolved.{Resolved}
 use Rattle.tm_ground.specs.Belongs.{BelongsToFile}
 use Rattle.tm_ground.specs.Limits.{HasCause, IsWithinLimits}
 use Rattle.tm_ground.specs.declared.fault.GroundErr.{GroundErr}
 use Rattle.tm_ground.specs.declared.fault.GroundErr.TheVariants as ground_err
 use Rattle.tm_report.specs.declared.fault.FileFault.{FileFault}
-use Rattle.tm_report.specs.declared.fault.FileFault.TheVariants.{NotUtf8, NoToken, BadNumber, OpenComment, Unexpected, EndOfFile, Passed, Names, BadRefutation, NoQuestion, NotYet}
-use Rattle.tm_run.specs.Examined.{IsAnsweredWorld, IsLateFault, IsMeaningOf, IsOnlyFault, IsStop, stop_of}
-use Rattle.tm_run.specs.Faults.{GoesBeyond, IsFirstLimit, PassesLimitOnTypes}
-use Rattle.tm_run.specs.Questions.{is_answered_today}
-use Rattle.tm_run.proofs.QuestionLemmas.{today-same}
+use Rattle.tm_report.specs.declared.fault.FileFault.TheVariants.{NotUtf8, NoToken, BadNumber, OpenComment, Unexpected, EndOfFile, Passed, Names, BadRefutation, NoQuestion}
+use Rattle.tm_run.specs.Examined.{IsExamined, IsLateFault, IsMeaningOf, IsOnlyFault, IsStop, stop_of}
+use Rattle.tm_run.specs.Faults.{IsFirstLimit, PassesLimitOnTypes}
 
--- what holds of a limit on closed types and of what isn't answered today holds of each late fault
-by_late : (file : List ℕ) (P : FileFault → Type 0) → ((kind : LimitKind) → PassesLimitOnTypes file kind → P (Passed kind None)) → (GoesBeyond file → P NotYet)
+-- what holds of each limit on closed types holds of each late fault
+by_late : (file : List ℕ) (P : FileFault → Type 0) → ((kind : LimitKind) → PassesLimitOnTypes file kind → P (Passed kind None))
     → (fault : FileFault) → IsLateFault file fault → P fault
-by_late file P limits beyond (NotUtf8 at) h = absurd h
-by_late file P limits beyond (NoToken at) h = absurd h
-by_late file P limits beyond (BadNumber at) h = absurd h
-by_late file P limits beyond (OpenComment at) h = absurd h
-by_late file P limits beyond (Unexpected at) h = absurd h
-by_late file P limits beyond (EndOfFile at) h = absurd h
-by_late file P limits beyond (Passed kind None) h = limits kind h
-by_late file P limits beyond (Passed kind (Some at)) h = absurd h
-by_late file P limits beyond (Names why at) h = absurd h
-by_late file P limits beyond (BadRefutation line) h = absurd h
-by_late file P limits beyond (NoQuestion number) h = absurd h
-by_late file P limits beyond NotYet h = beyond h
+by_late file P limits (NotUtf8 at) h = absurd h
+by_late file P limits (NoToken at) h = absurd h
+by_late file P limits (BadNumber at) h = absurd h
+by_late file P limits (OpenComment at) h = absurd h
+by_late file P limits (Unexpected at) h = absurd h
+by_late file P limits (EndOfFile at) h = absurd h
+by_late file P limits (Passed kind None) h = limits kind h
+by_late file P limits (Passed kind (Some at)) h = absurd h
+by_late file P limits (Names why at) h = absurd h
+by_late file P limits (BadRefutation line) h = absurd h
+by_late file P limits (NoQuestion number) h = absurd h
 
 module _ (resolved : Resolved) where
   -- what holds of the three kinds of limits on closed types holds of each that is the first
@@ -76,9 +75,8 @@ module _ (file : List ℕ) (resolved : Resolved) (m : IsMeaningOf file resolved)
     has = inr (record { resolved = resolved; names = m.names; first = first });
     only = λ other h. by_late file (λ other. other ≡ Passed kind None)
         (λ k passes. ap (λ k. Passed k None) (one_limit resolved kind k first (first_here k passes)))
-        (λ beyond. absurd (no_limit beyond.resolved beyond.limits kind (subst (λ (r : Resolved). IsFirstLimit r kind) (sym (m.only beyond.resolved beyond.names)) first)))
         other (m.faultless other h);
-    accepted = λ a. absurd (no_limit a.resolved a.limits kind (subst (λ (r : Resolved). IsFirstLimit r kind) (sym (m.only a.resolved a.names)) first));
+    refused = λ a. absurd (no_limit a.resolved a.limits kind (subst (λ (r : Resolved). IsFirstLimit r kind) (sym (m.only a.resolved a.names)) first));
   }
 
   -- a cause for which the types aren't closed stops the file
@@ -88,35 +86,12 @@ module _ (file : List ℕ) (resolved : Resolved) (m : IsMeaningOf file resolved)
   cause_stops ground_err.TooDeep h = limit_only limit.Depth h
   cause_stops ground_err.Memory h = tt
 
-  module _ (world : World) (limits : IsWithinLimits resolved) (belongs : BelongsToFile resolved world) where
-    -- what isn't answered today is the one fault
-    pub beyond_only : is_answered_today world ≡ false → IsOnlyFault file NotYet
-    beyond_only beyond = record {
-      has = found;
-      only = λ other h. by_late file (λ other. other ≡ NotYet)
-          (λ k passes. absurd (no_limit resolved limits k (first_here k passes))) (λ h. refl) other (m.faultless other h);
-      accepted = λ a. found;
-    }
-      where
-        found : GoesBeyond file
-        found = record { resolved = resolved; names = m.names; limits = limits; world = world; belongs = belongs; beyond = beyond }
-
-    -- a world that is answered today is that of a file without a fault
-    pub answered_world : is_answered_today world ≡ true → IsAnsweredWorld file world
-    answered_world today = record {
-      resolved = resolved;
-      names = m.names;
-      limits = limits;
-      belongs = belongs;
-      today = today;
-      only = m.only;
-      faultless = λ fault h. by_late file (λ fault. ⊥)
-          (λ k passes. no_limit resolved limits k (first_here k passes)) goes_nowhere fault (m.faultless fault h);
-    }
-      where
-        goes_nowhere : GoesBeyond file → ⊥
-        goes_nowhere h =
-            let b = subst (λ (r : Resolved). BelongsToFile r h.world) (m.only h.resolved h.names) h.belongs in
-            let same = today-same resolved world h.world belongs b in
-            let beyond = h.beyond in
-            cc
+  -- where they are, the file has no fault
+  pub examined : (world : World) → IsInForm resolved → HasApartNames resolved → IsWithinLimits resolved → BelongsToFile resolved world → IsExamined file world
+  examined world form apart limits belongs = record {
+    of_file = record { resolved = resolved; names = m.names; limits = limits; belongs = belongs };
+    form = form;
+    apart = apart;
+    only = m.only;
+    faultless = λ fault h. by_late file (λ fault. ⊥) (λ k passes. no_limit resolved limits k (first_here k passes)) fault (m.faultless fault h);
+  }

@@ -16,12 +16,11 @@ use Rattle.tm_parse.specs.Spelling.{terminals_of}
 use Rattle.tm_parse.specs.declared.parsed.Parsed.{Parsed}
 use Rattle.tm_report.specs.declared.fault.At.{At}
 use Rattle.tm_report.specs.declared.fault.FileFault.{FileFault}
-use Rattle.tm_report.specs.declared.fault.FileFault.TheVariants.{NotUtf8, NoToken, BadNumber, OpenComment, Unexpected, EndOfFile, Passed, Names, BadRefutation, NoQuestion, NotYet}
+use Rattle.tm_report.specs.declared.fault.FileFault.TheVariants.{NotUtf8, NoToken, BadNumber, OpenComment, Unexpected, EndOfFile, Passed, Names, BadRefutation, NoQuestion}
 use Rattle.tm_run.specs.Examined.{AreTokensOf, IsOnlyFault, no_token_at}
-use Rattle.tm_run.specs.Faults.{BeginsAt, EndsTooSoon, GoesBeyond, HasFault, HasNameFault, HasNameFaultAt, HasTextFault, IsNotUtf8, LacksToken, PassesLimit, PassesLimitAtToken, PassesLimitOnTypes, StopsAtToken, start_of, status_of_fault}
+use Rattle.tm_run.specs.Faults.{BeginsAt, EndsTooSoon, HasFault, HasNameFaultAt, IsNotUtf8, LacksToken, PassesLimitAtToken, PassesLimitOnTypes, StopsAtToken, start_of}
 use Rattle.tm_run.specs.Files.{run_profile, HasSoundNames, IsResolved, IsSpelled, file_bytes}
 use Rattle.tm_run.specs.Places.{at_byte}
-use Rattle.tm_run.specs.declared.status.Status.TheVariants.{BadText, Limit, IllFormed}
 
 -- what holds of the fault of each cause holds of each fault
 module _ (file : List ℕ) (P : FileFault → Type 0) where
@@ -34,7 +33,6 @@ module _ (file : List ℕ) (P : FileFault → Type 0) where
     pub long : file_bytes < length file → P (Passed FileBytes None)
     pub names : (why : NameWhy) (byte : ℕ) → HasNameFaultAt file why byte → P (Names why (at_byte file byte))
     pub limits : (kind : LimitKind) → PassesLimitOnTypes file kind → P (Passed kind None)
-    pub beyond : GoesBeyond file → P NotYet
 
   pub by_cause : ByCause → (fault : FileFault) → HasFault file fault → P fault
   by_cause by (NotUtf8 at) (place, h) = subst (λ (at : At). P (NotUtf8 at)) (sym place) (by.not_utf8 at.byte h)
@@ -49,75 +47,12 @@ module _ (file : List ℕ) (P : FileFault → Type 0) where
   by_cause by (Names why at) (place, h) = subst (λ (at : At). P (Names why at)) (sym place) (by.names why at.byte h)
   by_cause by (BadRefutation line) h = absurd h
   by_cause by (NoQuestion number) h = absurd h
-  by_cause by NotYet h = by.beyond h
 
 -- the fault of each cause is one that the file has
 pub has_lacks : (file : List ℕ) (byte : ℕ) (why : LexWhy) → LacksToken file byte why → HasFault file (no_token_at (at_byte file byte) why)
 has_lacks file byte why.NoToken h = (refl, h)
 has_lacks file byte why.BadNumber h = (refl, h)
 has_lacks file byte why.OpenComment h = (refl, h)
-
-status_of_lacks : (at : At) (why : LexWhy) → status_of_fault (no_token_at at why) ≡ BadText
-status_of_lacks at why.NoToken = refl
-status_of_lacks at why.BadNumber = refl
-status_of_lacks at why.OpenComment = refl
-
--- a file with a fault has a cause of its status
-pub limit_cause : (file : List ℕ) (fault : FileFault) → HasFault file fault → status_of_fault fault ≡ Limit → PassesLimit file
-limit_cause file = by_cause file (λ fault. status_of_fault fault ≡ Limit → PassesLimit file) (record {
-  not_utf8 = λ byte h e. cc;
-  lacks = λ byte why h e. let text = status_of_lacks (at_byte file byte) why in cc;
-  stops = λ byte h e. cc;
-  ends = λ h e. cc;
-  passes = λ kind byte h e. inr (inl (kind, byte, h));
-  long = λ h e. inl h;
-  names = λ why byte h e. cc;
-  limits = λ kind h e. inr (inr (kind, h));
-  beyond = λ h e. cc;
-})
-
-pub text_cause : (file : List ℕ) (fault : FileFault) → HasFault file fault → status_of_fault fault ≡ BadText → HasTextFault file
-text_cause file = by_cause file (λ fault. status_of_fault fault ≡ BadText → HasTextFault file) (record {
-  not_utf8 = λ byte h e. inl (byte, h);
-  lacks = λ byte why h e. inr (inl (byte, why, h));
-  stops = λ byte h e. inr (inr (inl (byte, h)));
-  ends = λ h e. inr (inr (inr (inl h)));
-  passes = λ kind byte h e. cc;
-  long = λ h e. cc;
-  names = λ why byte h e. cc;
-  limits = λ kind h e. cc;
-  beyond = λ h e. inr (inr (inr (inr h)));
-})
-
-pub name_cause : (file : List ℕ) (fault : FileFault) → HasFault file fault → status_of_fault fault ≡ IllFormed → HasNameFault file
-name_cause file = by_cause file (λ fault. status_of_fault fault ≡ IllFormed → HasNameFault file) (record {
-  not_utf8 = λ byte h e. cc;
-  lacks = λ byte why h e. let text = status_of_lacks (at_byte file byte) why in cc;
-  stops = λ byte h e. cc;
-  ends = λ h e. cc;
-  passes = λ kind byte h e. cc;
-  long = λ h e. cc;
-  names = λ why byte h e. (why, byte, h);
-  limits = λ kind h e. cc;
-  beyond = λ h e. cc;
-})
-
--- a file with a cause has a fault of its status
-pub cause_limit : (file : List ℕ) → PassesLimit file → (fault : FileFault) × HasFault file fault × (status_of_fault fault ≡ Limit)
-cause_limit file (inl long) = (Passed FileBytes None, inl (refl, long), refl)
-cause_limit file (inr (inl (kind, byte, h))) = (Passed kind (Some (at_byte file byte)), (refl, h), refl)
-cause_limit file (inr (inr (kind, h))) = (Passed kind None, inr h, refl)
-
-pub cause_text : (file : List ℕ) → HasTextFault file → (fault : FileFault) × HasFault file fault × (status_of_fault fault ≡ BadText)
-cause_text file (inl (byte, h)) = (NotUtf8 (at_byte file byte), (refl, h), refl)
-cause_text file (inr (inl (byte, why, h))) =
-    (no_token_at (at_byte file byte) why, has_lacks file byte why h, status_of_lacks (at_byte file byte) why)
-cause_text file (inr (inr (inl (byte, h)))) = (Unexpected (at_byte file byte), (refl, h), refl)
-cause_text file (inr (inr (inr (inl h)))) = (EndOfFile (at_byte file (length file)), (refl, h), refl)
-cause_text file (inr (inr (inr (inr h)))) = (NotYet, h, refl)
-
-pub cause_name : (file : List ℕ) → HasNameFault file → (fault : FileFault) × HasFault file fault × (status_of_fault fault ≡ IllFormed)
-cause_name file (why, byte, h) = (Names why (at_byte file byte), (refl, h), refl)
 
 -- too many bytes are the one fault
 pub long_only : (file : List ℕ) → file_bytes < length file → IsOnlyFault file (Passed FileBytes None)
@@ -132,9 +67,8 @@ long_only file long = record {
     long = λ h. refl;
     names = λ why byte h. let lexed = h.spelled.lexed in absurd (omega arith);
     limits = λ kind h. let lexed = h.names.spelled.lexed in absurd (omega arith);
-    beyond = λ h. let lexed = h.names.spelled.lexed in absurd (omega arith);
   });
-  accepted = λ h. let lexed = h.names.spelled.lexed in absurd (omega arith);
+  refused = λ h. let lexed = h.names.spelled.lexed in absurd (omega arith);
 }
 
 -- bytes that aren't UTF-8 are the one fault
@@ -151,9 +85,8 @@ broken_only file byte broken = record {
     long = λ h. let short = broken.short in absurd (omega arith);
     names = λ why found h. absurd (broken.broken h.spelled.lexed.utf8);
     limits = λ kind h. absurd (broken.broken h.names.spelled.lexed.utf8);
-    beyond = λ h. absurd (broken.broken h.names.spelled.lexed.utf8);
   });
-  accepted = λ h. absurd (broken.broken h.names.spelled.lexed.utf8);
+  refused = λ h. absurd (broken.broken h.names.spelled.lexed.utf8);
 }
 
 -- a byte at which no token begins is the one fault
@@ -171,9 +104,8 @@ lacks_only file byte why lacks no_tokens same = record {
     long = λ h. let short = lacks.short in absurd (omega arith);
     names = λ because found h. absurd (no_tokens h.spelled.tokens h.spelled.lexed.tokenizes);
     limits = λ kind h. absurd (no_tokens h.names.spelled.tokens h.names.spelled.lexed.tokenizes);
-    beyond = λ h. absurd (no_tokens h.names.spelled.tokens h.names.spelled.lexed.tokenizes);
   });
-  accepted = λ h. absurd (no_tokens h.names.spelled.tokens h.names.spelled.lexed.tokenizes);
+  refused = λ h. absurd (no_tokens h.names.spelled.tokens h.names.spelled.lexed.tokenizes);
 }
 
 -- what a file spells, and that no name is at fault, is so by its tokens
@@ -197,7 +129,6 @@ module _ (file : List ℕ) (tokens : List Token) (are : AreTokensOf file tokens)
     pub names : (why : NameWhy) (place : ℕ) (parsed : Parsed) → SpellsFile (terminals_of file tokens) parsed → IsFirstFault run_profile (name_at file tokens) parsed why place
         → P (Names why (at_byte file (start_of file (slice_get tokens place))))
     pub limits : (kind : LimitKind) → PassesLimitOnTypes file kind → P (Passed kind None)
-    pub beyond : GoesBeyond file → P NotYet
 
   pub by_tokens : ByTokens → (fault : FileFault) → HasFault file fault → P fault
   by_tokens by = by_cause file P (record {
@@ -217,5 +148,4 @@ module _ (file : List ℕ) (tokens : List Token) (are : AreTokensOf file tokens)
         (by.names why h.place h.parsed (spelled_by file tokens are h.parsed h.spelled)
         (subst (λ (ts : List Token). IsFirstFault run_profile (name_at file ts) h.parsed why h.place) e h.first)));
     limits = by.limits;
-    beyond = by.beyond;
   })

@@ -1,13 +1,10 @@
-pub mod BytesLemmas
-pub mod ClosingLemmas
-pub mod CompareLemmas
 pub mod FaultLemmas
-pub mod FileAnswerLemmas
-pub mod FitLemmas
-pub mod LeavingLemmas
-pub mod MayLemmas
-pub mod QuestionLemmas
-pub mod RunLemmas
 pub mod TokenLemmas
-pub mod VerdictLemmas
+pub mod ClosingLemmas
+pub mod AnswerLemmas
+pub mod OverLemmas
+pub mod CourtLemmas
+pub mod OnlyLemmas
+pub mod RunLemmas
+pub mod DoneLemmas
 mod Worked

@@ -1,31 +1,32 @@
--- A run that writes its outcome, and one that stops before it writes.
-use Rattle.std.proofs.Common.{◌≡◌, ◌≢◌, ◌∙◌, ℕ, ◌+◌, ◌<◌, ◌≤◌, ◌⊎◌, inl, inr, ◌↔◌, refl, sym, ap, subst, Bool, true, false, if◌then◌else◌, Option, Some, None, List, [], length, drop, arith, length-drop}
+-- What is decided of a file, and what a run keeps, by what it did.
+use Rattle.std.proofs.Common.{◌≡◌, ◌≢◌, ◌∙◌, ℕ, ◌+◌, ◌<◌, ◌≤◌, ◌⊎◌, inl, inr, ◌↔◌, refl, sym, ap, subst, Bool, true, false, if◌then◌else◌, Option, Some, None, List, [], length, drop, replicate, arith, length-drop}
 use Rattle.std.specs.List.{list_all}
-use Rattle.std.proofs.lemmas.List.{nil_from_length}
+use Rattle.std.proofs.lemmas.List.{length-replicate, nil_from_length}
+use Rattle.tm_base.specs.declared.answer.Answer.{Answer}
 use Rattle.tm_base.specs.declared.limit.LimitKind.TheVariants.{FileBytes}
 use Rattle.tm_base.specs.declared.world.World.{World}
+use Rattle.tm_base.specs.Worlds.{tables_of}
 use Rattle.tm_io.specs.Faults.{Rose}
-use Rattle.tm_io.specs.Told.{TakesAll, TakesPast, AddsAll, AddsPrefix}
+use Rattle.tm_io.specs.Told.{AddsAll, AddsPrefix, TakesAll, TakesPast}
+use Rattle.tm_laws.specs.AnswerKinds.{is_yes}
 use Rattle.tm_report.specs.FaultLines.{line_of}
 use Rattle.tm_report.specs.declared.fault.FileFault.{FileFault}
-use Rattle.tm_report.specs.declared.fault.FileFault.TheVariants.{NotUtf8, NoToken, BadNumber, OpenComment, Unexpected, EndOfFile, Passed, Names, BadRefutation, NoQuestion, NotYet}
-use Rattle.tm_run.specs.Files.{file_bytes}
-use Rattle.tm_run.specs.Examined.{IsAnsweredWorld, IsOnlyFault}
-use Rattle.tm_run.specs.Faults.{GoesBeyond, HasNameFault, HasTextFault, PassesLimit, status_of_fault}
-use Rattle.tm_run.specs.FileAnswers.{EachMayTransmute, SomeMayNotTransmute}
-use Rattle.tm_run.specs.Outcomes.{usage_line, IsReport, IsFileOutcome, IsOutcome, IsSettled, IsTold}
-use Rattle.tm_run.specs.Report.{is_yes, report_of, status_of}
-use Rattle.tm_run.specs.Runs.{Finishes, Answers, Decides, Declines, Runs}
-use Rattle.tm_run.specs.Verdicts.{AreTrueVerdicts}
+use Rattle.tm_report.specs.declared.fault.FileFault.TheVariants.{NotUtf8, NoToken, BadNumber, OpenComment, Unexpected, EndOfFile, Passed, Names, BadRefutation, NoQuestion}
+use Rattle.tm_run.specs.Answers.{AreAnswered, EachHolds, SomeDoesNot}
+use Rattle.tm_run.specs.Examined.{IsExamined, IsOnlyFault}
+use Rattle.tm_run.specs.Faults.{HasFault, IsFaulty, status_of_fault}
+use Rattle.tm_run.specs.Files.{IsAccepted, IsWorldOf, file_bytes}
+use Rattle.tm_run.specs.Outcomes.{usage_line, IsFileOutcome, IsInput, IsOutcome, IsRead, IsReport, IsSettled, WritesFault, WritesOutcome, WritesPrefix, WritesReport}
+use Rattle.tm_run.specs.Report.{report_of, status_of}
+use Rattle.tm_run.specs.Runs.{Answered, Answers, Decides, Declines, Did, FailedToRead, Finishes, IsSilent, LackedMemory, Misused, Overflowed, misused, failed_to_read, lacked_memory, overflowed, answered}
 use Rattle.tm_run.specs.declared.status.Status.{Status}
 use Rattle.tm_run.specs.declared.status.Status.TheVariants.{AllYes, Mixed, Usage, BadText, Limit, ReadFault, WriteFault, Memory, IllFormed}
-use Rattle.tm_run.specs.declared.verdict.Verdict.{Verdict}
-use Rattle.tm_run.proofs.FaultLemmas.{cause_limit, cause_name, cause_text, limit_cause, long_only, name_cause, text_cause}
-use Rattle.tm_run.proofs.FileAnswerLemmas.{accepted_of, all_yes-each, each-all_yes, mixed-some, some-mixed}
+use Rattle.tm_run.proofs.FaultLemmas.{long_only}
+use Rattle.tm_run.proofs.OnlyLemmas.{all_yes-each, each-all_yes, mixed-some, only-report, some-mixed}
 
 -- the statuses of reports and of faults
-report_status : (verdicts : List Verdict) → (status_of verdicts ≡ AllYes) ⊎ (status_of verdicts ≡ Mixed)
-report_status verdicts = by (list_all is_yes verdicts)
+report_status : (answers : List Answer) → (status_of answers ≡ AllYes) ⊎ (status_of answers ≡ Mixed)
+report_status answers = by (list_all is_yes answers)
   where
     by : (all : Bool) → ((if all then AllYes else Mixed) ≡ AllYes) ⊎ ((if all then AllYes else Mixed) ≡ Mixed)
     by true = inl refl
@@ -42,7 +43,6 @@ fault_status (Passed kind place) = inr (inl refl)
 fault_status (Names why at) = inr (inr refl)
 fault_status (BadRefutation line) = inl refl
 fault_status (NoQuestion number) = inl refl
-fault_status NotYet = inl refl
 
 settled_fault : (fault : FileFault) → IsSettled (status_of_fault fault)
 settled_fault fault = by (fault_status fault)
@@ -52,53 +52,18 @@ settled_fault fault = by (fault_status fault)
     by (inr (inl e)) = subst IsSettled (sym e) tt
     by (inr (inr e)) = subst IsSettled (sym e) tt
 
--- the only fault of a file decides it
-fault_decides : (file : List ℕ) (fault : FileFault) → IsOnlyFault file fault → Decides file (status_of_fault fault) (line_of fault)
-fault_decides file fault one = record {
-  outcome = inr (record { fault = fault; has = one.has; status_is = refl; text_is = refl });
-  accepted = λ a today. absurd (today (one.accepted a));
-  each_may = λ today e. absurd (today (one.accepted (accepted_of file e.world e.of_file)));
-  some_may_not = λ today s. absurd (today (one.accepted (accepted_of file s.world s.of_file)));
-  faulted = λ other h. (sym (ap status_of_fault (one.only other h)), sym (ap line_of (one.only other h)));
-}
-
--- answers to the questions of a file's world decide it
-pub report_decides : (file : List ℕ) (world : World) (verdicts : List Verdict) (status : Status) (text : List ℕ) → IsAnsweredWorld file world
-    → AreTrueVerdicts world world.questions verdicts → status ≡ status_of verdicts → text ≡ report_of verdicts → Decides file status text
-report_decides file world verdicts status text w answered status_is text_is = record {
-  outcome = inl report;
-  accepted = λ a today. report;
-  each_may = λ today e. status_is ∙ each-all_yes file world verdicts w answered e;
-  some_may_not = λ today s. status_is ∙ some-mixed file world verdicts w answered s;
-  faulted = λ fault has. absurd (w.faultless fault has);
-}
+settled_report : (answers : List Answer) → IsSettled (status_of answers)
+settled_report answers = by (report_status answers)
   where
-    report : IsReport file status text
-    report = record {
-      resolved = w.resolved;
-      names = w.names;
-      limits = w.limits;
-      world = world;
-      belongs = w.belongs;
-      today = w.today;
-      verdicts = verdicts;
-      answered = answered;
-      status_is = status_is;
-      text_is = text_is;
-    }
-
--- a file with one fault is answered by its line
-pub refused : (file : List ℕ) (fault : FileFault) (written written' : Option (List ℕ)) (faults faults' : ℕ) (result : Status) → IsOnlyFault file fault
-    → Declines fault written written' faults faults' result → Answers file written written' faults faults' result
-refused file fault written written' faults faults' result one (inl f) =
-    inl (status_of_fault fault, line_of fault, settled_fault fault, fault_decides file fault one, f)
-refused file fault written written' faults faults' result one (inr wants) = inr wants
+    by : (status_of answers ≡ AllYes) ⊎ (status_of answers ≡ Mixed) → IsSettled (status_of answers)
+    by (inl e) = subst IsSettled (sym e) tt
+    by (inr e) = subst IsSettled (sym e) tt
 
 -- a report's status is none of a fault's or of a misuse
 not_of_report : (file : List ℕ) (status : Status) (text : List ℕ) → IsReport file status text → (status ≢ Usage) × (status ≢ Limit) × (status ≢ BadText) × (status ≢ IllFormed)
-not_of_report file status text report = by (report_status report.verdicts)
+not_of_report file status text report = by (report_status report.answers)
   where
-    by : (status_of report.verdicts ≡ AllYes) ⊎ (status_of report.verdicts ≡ Mixed) → (status ≢ Usage) × (status ≢ Limit) × (status ≢ BadText) × (status ≢ IllFormed)
+    by : (status_of report.answers ≡ AllYes) ⊎ (status_of report.answers ≡ Mixed) → (status ≢ Usage) × (status ≢ Limit) × (status ≢ BadText) × (status ≢ IllFormed)
     by (inl e) = let is = report.status_is in (λ k. cc, λ k. cc, λ k. cc, λ k. cc)
     by (inr e) = let is = report.status_is in (λ k. cc, λ k. cc, λ k. cc, λ k. cc)
 
@@ -111,28 +76,57 @@ not_of_fault fault status is = by (fault_status fault)
     by (inr (inl f)) = (λ e. cc, λ e. cc, λ e. cc)
     by (inr (inr f)) = (λ e. cc, λ e. cc, λ e. cc)
 
+accepted_of : (file : List ℕ) (world : World) → IsWorldOf file world → IsAccepted file
+accepted_of file world of_file = record { resolved = of_file.resolved; names = of_file.names; limits = of_file.limits }
+
+-- the only fault of a file decides it
+pub fault_decides : (file : List ℕ) (fault : FileFault) → IsOnlyFault file fault → Decides file (status_of_fault fault) (line_of fault)
+fault_decides file fault one = record {
+  settled = settled_fault fault;
+  outcome = inr (record { fault = fault; has = one.has; status_is = refl; text_is = refl });
+  accepted = λ a. absurd (one.refused a);
+  only = λ status text r. absurd (one.refused (accepted_of file r.world r.of_file));
+  each_holds = λ e. absurd (one.refused (accepted_of file e.world e.of_file));
+  some_does_not = λ s. absurd (one.refused (accepted_of file s.world s.of_file));
+  faulted = λ other h. (sym (ap status_of_fault (one.only other h)), sym (ap line_of (one.only other h)));
+}
+
+-- a file with one fault is answered by its line
+pub fault-answers : (file : List ℕ) (fault : FileFault) (written written' : Option (List ℕ)) (faults faults' : ℕ) (result : Status) → IsOnlyFault file fault
+    → Declines written written' faults faults' fault result → Answers written written' faults faults' file result
+fault-answers file fault written written' faults faults' result one (inl f) =
+    inl (record { status = status_of_fault fault; text = line_of fault; decides = fault_decides file fault one; finishes = f })
+fault-answers file fault written written' faults faults' result one (inr wants) = inr wants
+
+-- answers to the questions of a file's world decide it
+pub report_decides : (file : List ℕ) (world : World) (answers : List Answer) → IsExamined file world → AreAnswered world world.questions answers
+    → Decides file (status_of answers) (report_of (tables_of world) answers)
+report_decides file world answers w given = record {
+  settled = settled_report answers;
+  outcome = inl report;
+  accepted = λ a. report;
+  only = only-report file world w answers given;
+  each_holds = each-all_yes file world w answers given;
+  some_does_not = some-mixed file world w answers given;
+  faulted = λ fault has. absurd (w.faultless fault has);
+}
+  where
+    report : IsReport file (status_of answers) (report_of (tables_of world) answers)
+    report = record { world = world; of_file = w.of_file; answers = answers; answered = given; status_is = refl; text_is = refl }
+
+-- the same, where status and text are known by other names
+pub decides-so : (file : List ℕ) (status status' : Status) (text text' : List ℕ) → Decides file status text → status' ≡ status → text' ≡ text → Decides file status' text'
+decides-so file status status' text text' d s t = subst (λ (x : Status). Decides file x text') (sym s) (subst (λ (x : List ℕ). Decides file status x) (sym t) d)
+
 -- what is decided of a file
 module _ (file : List ℕ) (status : Status) (text : List ℕ) (d : Decides file status text) where
-  decides_limit : status ≡ Limit ↔ PassesLimit file
-  decides_limit = (λ e. by e d.outcome, λ h. let (fault, has, is) = cause_limit file h in (d.faulted fault has).0 ∙ is)
+  -- a status that no report has comes exactly where the file has a fault of that status
+  decides_faulty : (ends : Status) → ((s : Status) (t : List ℕ) → IsReport file s t → s ≢ ends) → status ≡ ends ↔ IsFaulty file ends
+  decides_faulty ends other = (λ e. by e d.outcome, λ faulty. (d.faulted faulty.fault faulty.has).0 ∙ faulty.status_is)
     where
-      by : status ≡ Limit → IsFileOutcome file status text → PassesLimit file
-      by e (inl report) = absurd ((not_of_report file status text report).1 e)
-      by e (inr refusal) = limit_cause file refusal.fault refusal.has (sym refusal.status_is ∙ e)
-
-  decides_text : status ≡ BadText ↔ HasTextFault file
-  decides_text = (λ e. by e d.outcome, λ h. let (fault, has, is) = cause_text file h in (d.faulted fault has).0 ∙ is)
-    where
-      by : status ≡ BadText → IsFileOutcome file status text → HasTextFault file
-      by e (inl report) = absurd ((not_of_report file status text report).2 e)
-      by e (inr refusal) = text_cause file refusal.fault refusal.has (sym refusal.status_is ∙ e)
-
-  decides_formed : status ≡ IllFormed ↔ HasNameFault file
-  decides_formed = (λ e. by e d.outcome, λ h. let (fault, has, is) = cause_name file h in (d.faulted fault has).0 ∙ is)
-    where
-      by : status ≡ IllFormed → IsFileOutcome file status text → HasNameFault file
-      by e (inl report) = absurd ((not_of_report file status text report).3 e)
-      by e (inr refusal) = name_cause file refusal.fault refusal.has (sym refusal.status_is ∙ e)
+      by : status ≡ ends → IsFileOutcome file status text → IsFaulty file ends
+      by e (inl report) = absurd (other status text report e)
+      by e (inr refusal) = record { fault = refusal.fault; has = refusal.has; status_is = sym refusal.status_is ∙ e }
 
   decides_used : status ≢ Usage
   decides_used e = by d.outcome
@@ -141,17 +135,17 @@ module _ (file : List ℕ) (status : Status) (text : List ℕ) (d : Decides file
       by (inl report) = (not_of_report file status text report).0 e
       by (inr refusal) = (not_of_fault refusal.fault status refusal.status_is).0 e
 
-  decides_all_yes : status ≡ AllYes ↔ ((¬ GoesBeyond file) × EachMayTransmute file)
-  decides_all_yes = (λ e. (λ beyond. let is = (d.faulted NotYet beyond).0 in cc, by e d.outcome), λ (today, each). d.each_may today each)
+  decides_all_yes : status ≡ AllYes ↔ EachHolds file
+  decides_all_yes = (λ e. by e d.outcome, d.each_holds)
     where
-      by : status ≡ AllYes → IsFileOutcome file status text → EachMayTransmute file
+      by : status ≡ AllYes → IsFileOutcome file status text → EachHolds file
       by e (inl report) = all_yes-each file status text report e
       by e (inr refusal) = absurd ((not_of_fault refusal.fault status refusal.status_is).1 e)
 
-  decides_mixed : status ≡ Mixed ↔ ((¬ GoesBeyond file) × SomeMayNotTransmute file)
-  decides_mixed = (λ e. (λ beyond. let is = (d.faulted NotYet beyond).0 in cc, by e d.outcome), λ (today, some). d.some_may_not today some)
+  decides_mixed : status ≡ Mixed ↔ SomeDoesNot file
+  decides_mixed = (λ e. by e d.outcome, d.some_does_not)
     where
-      by : status ≡ Mixed → IsFileOutcome file status text → SomeMayNotTransmute file
+      by : status ≡ Mixed → IsFileOutcome file status text → SomeDoesNot file
       by e (inl report) = mixed-some file status text report e
       by e (inr refusal) = absurd ((not_of_fault refusal.fault status refusal.status_is).2 e)
 
@@ -166,200 +160,222 @@ settled_status ReadFault h = absurd h
 settled_status WriteFault h = absurd h
 settled_status Memory h = absurd h
 
-module _ {W : Type 0} (words : List W) (left left' : Option (List ℕ)) (reads reads' : ℕ) (written written' : Option (List ℕ)) (writes writes' : ℕ) where
-  -- what a run that comes to writing knows by then
-  pub record Writes (status : Status) (text : List ℕ) : Type 0 where
-    pub settled : IsSettled status
-    pub usage : status ≡ Usage ↔ (0 < length words)
-    pub outcome : (file : List ℕ) → IsTold words left file → IsOutcome words file status text
-    pub decides : (file : List ℕ) → length words ≡ 0 → left ≡ Some file → Decides file status text
-    pub unrisen : reads' ≡ reads
-    pub unread : 0 < length words → left' ≡ left
-    pub taken : (file : List ℕ) → length words ≡ 0 → left ≡ Some file → left' ≡ Some (drop (file_bytes + 1) file)
-
-  all_written : (status : Status) (text : List ℕ) → Writes status text → AddsAll written written' text → AddsPrefix written written' text
-      → (writes < writes' → status ≡ WriteFault) → Runs words left left' reads reads' written written' writes writes' status
-  all_written status text w adds part risen =
-      let (no_read, no_write, no_memory) = settled_status status w.settled in record {
-        headline = λ file r a today. (text, (w.decides file r.in_form r.told).accepted a today, adds);
-        outcome = λ file told s. (text, w.outcome file told, adds);
-        fault = λ file r fault h. let (status_is, text_is) = (w.decides file r.in_form r.told).faulted fault h in (status_is, subst (λ (line : List ℕ). AddsAll written written' line) text_is adds);
-        all_yes = λ file r. decides_all_yes file status text (w.decides file r.in_form r.told);
-        mixed = λ file r. decides_mixed file status text (w.decides file r.in_form r.told);
-        usage = λ s. w.usage;
-        limit = λ file r. decides_limit file status text (w.decides file r.in_form r.told);
-        bad_text = λ file r. decides_text file status text (w.decides file r.in_form r.told);
-        ill_formed = λ file r. decides_formed file status text (w.decides file r.in_form r.told);
-        read_fault = λ e. absurd (no_read e);
-        read_risen = λ r. let same = w.unrisen in absurd (omega arith);
-        write_fault = λ e. absurd (no_write e);
-        write_risen = risen;
-        part = λ file told e. absurd (no_write e);
-        silent_fault = λ e. absurd (no_read e);
-        silent_memory = λ e. absurd (no_memory e);
-        unread = λ h. (w.unread h, w.unrisen);
-        taken = λ file h told a b. w.taken file h told;
-      }
-
-  write_failed : (status : Status) (text : List ℕ) → Writes status text → AddsPrefix written written' text → Rose writes writes' → Runs words left left' reads reads' written written' writes writes' WriteFault
-  write_failed status text w part rose = record {
-    headline = λ file r a today. absurd r.settled;
-    outcome = λ file told s. absurd s;
-    fault = λ file r fault h. absurd r.settled;
-    all_yes = λ file r. absurd r.settled;
-    mixed = λ file r. absurd r.settled;
-    usage = λ s. absurd s;
-    limit = λ file r. absurd r.settled;
-    bad_text = λ file r. absurd r.settled;
-    ill_formed = λ file r. absurd r.settled;
-    read_fault = λ e. cc;
-    read_risen = λ r. let same = w.unrisen in absurd (omega arith);
-    write_fault = λ e. rose;
-    write_risen = λ h. refl;
-    part = λ file told e. (status, text, w.outcome file told, part);
-    silent_fault = λ e. cc;
-    silent_memory = λ e. cc;
-    unread = λ h. (w.unread h, w.unrisen);
-    taken = λ file h told a b. w.taken file h told;
-  }
-
-  pub finished : (status : Status) (text : List ℕ) (result : Status) → Writes status text → Finishes status text written written' writes writes' result
-      → Runs words left left' reads reads' written written' writes writes' result
-  finished status text result w f = by f.ends
-    where
-      by : ((result ≡ status) × AddsAll written written' text) ⊎ ((result ≡ WriteFault) × Rose writes writes') → Runs words left left' reads reads' written written' writes writes' result
-      by (inl (e, adds)) =
-          subst (λ (s : Status). Runs words left left' reads reads' written written' writes writes' s) (sym e)
-          (all_written status text w adds f.part (λ r. sym e ∙ f.risen r))
-      by (inr (e, rose)) =
-          subst (λ (s : Status). Runs words left left' reads reads' written written' writes writes' s) (sym e)
-          (write_failed status text w f.part rose)
-
-  -- reading failed
-  pub read_failed : length words ≡ 0 → Rose reads reads' → written' ≡ written → writes' ≡ writes → Runs words left left' reads reads' written written' writes writes' ReadFault
-  read_failed in_form rose same count = record {
-    headline = λ file r a today. absurd r.settled;
-    outcome = λ file told s. absurd s;
-    fault = λ file r fault h. absurd r.settled;
-    all_yes = λ file r. absurd r.settled;
-    mixed = λ file r. absurd r.settled;
-    usage = λ s. absurd s;
-    limit = λ file r. absurd r.settled;
-    bad_text = λ file r. absurd r.settled;
-    ill_formed = λ file r. absurd r.settled;
-    read_fault = λ e. rose;
-    read_risen = λ r. refl;
-    write_fault = λ e. cc;
-    write_risen = λ h. absurd (omega arith);
-    part = λ file told e. cc;
-    silent_fault = λ e. same;
-    silent_memory = λ e. cc;
-    unread = λ h. absurd (omega arith);
-    taken = λ file h told a b. absurd (a refl);
-  }
-
-  -- memory was wanting
-  pub no_memory : length words ≡ 0 → reads' ≡ reads → written' ≡ written → writes' ≡ writes → Runs words left left' reads reads' written written' writes writes' Memory
-  no_memory in_form unrisen same count = record {
-    headline = λ file r a today. absurd r.settled;
-    outcome = λ file told s. absurd s;
-    fault = λ file r fault h. absurd r.settled;
-    all_yes = λ file r. absurd r.settled;
-    mixed = λ file r. absurd r.settled;
-    usage = λ s. absurd s;
-    limit = λ file r. absurd r.settled;
-    bad_text = λ file r. absurd r.settled;
-    ill_formed = λ file r. absurd r.settled;
-    read_fault = λ e. cc;
-    read_risen = λ r. absurd (omega arith);
-    write_fault = λ e. cc;
-    write_risen = λ h. absurd (omega arith);
-    part = λ file told e. cc;
-    silent_fault = λ e. cc;
-    silent_memory = λ e. same;
-    unread = λ h. absurd (omega arith);
-    taken = λ file h told a b. absurd (b refl);
-  }
+-- a list that is longer than a number says
+longer : (n : ℕ) → n < length (replicate {A = ℕ} (n + 1) 0)
+longer n = let e = length-replicate {A = ℕ} (n + 1) 0 in omega (arith, e)
 
 drop-short : (n : ℕ) (xs : List ℕ) → length xs ≤ n → drop n xs ≡ []
 drop-short n xs h = nil_from_length (drop n xs) (omega (arith, length-drop n xs))
 
 module _ {W : Type 0} (words : List W) (left left' : Option (List ℕ)) (reads reads' : ℕ) (written written' : Option (List ℕ)) (writes writes' : ℕ) where
-  -- any word
-  pub misused : (result : Status) → 0 < length words → left' ≡ left → reads' ≡ reads → Finishes Usage usage_line written written' writes writes' result
-      → Runs words left left' reads reads' written written' writes writes' result
-  misused result some same count f = finished words left left' reads reads' written written' writes writes' Usage usage_line result
-      (record {
-        settled = tt;
-        usage = (λ e. some, λ h. refl);
-        outcome = λ file told. inl (some, refl, refl);
-        decides = λ file none told. absurd (omega arith);
-        unrisen = count;
-        unread = λ h. same;
-        taken = λ file e told. absurd (omega arith);
-      }) f
+  -- what a run keeps, by its status
+  pub record Keeps (status : Status) : Type 0 where
+    pub headline : (file : List ℕ) → IsRead words left file status → IsAccepted file → WritesReport file status written written'
+    pub only_report : (file : List ℕ) → IsRead words left file status → (other : Status) (text : List ℕ) → IsReport file other text → (other ≡ status) × AddsAll written written' text
+    pub outcome : IsSettled status → WritesOutcome words left status written written'
+    pub part : status ≡ WriteFault → WritesPrefix words left written written'
+    pub silent_fault : status ≡ ReadFault → written' ≡ written
+    pub silent_memory : status ≡ Memory → written' ≡ written
+    pub fault : (file : List ℕ) → IsRead words left file status → (fault : FileFault) → HasFault file fault → WritesFault fault status written written'
+    pub all_yes : (file : List ℕ) → IsRead words left file status → (status ≡ AllYes ↔ EachHolds file)
+    pub mixed : (file : List ℕ) → IsRead words left file status → (status ≡ Mixed ↔ SomeDoesNot file)
+    pub usage : IsSettled status → (status ≡ Usage ↔ (0 < length words))
+    pub bad_text : (file : List ℕ) → IsRead words left file status → (status ≡ BadText ↔ IsFaulty file BadText)
+    pub limit : (file : List ℕ) → IsRead words left file status → (status ≡ Limit ↔ IsFaulty file Limit)
+    pub ill_formed : (file : List ℕ) → IsRead words left file status → (status ≡ IllFormed ↔ IsFaulty file IllFormed)
+    pub read_fault : status ≡ ReadFault → Rose reads reads'
+    pub read_risen : reads < reads' → status ≡ ReadFault
+    pub write_fault : status ≡ WriteFault → Rose writes writes'
+    pub write_risen : writes < writes' → status ≡ WriteFault
+    pub unread : 0 < length words → (left' ≡ left) × (reads' ≡ reads)
+    pub taken : (file : List ℕ) → length words ≡ 0 → left ≡ Some file → status ≢ ReadFault → status ≢ Memory → left' ≡ Some (drop (file_bytes + 1) file)
 
-  -- more bytes than a file may have, and the line that says so
-  too_long : (result : Status) → length words ≡ 0 → reads' ≡ reads → TakesPast left left' file_bytes
-      → Finishes Limit (line_of (Passed FileBytes None)) written written' writes writes' result
-      → Runs words left left' reads reads' written written' writes writes' result
-  too_long result in_form count past f = finished words left left' reads reads' written written' writes writes' Limit (line_of (Passed FileBytes None)) result
+  -- what a run that comes to writing knows by then
+  record Writes (status : Status) (text : List ℕ) : Type 0 where
+    pub settled : IsSettled status
+    pub usage : status ≡ Usage ↔ (0 < length words)
+    pub file : List ℕ
+    pub input : IsInput words left file
+    pub outcome : IsOutcome words file status text
+    pub decides : (file : List ℕ) → length words ≡ 0 → left ≡ Some file → Decides file status text
+    pub unrisen : reads' ≡ reads
+    pub unread : 0 < length words → left' ≡ left
+    pub taken : (file : List ℕ) → length words ≡ 0 → left ≡ Some file → left' ≡ Some (drop (file_bytes + 1) file)
+
+  all_written : (status : Status) (text : List ℕ) → Writes status text → AddsAll written written' text → (writes < writes' → status ≡ WriteFault) → Keeps status
+  all_written status text w adds risen =
+      let (no_read, no_write, no_memory) = settled_status status w.settled in record {
+        headline = λ file r a. (text, (w.decides file r.in_form r.told).accepted a, adds);
+        only_report = λ file r other line report. let (s, t) = (w.decides file r.in_form r.told).only other line report in
+            (s, subst (λ (line : List ℕ). AddsAll written written' line) (sym t) adds);
+        outcome = λ s. record { file = w.file; input = w.input; text = text; outcome = w.outcome; adds = adds };
+        part = λ e. absurd (no_write e);
+        silent_fault = λ e. absurd (no_read e);
+        silent_memory = λ e. absurd (no_memory e);
+        fault = λ file r fault h. let (s, t) = (w.decides file r.in_form r.told).faulted fault h in
+            (s, subst (λ (line : List ℕ). AddsAll written written' line) t adds);
+        all_yes = λ file r. decides_all_yes file status text (w.decides file r.in_form r.told);
+        mixed = λ file r. decides_mixed file status text (w.decides file r.in_form r.told);
+        usage = λ s. w.usage;
+        bad_text = λ file r. decides_faulty file status text (w.decides file r.in_form r.told) BadText (λ s t report. (not_of_report file s t report).2);
+        limit = λ file r. decides_faulty file status text (w.decides file r.in_form r.told) Limit (λ s t report. (not_of_report file s t report).1);
+        ill_formed = λ file r. decides_faulty file status text (w.decides file r.in_form r.told) IllFormed (λ s t report. (not_of_report file s t report).3);
+        read_fault = λ e. absurd (no_read e);
+        read_risen = λ r. let same = w.unrisen in absurd (omega arith);
+        write_fault = λ e. absurd (no_write e);
+        write_risen = risen;
+        unread = λ h. (w.unread h, w.unrisen);
+        taken = λ file h told a b. w.taken file h told;
+      }
+
+  write_failed : (status : Status) (text : List ℕ) → Writes status text → AddsPrefix written written' text → Rose writes writes' → Keeps WriteFault
+  write_failed status text w part rose = record {
+    headline = λ file r a. absurd r.settled;
+    only_report = λ file r other line report. absurd r.settled;
+    outcome = λ s. absurd s;
+    part = λ e. record { file = w.file; input = w.input; status = status; text = text; outcome = w.outcome; adds = part };
+    silent_fault = λ e. cc;
+    silent_memory = λ e. cc;
+    fault = λ file r fault h. absurd r.settled;
+    all_yes = λ file r. absurd r.settled;
+    mixed = λ file r. absurd r.settled;
+    usage = λ s. absurd s;
+    bad_text = λ file r. absurd r.settled;
+    limit = λ file r. absurd r.settled;
+    ill_formed = λ file r. absurd r.settled;
+    read_fault = λ e. cc;
+    read_risen = λ r. let same = w.unrisen in absurd (omega arith);
+    write_fault = λ e. rose;
+    write_risen = λ h. refl;
+    unread = λ h. (w.unread h, w.unrisen);
+    taken = λ file h told a b. w.taken file h told;
+  }
+
+  finished : (status : Status) (text : List ℕ) (result : Status) → Writes status text → Finishes written written' writes writes' status text result → Keeps result
+  finished status text result w f = by f.ends
+    where
+      by : ((result ≡ status) × AddsAll written written' text) ⊎ ((result ≡ WriteFault) × Rose writes writes') → Keeps result
+      by (inl (e, adds)) = subst (λ (s : Status). Keeps s) (sym e) (all_written status text w adds (λ r. sym e ∙ f.risen r))
+      by (inr (e, rose)) = subst (λ (s : Status). Keeps s) (sym e) (write_failed status text w f.part rose)
+
+  -- nothing was written: reading failed, or memory was wanting
+  record WritesNothing (status : Status) : Type 0 where
+    pub unsettled : ¬ IsSettled status
+    pub no_write : status ≢ WriteFault
+    pub in_form : length words ≡ 0
+    pub read : status ≡ ReadFault → Rose reads reads'
+    pub risen : reads < reads' → status ≡ ReadFault
+    pub gives_up : (status ≢ ReadFault) → (status ≢ Memory) → ⊥
+    pub silent : IsSilent written written' writes writes'
+
+  nothing_written : (status : Status) → WritesNothing status → Keeps status
+  nothing_written status w = record {
+    headline = λ file r a. absurd (w.unsettled r.settled);
+    only_report = λ file r other line report. absurd (w.unsettled r.settled);
+    outcome = λ s. absurd (w.unsettled s);
+    part = λ e. absurd (w.no_write e);
+    silent_fault = λ e. w.silent.written_is;
+    silent_memory = λ e. w.silent.written_is;
+    fault = λ file r fault h. absurd (w.unsettled r.settled);
+    all_yes = λ file r. absurd (w.unsettled r.settled);
+    mixed = λ file r. absurd (w.unsettled r.settled);
+    usage = λ s. absurd (w.unsettled s);
+    bad_text = λ file r. absurd (w.unsettled r.settled);
+    limit = λ file r. absurd (w.unsettled r.settled);
+    ill_formed = λ file r. absurd (w.unsettled r.settled);
+    read_fault = w.read;
+    read_risen = w.risen;
+    write_fault = λ e. absurd (w.no_write e);
+    write_risen = λ h. let same = w.silent.faults_are in absurd (omega arith);
+    unread = λ h. let none = w.in_form in absurd (omega arith);
+    taken = λ file h told a b. absurd (w.gives_up a b);
+  }
+
+module _ {W : Type 0} (words : List W) (left left' : Option (List ℕ)) (reads reads' : ℕ) (written written' : Option (List ℕ)) (writes writes' : ℕ) (result : Status) where
+  abbrev Kept : Status → Type 0
+  Kept = Keeps words left left' reads reads' written written' writes writes'
+
+  misused-keeps : Misused words left left' reads reads' written written' writes writes' result → Kept result
+  misused-keeps m = let some = m.some in finished words left left' reads reads' written written' writes writes' Usage usage_line result
       (record {
         settled = tt;
-        usage = (λ e. cc, λ h. absurd (omega arith));
-        outcome = λ file told. by file told;
-        decides = λ file none told. decided file told;
-        unrisen = count;
-        unread = λ h. absurd (omega arith);
+        usage = (λ e. m.some, λ h. refl);
+        file = [];
+        input = λ none. absurd (omega arith);
+        outcome = inl (m.some, refl, refl);
+        decides = λ file none told. absurd (omega arith);
+        unrisen = m.reads_are;
+        unread = λ h. m.left_is;
+        taken = λ file e told. absurd (omega arith);
+      }) m.finishes
+
+  failed-keeps : FailedToRead words left left' reads reads' written written' writes writes' result → Kept result
+  failed-keeps f = subst Kept (sym f.is) (nothing_written words left left' reads reads' written written' writes writes' ReadFault
+      (record { unsettled = λ s. s; no_write = λ e. cc; in_form = f.in_form; read = λ e. f.rose; risen = λ r. refl; gives_up = λ a b. a refl; silent = f.silent }))
+
+  lacked-keeps : LackedMemory words left left' reads reads' written written' writes writes' result → Kept result
+  lacked-keeps l = subst Kept (sym l.is) (nothing_written words left left' reads reads' written written' writes writes' Memory
+      (record { unsettled = λ s. s; no_write = λ e. cc; in_form = l.in_form; read = λ e. cc; risen = λ r. let same = l.reads_are in absurd (omega arith); gives_up = λ a b. b refl; silent = l.silent }))
+
+  overflowed-keeps : Overflowed words left left' reads reads' written written' writes writes' result → Kept result
+  overflowed-keeps o = finished words left left' reads reads' written written' writes writes' Limit (line_of (Passed FileBytes None)) result
+      (record {
+        settled = tt;
+        usage = (λ e. cc, λ h. let none = o.in_form in absurd (omega arith));
+        file = some_file left o.past;
+        input = λ none told e. some-is left o.past told e;
+        outcome = inr (o.in_form, (decided (some_file left o.past) (some-long left o.past)).outcome);
+        decides = λ file none told. decided file (at file told).0;
+        unrisen = o.reads_are;
+        unread = λ h. let none = o.in_form in absurd (omega arith);
         taken = λ file e told. (at file told).1;
-      }) f
+      }) o.finishes
     where
       at : (file : List ℕ) → left ≡ Some file → (file_bytes < length file) × (left' ≡ Some (drop (file_bytes + 1) file))
-      at file told = subst (λ (l : Option (List ℕ)). TakesPast l left' file_bytes) told past
+      at file told = subst (λ (l : Option (List ℕ)). TakesPast l left' file_bytes) told o.past
 
-      decided : (file : List ℕ) → left ≡ Some file → Decides file Limit (line_of (Passed FileBytes None))
-      decided file told = fault_decides file (Passed FileBytes None) (long_only file (at file told).0)
+      decided : (file : List ℕ) → file_bytes < length file → Decides file Limit (line_of (Passed FileBytes None))
+      decided file long = fault_decides file (Passed FileBytes None) (long_only file long)
 
-      by : (file : List ℕ) → IsTold words left file → IsOutcome words file Limit (line_of (Passed FileBytes None))
-      by file (inl some) = absurd (omega arith)
-      by file (inr told) = inr (in_form, (decided file told).outcome)
+      -- the file that is told, or else some that is too long
+      some_file : (l : Option (List ℕ)) → TakesPast l left' file_bytes → List ℕ
+      some_file (Some file) past = file
+      some_file None past = replicate (file_bytes + 1) 0
 
-  -- more bytes than a file may have, or no memory for the line
-  pub declined : (result : Status) → length words ≡ 0 → reads' ≡ reads → TakesPast left left' file_bytes
-      → Declines (Passed FileBytes None) written written' writes writes' result → Runs words left left' reads reads' written written' writes writes' result
-  declined result in_form count past (inl f) = too_long result in_form count past f
-  declined result in_form count past (inr (e, same, unwritten)) =
-      subst (λ (s : Status). Runs words left left' reads reads' written written' writes writes' s) (sym e)
-      (no_memory words left left' reads reads' written written' writes writes' in_form count same unwritten)
+      some-is : (l : Option (List ℕ)) (past : TakesPast l left' file_bytes) (told : List ℕ) → l ≡ Some told → some_file l past ≡ told
+      some-is (Some file) past told e = cc
+      some-is None past told e = cc
 
-  -- a file that was read whole
-  pub answered : (result : Status) (bytes : List ℕ) → length words ≡ 0 → reads' ≡ reads → TakesAll left left' bytes → length bytes ≤ file_bytes
-      → Answers bytes written written' writes writes' result → Runs words left left' reads reads' written written' writes writes' result
-  answered result bytes in_form count all short (inl (status, text, settled, decides, f)) = finished words left left' reads reads' written written' writes writes' status text result
+      some-long : (l : Option (List ℕ)) (past : TakesPast l left' file_bytes) → file_bytes < length (some_file l past)
+      some-long (Some file) past = past.0
+      some-long None past = longer file_bytes
+
+  answered-keeps : Answered words left left' reads reads' written written' writes writes' result → Kept result
+  answered-keeps a = finished words left left' reads reads' written written' writes writes' a.settles.status a.settles.text result
       (record {
-        settled = settled;
-        usage = (λ e. absurd (decides_used bytes status text decides e), λ h. absurd (omega arith));
-        outcome = by;
-        decides = λ file none told. decided file told;
-        unrisen = count;
-        unread = λ h. absurd (omega arith);
+        settled = a.settles.decides.settled;
+        usage = (λ e. absurd (decides_used a.file a.settles.status a.settles.text a.settles.decides e), λ h. let none = a.in_form in absurd (omega arith));
+        file = a.file;
+        input = λ none told e. (told-all told e).0;
+        outcome = inr (a.in_form, a.settles.decides.outcome);
+        decides = λ file none told. subst (λ (x : List ℕ). Decides x a.settles.status a.settles.text) (told-all file told).0 a.settles.decides;
+        unrisen = a.reads_are;
+        unread = λ h. let none = a.in_form in absurd (omega arith);
         taken = λ file e told. left_over file told;
-      }) f
+      }) a.settles.finishes
     where
-      decided : (file : List ℕ) → left ≡ Some file → Decides file status text
-      decided file told =
-          let (same, none) = subst (λ (l : Option (List ℕ)). TakesAll l left' bytes) told all in
-          subst (λ (x : List ℕ). Decides x status text) same decides
-
-      by : (file : List ℕ) → IsTold words left file → IsOutcome words file status text
-      by file (inl some) = absurd (omega arith)
-      by file (inr told) = inr (in_form, (decided file told).outcome)
+      told-all : (file : List ℕ) → left ≡ Some file → (a.file ≡ file) × (left' ≡ Some [])
+      told-all file told = subst (λ (l : Option (List ℕ)). TakesAll l left' a.file) told a.takes
 
       left_over : (file : List ℕ) → left ≡ Some file → left' ≡ Some (drop (file_bytes + 1) file)
       left_over file told =
-          let (same, none) = subst (λ (l : Option (List ℕ)). TakesAll l left' bytes) told all in
-          let few : length file ≤ file_bytes + 1 = subst (λ (x : List ℕ). length x ≤ file_bytes + 1) same (omega arith) in
+          let (same, none) = told-all file told in
+          let few : length file ≤ file_bytes + 1 = subst (λ (x : List ℕ). length x ≤ file_bytes + 1) same (let short = a.short in omega arith) in
           none ∙ ap Some (sym (drop-short (file_bytes + 1) file few))
-  answered result bytes in_form count all short (inr (e, same, unwritten)) =
-      subst (λ (s : Status). Runs words left left' reads reads' written written' writes writes' s) (sym e)
-      (no_memory words left left' reads reads' written written' writes writes' in_form count same unwritten)
+
+  pub did-keeps : Did words left left' reads reads' written written' writes writes' result → Kept result
+  did-keeps (misused m) = misused-keeps m
+  did-keeps (failed_to_read f) = failed-keeps f
+  did-keeps (lacked_memory l) = lacked-keeps l
+  did-keeps (overflowed o) = overflowed-keeps o
+  did-keeps (answered a) = answered-keeps a

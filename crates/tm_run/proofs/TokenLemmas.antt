@@ -93,9 +93,8 @@ module _ (file : List ℕ) (tokens : List Token) (are : AreTokensOf file tokens)
       passes = λ kind byte p begins h. absurd (neither kind p (limits kind p h));
       names = λ why p v h first. absurd (none v h);
       limits = λ kind h. absurd (none h.names.parsed (resolved_by file tokens are h.resolved h.names));
-      beyond = λ h. absurd (none h.names.parsed (resolved_by file tokens are h.resolved h.names));
     });
-    accepted = λ h. absurd (none h.names.parsed (resolved_by file tokens are h.resolved h.names));
+    refused = λ h. absurd (none h.names.parsed (resolved_by file tokens are h.resolved h.names));
   }
     where
       none : (v : Parsed) → SpellsFile (terminals_of file tokens) v → ⊥
@@ -130,9 +129,8 @@ module _ (file : List ℕ) (tokens : List Token) (are : AreTokensOf file tokens)
       passes = λ k byte p begins h. at_token k byte p begins (limits k p h);
       names = λ why p v h first. absurd (none v h);
       limits = λ kind h. absurd (none h.names.parsed (resolved_by file tokens are h.resolved h.names));
-      beyond = λ h. absurd (none h.names.parsed (resolved_by file tokens are h.resolved h.names));
     });
-    accepted = λ h. absurd (none h.names.parsed (resolved_by file tokens are h.resolved h.names));
+    refused = λ h. absurd (none h.names.parsed (resolved_by file tokens are h.resolved h.names));
   }
     where
       none : (v : Parsed) → SpellsFile (terminals_of file tokens) v → ⊥
@@ -174,9 +172,8 @@ module _ (file : List ℕ) (tokens : List Token) (are : AreTokensOf file tokens)
         passes = λ kind byte p begins h. absurd (is.within kind p h);
         names = λ other there v h f. same other there (faults other there (first_in other there v h f));
         limits = λ kind h. absurd (unsound h.resolved h.names);
-        beyond = λ h. absurd (unsound h.resolved h.names);
       });
-      accepted = λ h. absurd (unsound h.resolved h.names);
+      refused = λ h. absurd (unsound h.resolved h.names);
     }
       where
         unsound : (resolved : Resolved) → IsResolved file resolved → ⊥
@@ -212,6 +209,5 @@ module _ (file : List ℕ) (tokens : List Token) (are : AreTokensOf file tokens)
           passes = λ kind byte p begins h. is.within kind p h;
           names = no_name_fault;
           limits = λ kind h. h;
-          beyond = λ h. h;
         });
       }

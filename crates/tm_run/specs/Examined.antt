@@ -1,16 +1,16 @@
 -- What the steps of examining a file find: what is found is all that there is, and a fault is the only one.
-use Rattle.std.specs.Prelude.{◌≡◌, ℕ, IsTrue, Some, None, Option, List, length, All, ⊤}
+use Rattle.std.specs.Prelude.{◌≡◌, ℕ, Some, None, Option, List, length, All, ⊤}
 use Rattle.tm_base.specs.declared.limit.LimitKind.{LimitKind}
 use Rattle.tm_base.specs.declared.limit.LimitKind.TheVariants.{NamedTypes, References, Depth}
 use Rattle.tm_base.specs.declared.world.World.{World}
-use Rattle.tm_ground.specs.Belongs.{BelongsToFile}
-use Rattle.tm_ground.specs.Limits.{IsWithinLimits}
 use Rattle.tm_ground.specs.declared.fault.GroundErr.{GroundErr}
 use Rattle.tm_ground.specs.declared.fault.GroundErr.TheVariants as ground_err
 use Rattle.tm_lex.specs.Lexes.{IsFault, Tokenizes, IsPieceOf}
 use Rattle.tm_lex.specs.declared.fault.LexWhy.{LexWhy}
 use Rattle.tm_lex.specs.declared.fault.LexWhy.TheVariants as why
 use Rattle.tm_lex.specs.declared.token.Token.{Token}
+use Rattle.tm_names.specs.ApartNames.{HasApartNames}
+use Rattle.tm_names.specs.InForm.{IsInForm}
 use Rattle.tm_names.specs.Resolutions.{resolved_of}
 use Rattle.tm_names.specs.Written.{name_at}
 use Rattle.tm_names.specs.declared.resolved.Resolved.{Resolved}
@@ -20,18 +20,17 @@ use Rattle.tm_parse.specs.declared.parsed.Parsed.{Parsed}
 use Rattle.tm_report.specs.declared.fault.At.{At}
 use Rattle.tm_report.specs.declared.fault.FileFault.{FileFault}
 use Rattle.tm_report.specs.declared.fault.FileFault.TheVariants as fault
-use Rattle.tm_run.specs.Faults.{GoesBeyond, HasFault, PassesLimitOnTypes}
-use Rattle.tm_run.specs.Files.{run_profile, HasSoundNames, IsAccepted, IsLexed, IsResolved}
+use Rattle.tm_run.specs.Faults.{HasFault, PassesLimitOnTypes}
+use Rattle.tm_run.specs.Files.{run_profile, HasSoundNames, IsAccepted, IsLexed, IsResolved, IsWorldOf}
 use Rattle.tm_run.specs.Places.{at_byte}
-use Rattle.tm_run.specs.Questions.{is_answered_today}
 use Rattle.tm_run.specs.declared.stop.Stop.{Stop}
 use Rattle.tm_run.specs.declared.stop.Stop.TheVariants.{Fault, Memory}
 
--- the file's one fault; such a file is accepted only where it asks what isn't answered today
+-- the file's one fault; such a file isn't accepted
 pub record IsOnlyFault (file : List ℕ) (fault : FileFault) : Type 0 where
   pub has : HasFault file fault
   pub only : (other : FileFault) → HasFault file other → other ≡ fault
-  pub accepted : IsAccepted file → GoesBeyond file
+  pub refused : ¬ IsAccepted file
 
 -- the file stops there; a want of memory may come for any
 abbrev pub IsStop : List ℕ → Stop → Type 0
@@ -69,10 +68,9 @@ pub record IsResolvedOf (file : List ℕ) (tokens : List Token) (parsed : Parsed
   pub sound : HasSoundNames file tokens parsed
   pub means : resolved ≡ resolved_of run_profile (name_at file tokens) parsed
 
--- a fault that is told when the types are closed: of their limits, or of what isn't answered today
+-- a fault that is told when the types are closed
 abbrev pub IsLateFault : List ℕ → FileFault → Type 0
 IsLateFault file (fault.Passed kind None) = PassesLimitOnTypes file kind
-IsLateFault file fault.NotYet = GoesBeyond file
 IsLateFault file _ = ⊥
 
 -- what the file's names mean, beside which it has no fault before its types are closed
@@ -88,12 +86,10 @@ stop_of ground_err.TooManyRefs = Fault (fault.Passed References None)
 stop_of ground_err.TooDeep = Fault (fault.Passed Depth None)
 stop_of ground_err.Memory = Memory
 
--- the world of a file, where all that it asks is answered today, and it has no fault
-pub record IsAnsweredWorld (file : List ℕ) (world : World) : Type 0 where
-  pub resolved : Resolved
-  pub names : IsResolved file resolved
-  pub limits : IsWithinLimits resolved
-  pub belongs : BelongsToFile resolved world
-  pub today : IsTrue (is_answered_today world)
-  pub only : (other : Resolved) → IsResolved file other → other ≡ resolved
-  pub faultless : (fault : FileFault) → HasFault file fault → ⊥
+-- the world of a file, which has no fault; what its names mean is in form, and definitions have names of their own
+pub record IsExamined (file : List ℕ) (world : World) : Type 0 where
+  pub of_file : IsWorldOf file world
+  pub form : IsInForm of_file.resolved
+  pub apart : HasApartNames of_file.resolved
+  pub only : (other : Resolved) → IsResolved file other → other ≡ of_file.resolved
+  pub faultless : (fault : FileFault) → ¬ HasFault file fault

@@ -1,12 +1,10 @@
 -- Why a file gets no report.
-use Rattle.std.specs.Prelude.{◌≡◌, ℕ, ◌<◌, ◌≤◌, ◌⊎◌, IsFalse, Option, Some, None, List, length, slice_get, IsUtf8}
+use Rattle.std.specs.Prelude.{◌≡◌, ℕ, ◌<◌, ◌≤◌, ◌⊎◌, Option, Some, None, List, length, slice_get, IsUtf8}
 use Rattle.std.specs.Str.{IsValidUpTo}
 use Rattle.tm_base.specs.declared.limit.LimitKind.{LimitKind}
 use Rattle.tm_base.specs.declared.limit.LimitKind.TheVariants.{FileBytes, NamedTypes, References, Depth}
 use Rattle.tm_base.specs.declared.limit.NameWhy.{NameWhy}
-use Rattle.tm_base.specs.declared.world.World.{World}
-use Rattle.tm_ground.specs.Belongs.{BelongsToFile}
-use Rattle.tm_ground.specs.Limits.{HasCause, IsWithinLimits}
+use Rattle.tm_ground.specs.Limits.{HasCause}
 use Rattle.tm_ground.specs.declared.fault.GroundErr.TheVariants.{TooManyTypes, TooManyRefs, TooDeep}
 use Rattle.tm_lex.specs.Lexes.{IsFault}
 use Rattle.tm_lex.specs.declared.fault.LexWhy.{LexWhy}
@@ -19,10 +17,9 @@ use Rattle.tm_parse.specs.Parsing.{PassesLimitAt, StopsAt}
 use Rattle.tm_parse.specs.Spelling.{terminals_of}
 use Rattle.tm_parse.specs.declared.parsed.Parsed.{Parsed}
 use Rattle.tm_report.specs.declared.fault.FileFault.{FileFault}
-use Rattle.tm_report.specs.declared.fault.FileFault.TheVariants.{NotUtf8, NoToken, BadNumber, OpenComment, Unexpected, EndOfFile, Passed, Names, BadRefutation, NoQuestion, NotYet}
+use Rattle.tm_report.specs.declared.fault.FileFault.TheVariants.{NotUtf8, NoToken, BadNumber, OpenComment, Unexpected, EndOfFile, Passed, Names, BadRefutation, NoQuestion}
 use Rattle.tm_run.specs.Files.{file_bytes, run_profile, IsLexed, IsResolved, IsSpelled}
 use Rattle.tm_run.specs.Places.{IsPlaceIn, at_byte}
-use Rattle.tm_run.specs.Questions.{is_answered_today}
 use Rattle.tm_run.specs.declared.status.Status.{Status}
 use Rattle.tm_run.specs.declared.status.Status.TheVariants.{BadText, Limit, IllFormed}
 
@@ -92,15 +89,6 @@ pub record PassesLimitOnTypes (file : List ℕ) (kind : LimitKind) : Type 0 wher
   pub names : IsResolved file resolved
   pub first : IsFirstLimit resolved kind
 
--- the file is accepted, and its world has what isn't answered today
-pub record GoesBeyond (file : List ℕ) : Type 0 where
-  pub resolved : Resolved
-  pub names : IsResolved file resolved
-  pub limits : IsWithinLimits resolved
-  pub world : World
-  pub belongs : BelongsToFile resolved world
-  pub beyond : IsFalse (is_answered_today world)
-
 -- the file has the fault, at its place
 abbrev pub HasFault : List ℕ → FileFault → Type 0
 HasFault file (NotUtf8 at) = IsPlaceIn file at × IsNotUtf8 file at.byte
@@ -115,7 +103,6 @@ HasFault file (Names why at) = IsPlaceIn file at × HasNameFaultAt file why at.b
 -- no refutation is read yet, and no question asked for by its number
 HasFault file (BadRefutation line) = ⊥
 HasFault file (NoQuestion number) = ⊥
-HasFault file NotYet = GoesBeyond file
 
 abbrev pub status_of_fault : FileFault → Status
 status_of_fault (NotUtf8 at) = BadText
@@ -128,21 +115,9 @@ status_of_fault (Passed kind place) = Limit
 status_of_fault (Names why at) = IllFormed
 status_of_fault (BadRefutation line) = BadText
 status_of_fault (NoQuestion number) = BadText
-status_of_fault NotYet = BadText
 
--- The file isn't too long, and it isn't UTF-8, or somewhere no token begins, or no file of the grammar goes
--- on with a token, or it ends too soon, or it has what isn't answered today.
-abbrev pub HasTextFault : List ℕ → Type 0
-HasTextFault file =
-    ((byte : ℕ) × IsNotUtf8 file byte) ⊎ ((byte : ℕ) × (why : LexWhy) × LacksToken file byte why)
-    ⊎ ((byte : ℕ) × StopsAtToken file byte) ⊎ EndsTooSoon file ⊎ GoesBeyond file
-
--- the file has too many bytes, or one of its tokens is the first that passes a limit, or its closed types pass one
-abbrev pub PassesLimit : List ℕ → Type 0
-PassesLimit file =
-    (file_bytes < length file) ⊎ ((kind : LimitKind) × (byte : ℕ) × PassesLimitAtToken file kind byte)
-    ⊎ ((kind : LimitKind) × PassesLimitOnTypes file kind)
-
--- the file is spelled, and has a name fault
-abbrev pub HasNameFault : List ℕ → Type 0
-HasNameFault file = (why : NameWhy) × (byte : ℕ) × HasNameFaultAt file why byte
+-- the file has a fault for which the run ends with the status
+pub record IsFaulty (file : List ℕ) (status : Status) : Type 0 where
+  pub fault : FileFault
+  pub has : HasFault file fault
+  pub status_is : status_of_fault fault ≡ status

@@ -4,7 +4,9 @@ use Rattle.std.specs.Prelude.{◌≡◌, ℕ, ◌≤◌, List, length, IsUtf8}
 use Rattle.tm_base.specs.declared.limit.LimitKind.TheVariants.{FileBytes}
 use Rattle.tm_base.specs.declared.profile.Profile.{Profile}
 use Rattle.tm_base.specs.declared.profile.Profile.TheVariants.{Le64}
+use Rattle.tm_base.specs.declared.world.World.{World}
 use Rattle.tm_base.specs.Limits.{limit_number}
+use Rattle.tm_ground.specs.Belongs.{BelongsToFile}
 use Rattle.tm_ground.specs.Limits.{IsWithinLimits}
 use Rattle.tm_lex.specs.Lexes.{Tokenizes}
 use Rattle.tm_lex.specs.declared.token.Token.{Token}
@@ -52,3 +54,10 @@ pub record IsAccepted (file : List ℕ) : Type 0 where
   pub resolved : Resolved
   pub names : IsResolved file resolved
   pub limits : IsWithinLimits resolved
+
+-- the file is accepted, and the world belongs to it
+pub record IsWorldOf (file : List ℕ) (world : World) : Type 0 where
+  pub resolved : Resolved
+  pub names : IsResolved file resolved
+  pub limits : IsWithinLimits resolved
+  pub belongs : BelongsToFile resolved world

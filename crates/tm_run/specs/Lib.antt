@@ -1,12 +1,9 @@
-pub mod Bytes
-pub mod Comparing
+pub mod Answers
+pub mod Courts
 pub mod Examined
 pub mod Faults
-pub mod FileAnswers
 pub mod Files
 pub mod Outcomes
 pub mod Places
-pub mod Questions
 pub mod Report
 pub mod Runs
-pub mod Verdicts

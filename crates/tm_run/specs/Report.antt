@@ -1,44 +1,32 @@
--- The text of a report: a line for each question, and a summary.
-use Rattle.std.specs.Prelude.{ℕ, ◌+◌, Bool, true, false, if◌then◌else◌, List, [], ◌∷◌, ◌++◌, codes, count_by}
-use Rattle.std.specs.Fmt.{decimal}
-use Rattle.std.specs.List.{concat, list_all}
+-- The text of a report: a line for each reference type, one for each question, and a summary.
+use Rattle.std.specs.Prelude.{ℕ, ◌+◌, if◌then◌else◌, List, [], ◌∷◌, ◌++◌, count_by}
+use Rattle.std.specs.List.{list_all}
+use Rattle.tm_base.specs.declared.answer.Answer.{Answer}
+use Rattle.tm_base.specs.declared.definition.RefRow.{RefRow}
+use Rattle.tm_base.specs.Tables.{Tables}
+use Rattle.tm_laws.specs.AnswerKinds.{is_no, is_refusal, is_yes}
+use Rattle.tm_report.specs.AnswerLines.{answer_line, reference_line, summary_line}
 use Rattle.tm_run.specs.declared.status.Status.{Status}
 use Rattle.tm_run.specs.declared.status.Status.TheVariants.{AllYes, Mixed}
-use Rattle.tm_run.specs.declared.verdict.Verdict.{Verdict}
-use Rattle.tm_run.specs.declared.verdict.Verdict.TheVariants.{Yes, No}
 
--- the byte that ends a line
-abbrev pub line_end : List ℕ
-line_end = 0x0A ∷ []
+-- the lines of reference types that are numbered one after another, each of which says what its number stands for
+abbrev pub reference_lines : Tables → ℕ → List RefRow → List ℕ
+reference_lines tables number [] = []
+reference_lines tables number (row ∷ rows) = reference_line tables (record { 0 = number }) ++ reference_lines tables (number + 1) rows
 
-abbrev pub is_yes : Verdict → Bool
-is_yes Yes = true
-is_yes No = false
+-- the lines of answers to questions that are numbered one after another
+abbrev pub answer_lines : Tables → ℕ → List Answer → List ℕ
+answer_lines tables number [] = []
+answer_lines tables number (answer ∷ answers) = answer_line number tables answer ++ answer_lines tables (number + 1) answers
 
-abbrev pub is_no : Verdict → Bool
-is_no Yes = false
-is_no No = true
+-- how many of some answers are yes, no and refusals
+abbrev pub summary_of : List Answer → List ℕ
+summary_of answers = summary_line (count_by is_yes answers) (count_by is_no answers) (count_by is_refusal answers)
 
-abbrev pub word_of : Verdict → List ℕ
-word_of Yes = codes "yes"
-word_of No = codes "no"
+-- the whole report: reference types are numbered from 0, and questions from 1
+abbrev pub report_of : Tables → List Answer → List ℕ
+report_of tables answers = reference_lines tables 0 tables.refs ++ answer_lines tables 1 answers ++ summary_of answers
 
--- the line of the question with a number, as `1: yes`
-abbrev pub line_of : ℕ → Verdict → List ℕ
-line_of number verdict = concat (decimal number ∷ codes ": " ∷ word_of verdict ∷ line_end ∷ [])
-
--- the lines of questions, numbered one after another
-abbrev pub lines_from : ℕ → List Verdict → List ℕ
-lines_from number [] = []
-lines_from number (verdict ∷ verdicts) = line_of number verdict ++ lines_from (number + 1) verdicts
-
--- as `1 yes, 0 no, 0 refused`
-abbrev pub summary_of : ℕ → ℕ → ℕ → List ℕ
-summary_of accepted denied refused =
-    concat (decimal accepted ∷ codes " yes, " ∷ decimal denied ∷ codes " no, " ∷ decimal refused ∷ codes " refused" ∷ line_end ∷ [])
-
-abbrev pub report_of : List Verdict → List ℕ
-report_of verdicts = lines_from 1 verdicts ++ summary_of (count_by is_yes verdicts) (count_by is_no verdicts) 0
-
-abbrev pub status_of : List Verdict → Status
-status_of verdicts = if list_all is_yes verdicts then AllYes else Mixed
+-- each answer is yes, or not
+abbrev pub status_of : List Answer → Status
+status_of answers = if list_all is_yes answers then AllYes else Mixed

@@ -1,64 +1,100 @@
--- What a run keeps, all at once: the clauses of `run` say each of it.
-use Rattle.std.specs.Prelude.{◌≡◌, ◌≢◌, ℕ, ◌+◌, ◌<◌, ◌⊎◌, ◌↔◌, Option, Some, List, length, drop}
+-- What the parts of a run keep.
+use Rattle.std.specs.Prelude.{◌≡◌, ℕ, ◌<◌, ◌≤◌, ◌⊎◌, Option, None, List, length}
+use Rattle.tm_base.specs.declared.limit.LimitKind.TheVariants.{FileBytes}
 use Rattle.tm_io.specs.Faults.{Rose}
-use Rattle.tm_io.specs.Told.{AddsAll, AddsPrefix}
+use Rattle.tm_io.specs.Told.{AddsAll, AddsPrefix, TakesAll, TakesPast}
 use Rattle.tm_report.specs.FaultLines.{line_of}
 use Rattle.tm_report.specs.declared.fault.FileFault.{FileFault}
-use Rattle.tm_run.specs.Faults.{GoesBeyond, HasFault, HasNameFault, HasTextFault, PassesLimit, status_of_fault}
-use Rattle.tm_run.specs.FileAnswers.{EachMayTransmute, SomeMayNotTransmute}
+use Rattle.tm_report.specs.declared.fault.FileFault.TheVariants.{Passed}
+use Rattle.tm_run.specs.Answers.{EachHolds, SomeDoesNot}
+use Rattle.tm_run.specs.Faults.{HasFault, status_of_fault}
 use Rattle.tm_run.specs.Files.{file_bytes, IsAccepted}
-use Rattle.tm_run.specs.Outcomes.{IsFileOutcome, IsReport, IsSettled, IsTold, IsRead, WritesOutcome, WritesFault, WritesPrefix, WritesReport}
+use Rattle.tm_run.specs.Outcomes.{IsFileOutcome, IsReport, IsSettled, usage_line}
 use Rattle.tm_run.specs.declared.status.Status.{Status}
-use Rattle.tm_run.specs.declared.status.Status.TheVariants.{AllYes, Mixed, Usage, BadText, Limit, ReadFault, WriteFault, Memory, IllFormed}
+use Rattle.tm_run.specs.declared.status.Status.TheVariants.{AllYes, Mixed, Usage, ReadFault, WriteFault, Memory}
 
--- A text is written whole and its status answered, or writing fails.
-pub record Finishes (status : Status) (text : List ℕ) (written written' : Option (List ℕ)) (faults faults' : ℕ) (result : Status) : Type 0 where
-  pub ends : ((result ≡ status) × AddsAll written written' text) ⊎ ((result ≡ WriteFault) × Rose faults faults')
-  pub part : AddsPrefix written written' text
-  pub risen : faults < faults' → result ≡ WriteFault
+-- what a sink tells of what was written, and its count of faults, before and after
+module _ (written written' : Option (List ℕ)) (faults faults' : ℕ) where
+  -- A text is written whole and its status answered, or writing fails.
+  pub record Finishes (status : Status) (text : List ℕ) (result : Status) : Type 0 where
+    pub ends : ((result ≡ status) × AddsAll written written' text) ⊎ ((result ≡ WriteFault) × Rose faults faults')
+    pub part : AddsPrefix written written' text
+    pub risen : faults < faults' → result ≡ WriteFault
 
--- memory is wanting, and nothing is written
-abbrev pub WantsMemory : Option (List ℕ) → Option (List ℕ) → ℕ → ℕ → Status → Type 0
-WantsMemory written written' faults faults' result = (result ≡ Memory) × (written' ≡ written) × (faults' ≡ faults)
+  -- nothing is written
+  pub record IsSilent : Type 0 where
+    pub written_is : written' ≡ written
+    pub faults_are : faults' ≡ faults
 
--- The line of a fault is written, or memory is wanting.
-abbrev pub Declines : FileFault → Option (List ℕ) → Option (List ℕ) → ℕ → ℕ → Status → Type 0
-Declines fault written written' faults faults' result =
-    Finishes (status_of_fault fault) (line_of fault) written written' faults faults' result ⊎ WantsMemory written written' faults faults' result
+  -- The line of a fault is written, or memory is wanting.
+  abbrev pub Declines : FileFault → Status → Type 0
+  Declines fault result = Finishes (status_of_fault fault) (line_of fault) result ⊎ ((result ≡ Memory) × IsSilent)
 
--- The outcome of a file, and no other is: the report on it where it is accepted and all that it asks is
--- answered today, with the status that its questions come to, and the status and the line of its fault where
--- it has one.
+-- The outcome of a file, and no other is: the report on it where it is accepted, with the status that its
+-- questions come to, and the status and the line of its fault where it has one.
 pub record Decides (file : List ℕ) (status : Status) (text : List ℕ) : Type 0 where
+  pub settled : IsSettled status
   pub outcome : IsFileOutcome file status text
-  pub accepted : IsAccepted file → ¬ GoesBeyond file → IsReport file status text
-  pub each_may : ¬ GoesBeyond file → EachMayTransmute file → status ≡ AllYes
-  pub some_may_not : ¬ GoesBeyond file → SomeMayNotTransmute file → status ≡ Mixed
+  pub accepted : IsAccepted file → IsReport file status text
+  pub only : (other : Status) (line : List ℕ) → IsReport file other line → (other ≡ status) × (line ≡ text)
+  pub each_holds : EachHolds file → status ≡ AllYes
+  pub some_does_not : SomeDoesNot file → status ≡ Mixed
   pub faulted : (fault : FileFault) → HasFault file fault → (status ≡ status_of_fault fault) × (text ≡ line_of fault)
 
--- The outcome of a file is written, or memory is wanting.
-abbrev pub Answers : List ℕ → Option (List ℕ) → Option (List ℕ) → ℕ → ℕ → Status → Type 0
-Answers file written written' faults faults' result =
-    ((status : Status) × (text : List ℕ) × IsSettled status × Decides file status text × Finishes status text written written' faults faults' result)
-    ⊎ WantsMemory written written' faults faults' result
+-- the outcome of a file is written
+pub record Settles (written written' : Option (List ℕ)) (faults faults' : ℕ) (file : List ℕ) (result : Status) : Type 0 where
+  pub status : Status
+  pub text : List ℕ
+  pub decides : Decides file status text
+  pub finishes : Finishes written written' faults faults' status text result
 
-module _ {W : Type 0} (words : List W) (left left' : Option (List ℕ)) (reads reads' : ℕ) (written written' : Option (List ℕ)) (writes writes' : ℕ) where
-  pub record Runs (status : Status) : Type 0 where
-    pub headline : (file : List ℕ) → IsRead words left file status → IsAccepted file → ¬ GoesBeyond file → WritesReport file status written written'
-    pub outcome : (file : List ℕ) → IsTold words left file → IsSettled status → WritesOutcome words file status written written'
-    pub fault : (file : List ℕ) → IsRead words left file status → (fault : FileFault) → HasFault file fault → WritesFault fault status written written'
-    pub all_yes : (file : List ℕ) → IsRead words left file status → (status ≡ AllYes ↔ ((¬ GoesBeyond file) × EachMayTransmute file))
-    pub mixed : (file : List ℕ) → IsRead words left file status → (status ≡ Mixed ↔ ((¬ GoesBeyond file) × SomeMayNotTransmute file))
-    pub usage : IsSettled status → (status ≡ Usage ↔ (0 < length words))
-    pub limit : (file : List ℕ) → IsRead words left file status → (status ≡ Limit ↔ PassesLimit file)
-    pub bad_text : (file : List ℕ) → IsRead words left file status → (status ≡ BadText ↔ HasTextFault file)
-    pub ill_formed : (file : List ℕ) → IsRead words left file status → (status ≡ IllFormed ↔ HasNameFault file)
-    pub read_fault : status ≡ ReadFault → Rose reads reads'
-    pub read_risen : reads < reads' → status ≡ ReadFault
-    pub write_fault : status ≡ WriteFault → Rose writes writes'
-    pub write_risen : writes < writes' → status ≡ WriteFault
-    pub part : (file : List ℕ) → IsTold words left file → status ≡ WriteFault → WritesPrefix words file written written'
-    pub silent_fault : status ≡ ReadFault → written' ≡ written
-    pub silent_memory : status ≡ Memory → written' ≡ written
-    pub unread : 0 < length words → (left' ≡ left) × (reads' ≡ reads)
-    pub taken : (file : List ℕ) → length words ≡ 0 → left ≡ Some file → status ≢ ReadFault → status ≢ Memory → left' ≡ Some (drop (file_bytes + 1) file)
+-- or memory is wanting
+abbrev pub Answers : Option (List ℕ) → Option (List ℕ) → ℕ → ℕ → List ℕ → Status → Type 0
+Answers written written' faults faults' file result =
+    Settles written written' faults faults' file result ⊎ ((result ≡ Memory) × IsSilent written written' faults faults')
+
+-- What a run did with its words, a source and a sink.
+module _ {W : Type 0} (words : List W) (left left' : Option (List ℕ)) (reads reads' : ℕ) (written written' : Option (List ℕ)) (writes writes' : ℕ) (result : Status) where
+  -- there was a word: nothing was read
+  pub record Misused : Type 0 where
+    pub some : 0 < length words
+    pub left_is : left' ≡ left
+    pub reads_are : reads' ≡ reads
+    pub finishes : Finishes written written' writes writes' Usage usage_line result
+
+  -- reading failed
+  pub record FailedToRead : Type 0 where
+    pub in_form : length words ≡ 0
+    pub is : result ≡ ReadFault
+    pub rose : Rose reads reads'
+    pub silent : IsSilent written written' writes writes'
+
+  -- memory was wanting
+  pub record LackedMemory : Type 0 where
+    pub in_form : length words ≡ 0
+    pub is : result ≡ Memory
+    pub reads_are : reads' ≡ reads
+    pub silent : IsSilent written written' writes writes'
+
+  -- the input was too long
+  pub record Overflowed : Type 0 where
+    pub in_form : length words ≡ 0
+    pub reads_are : reads' ≡ reads
+    pub past : TakesPast left left' file_bytes
+    pub finishes : Finishes written written' writes writes' (status_of_fault (Passed FileBytes None)) (line_of (Passed FileBytes None)) result
+
+  -- a file was read, and its outcome written
+  pub record Answered : Type 0 where
+    pub in_form : length words ≡ 0
+    pub reads_are : reads' ≡ reads
+    pub file : List ℕ
+    pub takes : TakesAll left left' file
+    pub short : length file ≤ file_bytes
+    pub settles : Settles written written' writes writes' file result
+
+  pub data Did : Type 0 where
+    misused : Misused → Did
+    failed_to_read : FailedToRead → Did
+    lacked_memory : LackedMemory → Did
+    overflowed : Overflowed → Did
+    answered : Answered → Did

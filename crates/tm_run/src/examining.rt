@@ -1,17 +1,17 @@
-ghost use Rattle.std.specs.Prelude.{◌≡◌, ◌≤◌, IfOk, IfErr, length, slice_get};
+ghost use Rattle.std.specs.Prelude.{◌≡◌, ◌≤◌, ℕ, List, IfOk, IfErr, length, slice_get};
 ghost use Rattle.tm_names.specs.ApartNames.{HasApartNames};
 ghost use Rattle.tm_names.specs.InForm.{IsInForm};
-ghost use Rattle.tm_run.specs.Examined.{AreTokensOf, IsAnsweredWorld, IsMeaningOf, IsParsedOf, IsResolvedOf, IsStop, fault_at, no_token_at};
+ghost use Rattle.tm_run.specs.Examined.{AreTokensOf, IsExamined, IsMeaningOf, IsParsedOf, IsResolvedOf, IsStop, fault_at, no_token_at};
 ghost use Rattle.tm_run.specs.Faults.{start_of};
 ghost use Rattle.tm_run.specs.Files.{file_bytes};
 ghost use Rattle.tm_run.specs.Places.{at_byte};
 
-use crate::closing::world;
 use crate::places::at;
 use crate::stop::Stop;
 use std::alloc::Global;
 use std::str;
 use tm_base::{Profile, World};
+use tm_ground::ground;
 use tm_lex::{LexErr, LexWhy, Token, lex};
 use tm_names::{NameErr, Resolved, check};
 use tm_parse::{ParseErr, Parsed, parse};
@@ -136,10 +136,21 @@ fn meaning(alloc: Global, text: &str) -> Result<Resolved, Stop>
     resolved(alloc, text, &tokens, &parsed)
 }
 
+/// The world of a file whose names mean this.
+fn world(alloc: Global, resolved: &Resolved) -> Result<World, Stop>
+    requires form { IsInForm resolved.now }
+    requires names { HasApartNames resolved.now }
+    ensures world { (file : List ℕ) → IsMeaningOf file resolved.now → IfOk result (IsExamined file) }
+    ensures stop { (file : List ℕ) → IsMeaningOf file resolved.now → IfErr result (IsStop file) }
+{
+    let world = ground(alloc, resolved)?;
+    Ok(world)
+}
+
 /// The world of a file of at most 1,048,576 bytes, or the one fault for which it gets no report.
 pub fn examine(alloc: Global, file: &[u8]) -> Result<World, Stop>
     requires { length file.now ≤ file_bytes }
-    ensures world { IfOk result (IsAnsweredWorld file.now) }
+    ensures world { IfOk result (IsExamined file.now) }
     ensures stop { IfErr result (IsStop file.now) }
 {
     let text = decoded(file)?;

@@ -1,85 +1,116 @@
-ghost use Rattle.std.specs.Prelude.{◌≡◌, ◌++◌, ◌<◌, ◌^◌, IfOk, OnOk, length, string_bytes, count_by};
-ghost use Rattle.std.specs.List.{list_all};
-ghost use Rattle.tm_run.specs.Report.{is_yes, is_no, line_of, lines_from, summary_of, report_of, status_of};
+ghost use Rattle.std.specs.Prelude.{◌≡◌, ◌≤◌, ◌++◌, IfOk, OnOk, count_by, length};
+ghost use Rattle.std.specs.List.{All, list_all};
+ghost use Rattle.tm_base.specs.Profiles.{pointer_size};
+ghost use Rattle.tm_base.specs.Worlds.{tables_of};
+ghost use Rattle.tm_laws.specs.AnswerKinds.{is_no, is_refusal, is_yes};
+ghost use Rattle.tm_report.specs.AnswerLines.{HasWholeWord};
+ghost use Rattle.tm_run.specs.Report.{answer_lines, reference_lines, report_of, status_of, summary_of};
 
 use crate::status::Status;
-use crate::verdict::Verdict;
-use std::alloc::{AllocError, Global};
+use std::alloc::Global;
+use tm_base::{Answer, Memory, RefId, Text, World};
+use tm_report::{line, ref_line, summary};
 
-fn is_yes(verdict: &Verdict) -> bool
-    ensures { result ≡ is_yes verdict.now }
+fn is_yes(answer: &Answer) -> bool
+    ensures { result ≡ is_yes answer.now }
 {
-    matches!(verdict, Verdict::Yes)
+    matches!(answer, Answer::Yes | Answer::YesBecause(_))
 }
 
-fn is_no(verdict: &Verdict) -> bool
-    ensures { result ≡ is_no verdict.now }
+fn is_no(answer: &Answer) -> bool
+    ensures { result ≡ is_no answer.now }
 {
-    matches!(verdict, Verdict::No)
+    matches!(answer, Answer::No(_) | Answer::NoAt(_, _, _, _))
 }
 
-/// The line of the question with a number.
-fn line(alloc: Global, number: usize, verdict: Verdict) -> Result<String, AllocError>
-    ensures { IfOk result (λ line. string_bytes line ≡ line_of number verdict) }
+fn is_refusal(answer: &Answer) -> bool
+    ensures { result ≡ is_refusal answer.now }
 {
-    match verdict {
-        Verdict::Yes => format!(in alloc; "{number}: yes\n"),
-        Verdict::No => format!(in alloc; "{number}: no\n"),
-    }
+    matches!(answer, Answer::Refused(_, _, _))
 }
 
-/// The last line of a report.
-fn summary(alloc: Global, yes: usize, no: usize, refused: usize) -> Result<String, AllocError>
-    ensures { IfOk result (λ line. string_bytes line ≡ summary_of yes no refused) }
+/// Adds the line of each reference type of a world.
+fn add_reference_lines(alloc: Global, text: &mut Text, world: &World) -> Result<(), Memory>
+    ensures { OnOk result (text.new ≡ text.old ++ reference_lines (tables_of world.now) 0 world.now.refs) }
 {
-    format!(in alloc; "{yes} yes, {no} no, {refused} refused\n")
-}
-
-fn count_yes(verdicts: &[Verdict]) -> usize
-    ensures { result ≡ count_by is_yes verdicts.now }
-{
-    verdicts.iter().filter(|verdict| is_yes(verdict)).count()
-}
-
-fn count_no(verdicts: &[Verdict]) -> usize
-    ensures { result ≡ count_by is_no verdicts.now }
-{
-    verdicts.iter().filter(|verdict| is_no(verdict)).count()
-}
-
-/// The lines of all questions.
-fn lines(alloc: Global, verdicts: &[Verdict]) -> Result<String, AllocError>
-    ensures { IfOk result (λ text. string_bytes text ≡ lines_from 1 verdicts.now) }
-{
-    let mut text = String::new(alloc);
-    for (place, verdict) in verdicts.iter().enumerate() {
-        let line = line(alloc, place + 1, *verdict)?;
+    for (number, _) in world.refs.as_slice().iter().enumerate() {
+        let line = ref_line(alloc, world, RefId(number as u32))?;
         text.push_str(line.as_str())?;
     }
+    Ok(())
+}
+
+/// Adds the line of each answer. Questions are numbered from 1.
+fn add_answer_lines(
+    alloc: Global,
+    text: &mut Text,
+    world: &World,
+    answers: &[Answer],
+) -> Result<(), Memory>
+    requires whole { All (HasWholeWord (pointer_size world.now.profile)) answers.now }
+    requires few { length answers.now ≤ 256 }
+    ensures { OnOk result (text.new ≡ text.old ++ answer_lines (tables_of world.now) 1 answers.now) }
+{
+    for (place, answer) in answers.iter().enumerate() {
+        let line = line(alloc, place as u32 + 1, world, answer)?;
+        text.push_str(line.as_str())?;
+    }
+    Ok(())
+}
+
+fn count_yes(answers: &[Answer]) -> usize
+    ensures { result ≡ count_by is_yes answers.now }
+{
+    answers.iter().filter(|answer| is_yes(answer)).count()
+}
+
+fn count_no(answers: &[Answer]) -> usize
+    ensures { result ≡ count_by is_no answers.now }
+{
+    answers.iter().filter(|answer| is_no(answer)).count()
+}
+
+fn count_refused(answers: &[Answer]) -> usize
+    ensures { result ≡ count_by is_refusal answers.now }
+{
+    answers.iter().filter(|answer| is_refusal(answer)).count()
+}
+
+/// The line of how many answers are yes, no and refusals.
+fn summary_line(alloc: Global, answers: &[Answer]) -> Result<Text, Memory>
+    requires few { length answers.now ≤ 256 }
+    ensures { IfOk result (λ line. line ≡ summary_of answers.now) }
+{
+    let yes = count_yes(answers) as u32;
+    let no = count_no(answers) as u32;
+    let refused = count_refused(answers) as u32;
+    summary(alloc, yes, no, refused)
+}
+
+/// The report on the answers to a world's questions.
+pub fn report(alloc: Global, world: &World, answers: &[Answer]) -> Result<Text, Memory>
+    requires whole { All (HasWholeWord (pointer_size world.now.profile)) answers.now }
+    requires few { length answers.now ≤ 256 }
+    ensures { IfOk result (λ text. text ≡ report_of (tables_of world.now) answers.now) }
+{
+    let mut text = Text::new(alloc);
+    add_reference_lines(alloc, &mut text, world)?;
+    add_answer_lines(alloc, &mut text, world, answers)?;
+    text.push_str(summary_line(alloc, answers)?.as_str())?;
     Ok(text)
 }
 
-/// The report on some answers.
-pub fn report(alloc: Global, verdicts: &[Verdict]) -> Result<String, AllocError>
-    ensures { IfOk result (λ text. string_bytes text ≡ report_of verdicts.now) }
+fn all_yes(answers: &[Answer]) -> bool
+    ensures { result ≡ list_all is_yes answers.now }
 {
-    let mut text = lines(alloc, verdicts)?;
-    let summary = summary(alloc, count_yes(verdicts), count_no(verdicts), 0)?;
-    text.push_str(summary.as_str())?;
-    Ok(text)
-}
-
-fn all_yes(verdicts: &[Verdict]) -> bool
-    ensures { result ≡ list_all is_yes verdicts.now }
-{
-    verdicts.iter().all(|verdict| is_yes(verdict))
+    answers.iter().all(|answer| is_yes(answer))
 }
 
 /// The status of a run whose answers were written.
-pub fn status(verdicts: &[Verdict]) -> Status
-    ensures { result ≡ status_of verdicts.now }
+pub fn status(answers: &[Answer]) -> Status
+    ensures { result ≡ status_of answers.now }
 {
-    if all_yes(verdicts) {
+    if all_yes(answers) {
         Status::AllYes
     } else {
         Status::Mixed

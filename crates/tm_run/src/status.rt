@@ -3,24 +3,26 @@ ghost use Rattle.tm_run.specs.Faults.{status_of_fault};
 
 use tm_report::FileFault;
 
-/// How a run ended. The number of each is the status that the program ends with.
-///
-/// `AllYes` and `Mixed`: the report was written, and each answer is yes, or some answer isn't.
-/// `Usage`: the words aren't in form, and the usage line was written. `BadText`, `Limit` and
-/// `IllFormed`: the input isn't a question file or has what isn't answered yet, a count passes its
-/// limit, or a name in the file is at fault, and the line that says so was written.
-/// `ReadFault`: reading failed, and nothing was written. `WriteFault`: writing failed, and a part of
-/// what was to be written was. `Memory`: memory was wanting, and nothing was written.
+/// How a run ended. The place of each, counted from 0, is the status that the program ends with.
 #[derive(Clone, Copy, PartialEq, Eq, Debug)]
 pub enum Status {
+    /// The report was written, and each answer is yes.
     AllYes,
+    /// The report was written, and some answer isn't yes.
     Mixed,
+    /// The words aren't in form, and the usage line was written.
     Usage,
+    /// The input isn't a question file, and the line that says so was written.
     BadText,
+    /// A count passes its limit, and the line that says so was written.
     Limit,
+    /// Reading failed, and nothing was written.
     ReadFault,
+    /// Writing failed, and a part of what was to be written was, from its front on.
     WriteFault,
+    /// Memory was wanting, and nothing was written.
     Memory,
+    /// A name in the file is at fault, and the line that says so was written.
     IllFormed,
 }
 
