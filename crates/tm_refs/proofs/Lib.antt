@@ -11,3 +11,10 @@ pub mod NextLemmas
 pub mod FirstLemmas
 pub mod LevelLemmas
 pub mod WalkLemmas
+pub mod MoveLemmas
+pub mod ListLemmas
+pub mod CostLemmas
+pub mod AddedLemmas
+pub mod PartLemmas
+pub mod FirstRowLemmas
+pub mod LossLemmas

@@ -1,55 +1,25 @@
 -- From one round to the next: what has to be looked at again, and when nothing has.
-use Rattle.std.proofs.Common.{◌≡◌, ℕ, zero, suc, ◌+◌, ◌-◌, ◌<◌, ◌≤◌, ◌⊎◌, inl, inr, refl, sym, ◌∙◌, ap, subst, Bool, true, false, not, cond, List, [], ◌∷◌, length, Option, None, Some, take, get_or, slice_index_or, arith}
+use Rattle.std.proofs.Common.{◌≡◌, ℕ, suc, ◌+◌, ◌<◌, ◌≤◌, ◌⊎◌, inl, inr, refl, sym, ◌∙◌, ap, subst, Bool, true, false, List, [], length, Option, None, Some, take, get_or, arith}
 use Rattle.std.specs.Prelude.{is_none, MatchOption}
-use Rattle.std.specs.List.{Contains, filter, list_any, sum_by}
+use Rattle.std.specs.List.{Contains, filter}
 use Rattle.std.proofs.lemmas.Bool.{and_from, both_ways, or_left, or_right}
-use Rattle.std.proofs.Math.Nat.{mul-le-mul_left, mul-le-mul_right}
 use Rattle.std.proofs.lemmas.List.{take_all, take_more}
 use Rattle.std.proofs.lemmas.List.Elements.{Contains-push_cases}
-use Rattle.std.proofs.lemmas.List.Sums.{count_by-le-length, length-filter, sum_by-cons}
 use Rattle.tm_base.specs.declared.assume.Assume.{Assume}
 use Rattle.tm_base.specs.Compatible.{CompatibleTo, MeetsOver}
 use Rattle.tm_base.specs.Tables.{Tables, pointee_in}
 use Rattle.tm_base.proofs.CompatibleLemmas.{CompatibleTo-falls}
 use Rattle.tm_refs.specs.declared.pair.Pair.{Pair}
 use Rattle.tm_refs.specs.declared.standing.Standing.{Standing}
-use Rattle.tm_refs.specs.Looks.{IsCompatibility, all_pairs, dependents, depends_on, depends_on_some, most_looks, pair_of, row_is_mutable, row_leads_to}
-use Rattle.tm_refs.specs.Rounds.{AgreesTo, AreLost, IsEnough, IsLook, IsRound, IsSettled, IsSolvedTable, IsStanding, IsTable, gone}
+use Rattle.tm_refs.specs.Looks.{all_pairs, depends_on, depends_on_some, pair_of, row_is_mutable, row_leads_to}
+use Rattle.tm_refs.specs.Rounds.{AgreesTo, AreLost, IsEnough, IsLook, IsRound, IsSettled, IsSolvedTable, IsStanding, IsTable}
 use Rattle.tm_refs.specs.Solved.{FailsFirstAt}
 use Rattle.tm_refs.specs.Standings.{depth_of, is_held, standing_in}
-use Rattle.tm_refs.proofs.LeafLemmas.{Transmutes-moves}
-use Rattle.tm_refs.proofs.PairLemmas.{length-pairs_below}
+use Rattle.tm_refs.proofs.MoveLemmas.{Transmutes-moves}
 use Rattle.tm_refs.proofs.PointeeLemmas.{OnRows-of, OnRows-rows}
 use Rattle.tm_refs.proofs.RoundLemmas.{To-lesser, held-agrees, solved-depth, still-Compatible}
 use Rattle.tm_refs.proofs.StepLemmas.{agreed-listed}
-use Rattle.tm_refs.proofs.SumLemmas.{related-le, sum-rises}
-
-any-at : {X : Type 0} (test : X → Bool) (xs : List X) (x : X) (k : ℕ) → k < length xs → slice_index_or xs k x ≡ x → test x ≡ true → list_any test xs ≡ true
-any-at test [] x k below e passes = absurd (omega arith)
-any-at test (y ∷ xs) x zero below e passes = or_left (test y) (list_any test xs) (ap test e ∙ passes)
-any-at test (y ∷ xs) x (suc k) below e passes = or_right (test y) (list_any test xs) (any-at test xs x k (omega arith) e passes)
-
-cons-keeps : {X : Type 0} (b : Bool) (y : X) (xs : List X) (x : X) → Contains xs x → Contains (cond b (y ∷ xs) xs) x
-cons-keeps true y xs x (k, below, e) = (suc k, omega arith, e)
-cons-keeps false y xs x at = at
-
-filter-at : {X : Type 0} (test : X → Bool) (xs : List X) (x : X) (k : ℕ) → k < length xs → slice_index_or xs k x ≡ x → test x ≡ true → Contains (filter test xs) x
-filter-at test [] x k below e passes = absurd (omega arith)
-filter-at test (y ∷ xs) x zero below e passes =
-    subst (λ (b : Bool). Contains (cond b (y ∷ filter test xs) (filter test xs)) x) (sym (ap test e ∙ passes)) (zero, omega arith, e)
-filter-at test (y ∷ xs) x (suc k) below e passes = cons-keeps (test y) y (filter test xs) x (filter-at test xs x k (omega arith) e passes)
-
--- a list weighs as many ones as it has items
-pub ones : {X : Type 0} (xs : List X) → sum_by (λ (x : X). 1) xs ≡ length xs
-ones [] = refl
-ones {X} (x ∷ xs) = omega (arith, sum_by-cons (λ (y : X). 1) x xs, ones xs)
-
-pub empty : {X : Type 0} (xs : List X) → length xs ≡ 0 → xs ≡ []
-empty [] e = refl
-empty (x ∷ xs) e = absurd (omega arith)
-
-pub filled : {X : Type 0} (xs : List X) (n : ℕ) → n ≡ length xs → (n ≡ 0 → ⊥) → 0 < length xs
-filled xs n e some = omega arith
+use Rattle.tm_refs.proofs.ListLemmas.{any-at, filter-at}
 
 module _ (tables : Tables) (assume : Assume) where
   -- a table that is settled at one level is at the next
@@ -161,43 +131,8 @@ module _ (tables : Tables) (assume : Assume) where
         nowhere : Contains [] (pair_of x y) → ⊥
         nowhere (k, below, e) = omega arith
 
-  -- what is gone weighs no more than what isn't compatible
-  pub gone-least : (n : ℕ) (rows : List (List Standing)) (compatible : ℕ → ℕ → Bool) → IsSettled tables assume n rows → IsCompatibility tables assume compatible
-      → length (all_pairs tables) + gone (dependents tables) (all_pairs tables) rows ≤ most_looks tables compatible
-  gone-least n rows compatible settled is =
-      omega (arith, sum-rises (dependents tables) (λ pair. not (is_held rows pair)) (λ pair. not (compatible pair.source.0 pair.target.0)) rises (all_pairs tables)) where
-        rises : (pair : Pair) → not (is_held rows pair) ≡ true → not (compatible pair.source.0 pair.target.0) ≡ true
-        rises pair = go (is_held rows pair) (compatible pair.source.0 pair.target.0) refl refl where
-          go : (a b : Bool) → is_held rows pair ≡ a → compatible pair.source.0 pair.target.0 ≡ b → not a ≡ true → not b ≡ true
-          go a false e f h = refl
-          go false true e f h = absurd (settled.fails pair e ((is.exact pair.source.0 pair.target.0).0 f n))
-          go true true e f h = h
-
-  -- no more pairs are gone than there are
-  pub gone-most : (rows : List (List Standing)) → gone (λ pair. 1) (all_pairs tables) rows ≤ length (all_pairs tables)
-  gone-most rows = omega (
-    arith,
-    ones (filter (λ pair. not (is_held rows pair)) (all_pairs tables)),
-    length-filter (λ pair. not (is_held rows pair)) (all_pairs tables),
-    count_by-le-length (λ pair. not (is_held rows pair)) (all_pairs tables),
-  )
-
-  pub dependents-few : (lost : List Pair) → length (filter (depends_on_some tables lost) (all_pairs tables)) ≤ sum_by (dependents tables) lost
-  dependents-few lost = related-le (depends_on tables) (all_pairs tables) lost
-
   -- all pairs are enough to look at first
   pub first-enough : (n : ℕ) (rows : List (List Standing)) (asked : List Pair) → IsTable tables assume n rows → asked ≡ all_pairs tables → IsEnough tables assume n rows asked
   first-enough n rows asked table e = record {
     others = λ pair held. inl (subst (λ (ps : List Pair). Contains ps pair) (sym e) (agreed-listed tables assume n pair (held-agrees tables assume n rows table pair held)));
   }
-
-  -- a world has few references, and so few pairs
-  pub pairs-few : length tables.refs ≤ 64 → length (all_pairs tables) ≤ 4096
-  pairs-few few =
-      let n = length tables.refs in
-      omega (arith, length-pairs_below n, mul-le-mul_right n few, mul-le-mul_left 64 few)
-
-  -- where some are lost, fewer are held
-  pub fewer-held : (before after : List (List Standing)) (lost : List Pair) → AreLost tables assume before after lost → 0 < length lost
-      → length (all_pairs tables) - gone (λ pair. 1) (all_pairs tables) after < length (all_pairs tables) - gone (λ pair. 1) (all_pairs tables) before
-  fewer-held before after lost losses some = omega (arith, losses.gone_with (λ pair. 1), ones lost, gone-most after)

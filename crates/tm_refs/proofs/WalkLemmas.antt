@@ -7,7 +7,7 @@ use Rattle.tm_auto.specs.Automata.{Automaton, ReadsWords, equal, reached}
 use Rattle.tm_walk.specs.declared.walking.Found.{Found}
 use Rattle.tm_walk.specs.Meanings.{EachWordFits, IsFirstRefusal, IsLeastExample, NoWordFits, exists_skips, exists_stops, for_all_skips, for_all_stops}
 use Rattle.tm_walk.specs.Sought.{IsFound, NoneIsSought}
-use Rattle.tm_refs.proofs.NextLemmas.{empty}
+use Rattle.tm_refs.proofs.ListLemmas.{empty}
 use Rattle.tm_refs.specs.Pointees.{AutoCasts, HasNoWord, SomeWordFits}
 
 module _ (A : ℕ → ℕ → Bool) (source target : Automaton) where

@@ -1,7 +1,7 @@
 use Rattle.std.proofs.Common.{◌≤◌, ◌<◌, ◌∙◌, refl, subst, length, arith}
 use Rattle.std.proofs.lemmas.List.{length-set}
 use Rattle.tm_base.specs.Worlds.{tables_of}
-use Rattle.tm_refs.proofs.FirstLemmas.{blank-more, row-done, row-more, row-start}
+use Rattle.tm_refs.proofs.FirstRowLemmas.{blank-more, row-done, row-more, row-start}
 use Rattle.tm_refs.proofs.first.first_row.Goals as goal
 
 pub loop-target-init : goal.loop-target-init

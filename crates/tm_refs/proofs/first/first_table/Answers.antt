@@ -1,6 +1,7 @@
 use Rattle.std.proofs.Common.{◌≤◌, ◌+◌, ◌∙◌, ◌∷◌, [], ap, subst, length, length-append}
 use Rattle.tm_base.specs.Worlds.{tables_of}
-use Rattle.tm_refs.proofs.FirstLemmas.{first-settled, first-table, rows-done, rows-more}
+use Rattle.tm_refs.proofs.FirstRowLemmas.{first-settled, first-table, rows-done}
+use Rattle.tm_refs.proofs.FirstRowLemmas.{rows-more}
 use Rattle.tm_refs.proofs.first.first_table.Goals as goal
 
 pub loop-source-preserved : goal.loop-source-preserved

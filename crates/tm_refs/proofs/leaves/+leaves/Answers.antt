@@ -10,7 +10,9 @@ use Rattle.tm_layout.specs.Made.{EachIs}
 use Rattle.tm_layout.proofs.MakingLemmas.{nodes-Array, nodes-row, nodes-Tuple, nodes-Wrap, row-in_form, whole-there}
 use Rattle.tm_layout.proofs.NodeLemmas.{all_nodes, nodes_at, nodes_in, row_nodes, row_nodes_at}
 use Rattle.tm_refs.specs.Leaves.{leaf_of, variant_leaf}
-use Rattle.tm_refs.proofs.LevelLemmas.{added-none, added-one, added-same, leaf-Array, leaf-none, leaf-Ref, leaf-row, leaf-Tuple, leaf-Wrap, over-Array, over-row, over-Tuple, over-Wrap, reference-below, written-out}
+use Rattle.tm_refs.proofs.AddedLemmas.{added-none, added-one, added-same}
+use Rattle.tm_refs.proofs.LevelLemmas.{leaf-Array, leaf-none, leaf-Ref, leaf-row, leaf-Tuple, leaf-Wrap, written-out}
+use Rattle.tm_refs.proofs.PartLemmas.{over-Array, over-row, over-Tuple, over-Wrap, reference-below}
 use Rattle.tm_refs.proofs.leaves.+leaves.Goals as goal
 
 pub add_row-unreachable-requires : goal.add_row-unreachable-requires

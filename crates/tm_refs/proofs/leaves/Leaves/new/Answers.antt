@@ -1,7 +1,7 @@
 use Rattle.std.proofs.Common.{◌≡◌, ◌≤◌, ◌+◌, ◌∙◌, ◌∷◌, [], ap, refl, subst, length, Some, slice_get, length-append}
 use Rattle.std.proofs.lemmas.Option.{slice_get_read}
 use Rattle.tm_base.specs.Worlds.{tables_of}
-use Rattle.tm_refs.proofs.LevelLemmas.{leaves-done, leaves-more}
+use Rattle.tm_refs.proofs.AddedLemmas.{leaves-done, leaves-more}
 use Rattle.tm_refs.proofs.PointeeLemmas.{pointee-over}
 use Rattle.tm_refs.proofs.leaves.Leaves.new.Goals as goal
 

@@ -2,7 +2,8 @@ use Rattle.std.proofs.Common.{◌≤◌, ◌<◌, ◌∙◌, sym, length, arith}
 use Rattle.std.proofs.lemmas.Bool.{both_ways}
 use Rattle.tm_base.specs.Worlds.{tables_of}
 use Rattle.tm_refs.proofs.RoundLemmas.{held-agrees}
-use Rattle.tm_refs.proofs.StepLemmas.{agreed-below, agreed-judged, look-agrees, look-left, look-lost, look-passed}
+use Rattle.tm_refs.proofs.LossLemmas.{look-left, look-lost, look-passed}
+use Rattle.tm_refs.proofs.StepLemmas.{agreed-below, agreed-judged, look-agrees}
 use Rattle.tm_refs.proofs.rounds.Rounds.look.Goals as goal
 
 pub returns-then-not-is_held-clause-look : goal.returns-then-not-is_held-clause-look

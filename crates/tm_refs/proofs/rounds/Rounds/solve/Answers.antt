@@ -4,7 +4,9 @@ use Rattle.std.proofs.lemmas.Bool.{eqb-false, eqb-true}
 use Rattle.tm_base.specs.Worlds.{tables_of}
 use Rattle.tm_refs.specs.Looks.{all_pairs, dependents, depends_on_some, pairs_below}
 use Rattle.tm_refs.specs.Rounds.{IsEnough, IsSettled, IsTable}
-use Rattle.tm_refs.proofs.NextLemmas.{dependents-few, fewer-held, first-enough, gone-least, gone-most, next-enough, ones, pairs-few, empty, filled, still-solved}
+use Rattle.tm_refs.proofs.CostLemmas.{dependents-few, fewer-held, gone-least, gone-most, pairs-few}
+use Rattle.tm_refs.proofs.ListLemmas.{ones, empty, filled}
+use Rattle.tm_refs.proofs.NextLemmas.{first-enough, next-enough, still-solved}
 use Rattle.tm_refs.proofs.rounds.Rounds.solve.Goals as goal
 
 pub rounds-init : goal.rounds-init
