@@ -52,7 +52,7 @@ fn ends(
 #[test]
 fn answers_with_ample_memory(rt: HostRuntime) -> Result<(), Fail> {
     let file = "ask [u16; 2] => u32; ask u32 => [bool; 4];";
-    let report = "1: yes\n2: no\n1 yes, 1 no, 0 refused\n";
+    let report = "1: yes\n2: no, byte-value at 0, bytes 02 00 00 00\n1 yes, 1 no, 0 refused\n";
     assert!(rt; ends(&rt, file, 100, Status::Mixed, report)?);
     let line = "ill-formed unknown at byte 4, line 1\n";
     assert!(rt; ends(&rt, "ask Foo => u8;", 100, Status::IllFormed, line)?);
