@@ -13,10 +13,6 @@ mod lines;
 #[cfg(test)]
 mod marks;
 #[cfg(test)]
-mod references;
-#[cfg(test)]
 mod runs;
-#[cfg(test)]
-mod walks;
 #[cfg(test)]
 mod words;

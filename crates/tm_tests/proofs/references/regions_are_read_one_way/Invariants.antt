@@ -1,5 +1,0 @@
-use Rattle.tm_tests.proofs.references.regions_are_read_one_way.Given as goal
-
--- the ledger of the one counter
-abbrev pub ghosts-table : goal.ghosts-table
-ghosts-table a = record { name = a.blank.name; parts = a.blank.parts }
