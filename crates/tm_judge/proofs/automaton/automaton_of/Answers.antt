@@ -1,18 +1,18 @@
 use Rattle.std.proofs.lemmas.Bool.{false≢true}
 use Rattle.std.proofs.Common.{sym, ◌∙◌}
 use Rattle.tm_base.specs.Worlds.{tables_of}
-use Rattle.tm_refs.proofs.HeldLemmas.{judged-has_layout}
+use Rattle.tm_tree.proofs.JudgedLemmas.{judged-laid_out}
 use Rattle.tm_judge.proofs.AutomatonLemmas.{build-sized, built}
 use Rattle.tm_judge.proofs.automaton.automaton_of.Goals as goal
 
 pub unreachable-requires : goal.unreachable-requires
 unreachable-requires c =
-    let none = judged-has_layout (tables_of c.args.world.now) c.args.g.now c.requires.over c.requires.judged in
+    let none = judged-laid_out c.args.world.now c.args.g.now c.requires.over c.requires.judged in
     let some = (c.in-Err.ensures.answer (tables_of c.args.world.now) c.requires.made c.requires.over).0 in
     false≢true (sym none ∙ some)
 
 pub tree_of-requires-clause-judged : goal.tree_of-requires-clause-judged
-tree_of-requires-clause-judged c = judged-has_layout (tables_of c.args.world.now) c.args.g.now c.requires.over c.requires.judged
+tree_of-requires-clause-judged c = judged-laid_out c.args.world.now c.args.g.now c.requires.over c.requires.judged
 
 pub build-requires-clause-sized : goal.build-requires-clause-sized
 build-requires-clause-sized c =
