@@ -59,3 +59,27 @@ measure "256 questions that are no"
     for i in $(seq 0 63); do echo "ask T$((i % 24)) => T$(((i * 7) % 24));"; done
 } >"$work/file"
 measure "64 questions over 24 declarations"
+
+chain() { # LENGTH
+    for i in $(seq 0 $(($1 - 2))); do echo "#[repr(C)] struct C$i { pub next: &'static C$((i + 1)) }"; done
+    echo "#[repr(C)] struct C$(($1 - 1)) { pub b: u8 }"
+    echo 'ask C0 => C0;'
+}
+chain 30 >"$work/file"
+measure "a chain of thirty references"
+
+overlapping() { # ALTERNATIVES
+    local i j
+    for i in $(seq "$1"); do
+        echo "#[repr(C)] pub struct A$i {"
+        for j in $(seq "$1"); do [ "$i" = "$j" ] && echo "pub f$j: bool," || echo "pub f$j: u8,"; done
+        echo '}'
+    done
+    echo '#[repr(C)] pub union U {'
+    for i in $(seq "$1"); do echo "pub a$i: A$i,"; done
+    echo "} ask [u8; $1] => U;"
+}
+for n in 8 12 16; do
+    overlapping "$n" >"$work/file"
+    measure "alternatives that overlap, $n"
+done
