@@ -14,3 +14,9 @@ pub mod LiveLemmas
 pub mod FoundLemmas
 pub mod CostLemmas
 pub mod RunLemmas
+pub mod WithinLemmas
+pub mod ImpliesLemmas
+pub mod AddedLemmas
+pub mod FollowLemmas
+pub mod SoundLemmas
+pub mod InclusionLemmas

@@ -4,3 +4,4 @@ pub mod Layers
 pub mod Numbers
 pub mod Ways
 pub mod Words
+pub mod Obligations

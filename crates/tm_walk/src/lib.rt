@@ -20,14 +20,21 @@
 //! A pair is expanded once, by the classes of its sets, which costs one step. Where both automata have one
 //! state at each place at most, at most one pair of a layer is expanded. A call that takes memory may
 //! answer `Memory`; nothing else fails.
+//!
+//! `is_included` asks only whether each source word fits, and names no word. It goes through single states
+//! of the source, each with the least of the target's sets, so that alternatives that overlap don't
+//! multiply.
 #![tactic(auto)]
 
 mod advance;
+mod antichain;
 mod completion;
 mod history;
+mod inclusion;
 mod laws;
 mod layer;
 mod live;
+mod obligation;
 mod quantifier;
 mod reading;
 mod sets;
@@ -35,6 +42,7 @@ mod symbol;
 mod walking;
 mod way;
 
+pub use inclusion::is_included;
 pub use laws::{exists_seeks_examples, for_all_seeks_refusals};
 pub use quantifier::{Exists, ForAll, Quantifier};
 pub use walking::{Found, walk};

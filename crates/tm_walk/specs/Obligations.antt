@@ -1,0 +1,87 @@
+-- What inclusion asks for, place by place: obligations, each of one state of the source and some of the target's. Of those
+-- that imply one another the least are kept, an antichain: De Wulf, Doyen, Henzinger and Raskin, 'Antichains: A New
+-- Algorithm for Checking Universality of Finite Automata' (2006).
+use Rattle.std.specs.Prelude.{◌≡◌, ℕ, ◌<◌, ◌≤◌, ◌⊎◌, ◌&&◌, ◌==◌, not, Bool, true, false, List, [], ◌∷◌}
+use Rattle.std.specs.List.{list_all}
+use Rattle.tm_base.specs.declared.cell.Cell.{Cell}
+use Rattle.tm_base.specs.declared.cell.Cell.TheVariants.{Uninit}
+use Rattle.tm_base.specs.Transmutes.{holds}
+use Rattle.tm_auto.specs.declared.edge.Edge.{Edge}
+use Rattle.tm_auto.specs.declared.edge.Symbol.{Symbol}
+use Rattle.tm_auto.specs.Automata.{Automaton, AreStates, edges_from, equal}
+use Rattle.tm_auto.specs.Labels.{Takes}
+use Rattle.tm_auto.specs.Paths.{Among}
+use Rattle.tm_auto.specs.Sets.{has_state, next, passes, symbol_of}
+use Rattle.tm_walk.specs.declared.obligation.Obligation.{Obligation}
+use Rattle.tm_walk.specs.Layers.{is_live}
+
+-- each of the first states is one of the second
+abbrev pub is_within : List ℕ → List ℕ → Bool
+is_within part whole = list_all (has_state whole) part
+
+-- where the first is met so is the second: the target has all of the first's states, and maybe more
+abbrev pub implies : Obligation → Obligation → Bool
+implies o p = (o.state == p.state) && is_within o.target p.target
+
+abbrev pub implied_by : Obligation → Obligation → Bool
+implied_by p o = implies o p
+
+-- one of them implies it
+abbrev pub IsImplied : List Obligation → Obligation → Type 0
+IsImplied os p = (o : Obligation) × Among o os × (implies o p ≡ true)
+
+-- none of them implies another
+abbrev pub IsAntichain : List Obligation → Type 0
+IsAntichain [] = Unit {0}
+IsAntichain (o ∷ os) = ((p : Obligation) → Among p os → (implies o p ≡ false) × (implies p o ≡ false)) × IsAntichain os
+
+-- no state of the target is left to meet it
+abbrev pub is_refused : Obligation → Bool
+is_refused o = not (is_live o.target)
+
+-- those of P are added, and nothing else: each of them, and each that was there, is there or implied
+pub record AreAdded (P : Obligation → Type 0) (before after : List Obligation) : Type 0 where
+  pub from : (o : Obligation) → Among o after → Among o before ⊎ P o
+  pub kept : (o : Obligation) → Among o before → IsImplied after o
+  pub added : (o : Obligation) → P o → IsImplied after o
+
+module _ (src dst : Automaton) where
+  -- before the first cell: what begins at a start begins at one of the target's
+  pub record IsFirst (o : Obligation) : Type 0 where
+    pub state : Among o.state src.starts
+    pub reached : o.reached ≡ src.starts
+    pub target : o.target ≡ dst.starts
+
+  -- it is of states of the two, and up to the source's end its state is one of those reached
+  pub record IsPlaced (place : ℕ) (o : Obligation) : Type 0 where
+    pub reached : AreStates src o.reached
+    pub target : AreStates dst o.target
+    pub state : place ≤ src.size → Among o.state o.reached
+
+module _ (A : ℕ → ℕ → Bool) (src dst : Automaton) where
+  -- the obligation of a state, behind a symbol
+  abbrev pub behind : Obligation → Symbol → ℕ → Obligation
+  behind o x s = record { state = s; reached = next equal src.edges o.reached x; target = next A dst.edges o.target x }
+
+  -- the edge passes the symbol and leads to the second
+  abbrev pub FollowsEdge : Obligation → Symbol → Edge → Obligation → Type 0
+  FollowsEdge o x e p = (passes equal e.label x ≡ true) × (p ≡ behind o x e.to)
+
+  -- an edge out of its state does
+  abbrev pub FollowsSymbol : Obligation → Symbol → Obligation → Type 0
+  FollowsSymbol o x p = (e : Edge) × Among e (edges_from o.state src.edges) × FollowsEdge o x e p
+
+  -- A source word may have the cell at the place and lead from the one state to the other. Behind its end only uninitialised
+  -- cells follow, and the end stays.
+  abbrev pub Moves : ℕ → ℕ → Cell → ℕ → Type 0
+  Moves place s c t =
+      ((place < src.size) × ((e : Edge) × Among e src.edges × (e.from ≡ s) × Takes (holds equal) e.label c × (e.to ≡ t)))
+      ⊎ ((src.size ≤ place) × (c ≡ Uninit) × (t ≡ s))
+
+  -- the second is what becomes of the first behind some cell
+  abbrev pub Follows : ℕ → Obligation → Obligation → Type 0
+  Follows place o p = (c : Cell) × Moves place o.state c p.state × (p ≡ behind o (symbol_of c) p.state)
+
+  -- it follows from one of them
+  abbrev pub FollowsSome : ℕ → List Obligation → Obligation → Type 0
+  FollowsSome place os p = (o : Obligation) × Among o os × Follows place o p
