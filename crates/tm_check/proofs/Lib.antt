@@ -1,0 +1,17 @@
+pub mod CutLemmas
+pub mod NumberLemmas
+pub mod RunLemmas
+pub mod LeafLemmas
+pub mod ScalarLemmas
+pub mod ReferenceLemmas
+pub mod PartLemmas
+pub mod PlaceLemmas
+pub mod FieldLemmas
+pub mod TransparentLemmas
+pub mod SoundLemmas
+pub mod ToldLemmas
+pub mod ExactLemmas
+pub mod LaidOutLemmas
+pub mod DefinedLemmas
+pub mod EnumLemmas
+pub mod StepLemmas

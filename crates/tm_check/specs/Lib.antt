@@ -1,0 +1,5 @@
+pub mod Runs
+pub mod Numbers
+pub mod Begins
+pub mod Checked
+pub mod LaidOut
