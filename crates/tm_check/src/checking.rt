@@ -22,7 +22,8 @@ impl<M: RefTest> Matcher<'_, M> {
     fn takes(&self, g: &Ground, run: Run<'_>) -> bool
         requires { IsLaidOut (tables_of self.now.world.now) g.now }
         ensures { let t = expanded_in (tables_of self.now.world.now) g.now in
-            IsTrue result ↔ Valid (holds (M.test self.now.refs.now)) self.now.keep_private t (word_of run.entry) }
+            IsTrue result
+            ↔ Valid (holds (M.test self.now.refs.now)) self.now.keep_private t (word_of run.entry) }
     {
         run.has(self.size(g) as usize) && self.begins(g, run)
     }
@@ -31,7 +32,8 @@ impl<M: RefTest> Matcher<'_, M> {
     fn goes_on(&self, g: &Ground, run: Run<'_>) -> bool
         requires { IsLaidOut (tables_of self.now.world.now) g.now }
         ensures { let t = expanded_in (tables_of self.now.world.now) g.now in
-            IsTrue result ↔ Viable (holds (M.test self.now.refs.now)) self.now.keep_private t (word_of run.entry) }
+            IsTrue result
+            ↔ Viable (holds (M.test self.now.refs.now)) self.now.keep_private t (word_of run.entry) }
     {
         let matcher = Matcher {
             world: self.world,
@@ -55,7 +57,8 @@ impl<M: RefTest> Matcher<'_, M> {
     fn refuses_at(&self, g: &Ground, word: &[Cell], offset: u32) -> bool
         requires { IsLaidOut (tables_of self.now.world.now) g.now }
         ensures { let t = expanded_in (tables_of self.now.world.now) g.now in
-            IsTrue result ↔ RefusesAt (holds (M.test self.now.refs.now)) self.now.keep_private t word.now offset }
+            IsTrue result
+            ↔ RefusesAt (holds (M.test self.now.refs.now)) self.now.keep_private t word.now offset }
     {
         if offset >= self.size(g) {
             return false;
@@ -86,7 +89,9 @@ impl<M: RefTest> Matcher<'_, M> {
         requires source { IsLaidOut (tables_of self.now.world.now) ask.now.src }
         requires target { IsLaidOut (tables_of self.now.world.now) ask.now.dst }
         requires safety { self.now.keep_private ≡ ask.now.assume.safety }
-        ensures { IsTrue result ↔ IsTaken (holds (M.test self.now.refs.now)) (tables_of self.now.world.now) ask.now word.now }
+        ensures { IsTrue result
+            ↔ IsTaken (holds (M.test self.now.refs.now)) (tables_of self.now.world.now)
+            ask.now word.now }
     {
         is_value(self.world, self.layouts, &ask.src, word) && self.takes_fitted(&ask.dst, word)
     }
@@ -96,7 +101,9 @@ impl<M: RefTest> Matcher<'_, M> {
         requires source { IsLaidOut (tables_of self.now.world.now) ask.now.src }
         requires target { IsLaidOut (tables_of self.now.world.now) ask.now.dst }
         requires safety { self.now.keep_private ≡ ask.now.assume.safety }
-        ensures { IsTrue result ↔ IsRefused (holds (M.test self.now.refs.now)) (tables_of self.now.world.now) ask.now word.now offset }
+        ensures { IsTrue result
+            ↔ IsRefused (holds (M.test self.now.refs.now)) (tables_of self.now.world.now)
+            ask.now word.now offset }
     {
         is_value(self.world, self.layouts, &ask.src, word)
             && self.refuses_at(&ask.dst, word, offset)
@@ -166,9 +173,12 @@ pub fn check<M: RefTest>(
     requires made { IsMadeFor (tables_of world.now) layouts.now }
     requires source_over { IsTypeOver (tables_of world.now) ask.now.src }
     requires target_over { IsTypeOver (tables_of world.now) ask.now.dst }
-    requires source_judged { has_no_layout (expanded_in (tables_of world.now) ask.now.src) ≡ false }
-    requires target_judged { has_no_layout (expanded_in (tables_of world.now) ask.now.dst) ≡ false }
-    ensures exact { IsTrue result ↔ IsBorneOut (holds (M.test refs.now)) (tables_of world.now) ask.now answer.now }
+    requires source_judged { let part = expanded_in (tables_of world.now) in
+        has_no_layout (part ask.now.src) ≡ false }
+    requires target_judged { let part = expanded_in (tables_of world.now) in
+        has_no_layout (part ask.now.dst) ≡ false }
+    ensures exact { IsTrue result
+        ↔ IsBorneOut (holds (M.test refs.now)) (tables_of world.now) ask.now answer.now }
 {
     let target = Matcher {
         world,

@@ -50,7 +50,8 @@ impl<M: RefTest> Matcher<'_, M> {
 
     /// Whether a struct or a union may be made: private types keep their values, or each field is public.
     fn may_be_made(&self, def: &Def) -> bool
-        ensures { result ≡ (self.now.keep_private || list_all (λ v. list_all (λ f. f.public) v.fields) def.now.variants) }
+        ensures { let public = list_all (λ v. list_all (λ f. f.public) v.fields) in
+            result ≡ (self.now.keep_private || public def.now.variants) }
     {
         self.keep_private || is_public(def)
     }
@@ -60,7 +61,8 @@ impl<M: RefTest> Matcher<'_, M> {
     pub fn named(&self, id: NamedId, run: Run<'_>) -> bool
         requires { IsLaidOut (tables_of self.now.world.now) (Named id) }
         ensures { let part = expanded_in (tables_of self.now.world.now) in
-            result ≡ begins (M.test self.now.refs.now) self.now.keep_private (part (Named id)) (word_of run.entry) }
+            result ≡ begins (M.test self.now.refs.now) self.now.keep_private
+            (part (Named id)) (word_of run.entry) }
     {
         let Some(row) = self.world.named.get(id.0 as usize) else {
             unreachable!();
@@ -76,7 +78,8 @@ impl<M: RefTest> Matcher<'_, M> {
     fn defined(&self, id: NamedId, def: &Def, types: &[List<Ground>], run: Run<'_>) -> bool
         requires { IsDefinition (tables_of self.now.world.now) id def.now types.now }
         ensures { let part = expanded_in (tables_of self.now.world.now) in
-            result ≡ begins (M.test self.now.refs.now) self.now.keep_private (part (Named id)) (word_of run.entry) }
+            result ≡ begins (M.test self.now.refs.now) self.now.keep_private
+            (part (Named id)) (word_of run.entry) }
     {
         match def.kind {
             Kind::Struct => self.may_be_made(def) && self.fields(id, 0, 0, only(types), run),

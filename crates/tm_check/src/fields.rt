@@ -54,7 +54,8 @@ impl<M: RefTest> Matcher<'_, M> {
     pub fn some_field(&self, types: &[Ground], run: Run<'_>) -> bool
         requires { EachIs (IsLaidOut (tables_of self.now.world.now)) types.now }
         ensures { let part = expanded_in (tables_of self.now.world.now) in
-            result ≡ some_field_begins (M.test self.now.refs.now) self.now.keep_private (elements part types.now) (word_of run.entry) }
+            result ≡ some_field_begins (M.test self.now.refs.now) self.now.keep_private
+            (elements part types.now) (word_of run.entry) }
     {
         for g in types {
             let size = self.size(g) as usize;
@@ -74,7 +75,8 @@ impl<M: RefTest> Matcher<'_, M> {
             let part = expanded_in (tables_of self.now.world.now) in
             let variants = variants_of part def.now.variants types.now in
             result ≡ some_variant_begins (M.test self.now.refs.now) self.now.keep_private
-            profile def.now.repr (fields_place profile def.now.repr variants) variants (word_of run.entry) }
+            profile def.now.repr (fields_place profile def.now.repr variants)
+            variants (word_of run.entry) }
     {
         let size = self.tag_size(def.repr.tag);
         let behind = run.behind(size as usize);

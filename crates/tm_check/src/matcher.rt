@@ -44,7 +44,8 @@ impl<M: RefTest> Matcher<'_, M> {
     pub fn begins(&self, g: &Ground, run: Run<'_>) -> bool
         requires { IsLaidOut (tables_of self.now.world.now) g.now }
         ensures { let part = expanded_in (tables_of self.now.world.now) in
-            result ≡ begins (M.test self.now.refs.now) self.now.keep_private (part g.now) (word_of run.entry) }
+            result ≡ begins (M.test self.now.refs.now) self.now.keep_private
+            (part g.now) (word_of run.entry) }
     {
         match g {
             Ground::Never => false,
@@ -70,7 +71,8 @@ impl<M: RefTest> Matcher<'_, M> {
     fn array(&self, element: &Ground, count: u32, run: Run<'_>) -> bool
         requires { IsLaidOut (tables_of self.now.world.now) element.now }
         ensures { let t = expanded_in (tables_of self.now.world.now) element.now in
-            result ≡ times_begin count (size_of t) (begins (M.test self.now.refs.now) self.now.keep_private t) (word_of run.entry) }
+            let test = begins (M.test self.now.refs.now) self.now.keep_private t in
+            result ≡ times_begin count (size_of t) test (word_of run.entry) }
     {
         let size = self.size(element) as usize;
         let mut left = count;

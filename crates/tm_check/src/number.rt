@@ -38,7 +38,8 @@ fn with_byte(profile: Profile, number: u128, count: u32, byte: u8) -> u128
 /// The number of initialised bytes. `None`: some cell is none.
 fn number_of(profile: Profile, cells: &[Cell]) -> Option<u128>
     requires few { length cells.now ≤ 16 }
-    ensures { result ≡ if list_all is_byte cells.now then Some (number_of profile cells.now) else None }
+    ensures { let number = number_of profile cells.now in
+        result ≡ if list_all is_byte cells.now then Some number else None }
 {
     let mut number = 0;
     for (count, cell) in cells.iter().enumerate() {
