@@ -2,6 +2,7 @@
 use Rattle.std.proofs.Common.{◌≡◌, ℕ, inr, refl, sym, ap, subst, None, Some, List}
 use Rattle.tm_base.specs.declared.limit.LimitKind.{LimitKind}
 use Rattle.tm_base.specs.declared.limit.LimitKind.TheVariants as limit
+use Rattle.tm_base.specs.declared.profile.Profile.{Profile}
 use Rattle.tm_base.specs.declared.world.World.{World}
 use Rattle.tm_names.specs.ApartNames.{HasApartNames}
 use Rattle.tm_names.specs.InForm.{IsInForm}
@@ -16,19 +17,19 @@ use Rattle.tm_run.specs.Examined.{IsExamined, IsLateFault, IsMeaningOf, IsOnlyFa
 use Rattle.tm_run.specs.Faults.{IsFirstLimit, PassesLimitOnTypes}
 
 -- what holds of each limit on closed types holds of each late fault
-by_late : (file : List ℕ) (P : FileFault → Type 0) → ((kind : LimitKind) → PassesLimitOnTypes file kind → P (Passed kind None))
-    → (fault : FileFault) → IsLateFault file fault → P fault
-by_late file P limits (NotUtf8 at) h = absurd h
-by_late file P limits (NoToken at) h = absurd h
-by_late file P limits (BadNumber at) h = absurd h
-by_late file P limits (OpenComment at) h = absurd h
-by_late file P limits (Unexpected at) h = absurd h
-by_late file P limits (EndOfFile at) h = absurd h
-by_late file P limits (Passed kind None) h = limits kind h
-by_late file P limits (Passed kind (Some at)) h = absurd h
-by_late file P limits (Names why at) h = absurd h
-by_late file P limits (BadRefutation line) h = absurd h
-by_late file P limits (NoQuestion number) h = absurd h
+by_late : (profile : Profile) (file : List ℕ) (P : FileFault → Type 0) → ((kind : LimitKind) → PassesLimitOnTypes profile file kind → P (Passed kind None))
+    → (fault : FileFault) → IsLateFault profile file fault → P fault
+by_late profile file P limits (NotUtf8 at) h = absurd h
+by_late profile file P limits (NoToken at) h = absurd h
+by_late profile file P limits (BadNumber at) h = absurd h
+by_late profile file P limits (OpenComment at) h = absurd h
+by_late profile file P limits (Unexpected at) h = absurd h
+by_late profile file P limits (EndOfFile at) h = absurd h
+by_late profile file P limits (Passed kind None) h = limits kind h
+by_late profile file P limits (Passed kind (Some at)) h = absurd h
+by_late profile file P limits (Names why at) h = absurd h
+by_late profile file P limits (BadRefutation line) h = absurd h
+by_late profile file P limits (NoQuestion number) h = absurd h
 
 module _ (resolved : Resolved) where
   -- what holds of the three kinds of limits on closed types holds of each that is the first
@@ -65,33 +66,33 @@ module _ (resolved : Resolved) where
   no_limit : IsWithinLimits resolved → (kind : LimitKind) → IsFirstLimit resolved kind → ⊥
   no_limit w = by_kind (λ kind. ⊥) (λ h. w.types h) (λ h. w.refs h.1) (λ h. w.depth h.2)
 
-module _ (file : List ℕ) (resolved : Resolved) (m : IsMeaningOf file resolved) where
-  first_here : (kind : LimitKind) (h : PassesLimitOnTypes file kind) → IsFirstLimit resolved kind
+module _ (profile : Profile) (file : List ℕ) (resolved : Resolved) (m : IsMeaningOf profile file resolved) where
+  first_here : (kind : LimitKind) (h : PassesLimitOnTypes profile file kind) → IsFirstLimit resolved kind
   first_here kind h = subst (λ (r : Resolved). IsFirstLimit r kind) (m.only h.resolved h.names) h.first
 
   -- the limit that is passed is the one fault
-  limit_only : (kind : LimitKind) → IsFirstLimit resolved kind → IsOnlyFault file (Passed kind None)
+  limit_only : (kind : LimitKind) → IsFirstLimit resolved kind → IsOnlyFault profile file (Passed kind None)
   limit_only kind first = record {
     has = inr (record { resolved = resolved; names = m.names; first = first });
-    only = λ other h. by_late file (λ other. other ≡ Passed kind None)
+    only = λ other h. by_late profile file (λ other. other ≡ Passed kind None)
         (λ k passes. ap (λ k. Passed k None) (one_limit resolved kind k first (first_here k passes)))
         other (m.faultless other h);
     refused = λ a. absurd (no_limit a.resolved a.limits kind (subst (λ (r : Resolved). IsFirstLimit r kind) (sym (m.only a.resolved a.names)) first));
   }
 
   -- a cause for which the types aren't closed stops the file
-  pub cause_stops : (err : GroundErr) → HasCause resolved err → IsStop file (stop_of err)
+  pub cause_stops : (err : GroundErr) → HasCause resolved err → IsStop profile file (stop_of err)
   cause_stops ground_err.TooManyTypes h = limit_only limit.NamedTypes h
   cause_stops ground_err.TooManyRefs h = limit_only limit.References h
   cause_stops ground_err.TooDeep h = limit_only limit.Depth h
   cause_stops ground_err.Memory h = tt
 
   -- where they are, the file has no fault
-  pub examined : (world : World) → IsInForm resolved → HasApartNames resolved → IsWithinLimits resolved → BelongsToFile resolved world → IsExamined file world
+  pub examined : (world : World) → IsInForm resolved → HasApartNames resolved → IsWithinLimits resolved → BelongsToFile resolved world → IsExamined profile file world
   examined world form apart limits belongs = record {
     of_file = record { resolved = resolved; names = m.names; limits = limits; belongs = belongs };
     form = form;
     apart = apart;
     only = m.only;
-    faultless = λ fault h. by_late file (λ fault. ⊥) (λ k passes. no_limit resolved limits k (first_here k passes)) fault (m.faultless fault h);
+    faultless = λ fault h. by_late profile file (λ fault. ⊥) (λ k passes. no_limit resolved limits k (first_here k passes)) fault (m.faultless fault h);
   }

@@ -1,21 +1,57 @@
--- What a run did once its input was read.
-use Rattle.std.proofs.Common.{◌≡◌, ◌≤◌, ℕ, inl, inr, Option, None, List, length}
+-- What a run did, by what became of its input.
+use Rattle.std.proofs.Common.{◌≡◌, ◌≤◌, ℕ, true, false, inl, inr, is_some, not, refl, subst, sym, Option, None, Some, List, length}
 use Rattle.tm_base.specs.declared.limit.LimitKind.TheVariants.{FileBytes}
+use Rattle.tm_gen.specs.Generated.{generated_file}
+use Rattle.tm_io.specs.Faults.{Rose}
 use Rattle.tm_io.specs.Told.{TakesAll, TakesPast}
 use Rattle.tm_report.specs.declared.fault.FileFault.TheVariants.{Passed}
 use Rattle.tm_run.specs.Files.{file_bytes}
-use Rattle.tm_run.specs.Runs.{Answers, Declines, Did, lacked_memory, overflowed, answered}
+use Rattle.tm_run.specs.Runs.{Answers, Declines, Did, GetsFile, IsSilent, failed_to_read, lacked_memory, overflowed, answered}
+use Rattle.tm_run.specs.Words.{is_read}
+use Rattle.tm_run.specs.declared.options.Options.{Options}
 use Rattle.tm_run.specs.declared.status.Status.{Status}
+use Rattle.tm_run.specs.declared.status.Status.TheVariants.{ReadFault, Memory}
 
-module _ {W : Type 0} (words : List W) (left left' : Option (List ℕ)) (reads reads' : ℕ) (written written' : Option (List ℕ)) (writes writes' : ℕ) (result : Status) where
-  -- a file was read whole, and was answered or memory was wanting
-  pub settled-did : (file : List ℕ) → length words ≡ 0 → reads' ≡ reads → TakesAll left left' file → length file ≤ file_bytes
-      → Answers written written' writes writes' file result → Did words left left' reads reads' written written' writes writes' result
-  settled-did file none kept takes short (inl s) = answered (record { in_form = none; reads_are = kept; file = file; takes = takes; short = short; settles = s })
-  settled-did file none kept takes short (inr (e, silent)) = lacked_memory (record { in_form = none; is = e; reads_are = kept; silent = silent })
+-- an input is read where no file is generated
+pub read-so : (number : Option ℕ) → number ≡ None → not (is_some number) ≡ true
+read-so None e = refl
+read-so (Some n) e = cc
 
-  -- the input was too long, and its line was written or memory was wanting
-  pub declined-did : length words ≡ 0 → reads' ≡ reads → TakesPast left left' file_bytes → Declines written written' writes writes' (Passed FileBytes None) result
-      → Did words left left' reads reads' written written' writes writes' result
-  declined-did none kept past (inl f) = overflowed (record { in_form = none; reads_are = kept; past = past; finishes = f })
-  declined-did none kept past (inr (e, silent)) = lacked_memory (record { in_form = none; is = e; reads_are = kept; silent = silent })
+module _ (options : Options) (left left' : Option (List ℕ)) (reads reads' : ℕ) (written written' : Option (List ℕ)) (writes writes' : ℕ) (result : Status) where
+  abbrev DidSo : Type 0
+  DidSo = Did (Some options) left left' reads reads' written written' writes writes' result
+
+  -- a file was got, and was answered or memory was wanting
+  got-did : (file : List ℕ) → reads' ≡ reads → GetsFile options.generate left left' file → (is_read (Some options) ≡ false → left' ≡ left)
+      → Answers written written' writes writes' options file result → DidSo
+  got-did file kept gets unread (inl s) = answered (record { options = options; in_form = refl; reads_are = kept; file = file; gets = gets; settles = s })
+  got-did file kept gets unread (inr (e, silent)) = lacked_memory (record { is = e; unread = unread; reads_are = kept; silent = silent })
+
+  module _ (none : options.generate ≡ None) where
+    not-unread : is_read (Some options) ≡ false → left' ≡ left
+    not-unread h = let so = read-so options.generate none in cc
+
+    pub read-did : (file : List ℕ) → reads' ≡ reads → TakesAll left left' file → length file ≤ file_bytes → Answers written written' writes writes' options file result → DidSo
+    read-did file kept takes short answers =
+        got-did file kept (subst (λ (number : Option ℕ). GetsFile number left left' file) (sym none) (takes, short)) not-unread answers
+
+    -- reading failed
+    pub failed-did : result ≡ ReadFault → Rose reads reads' → IsSilent written written' writes writes' → DidSo
+    failed-did e rose silent = failed_to_read (record { to_read = read-so options.generate none; is = e; rose = rose; silent = silent })
+
+    -- memory was wanting
+    pub lacked-did : result ≡ Memory → reads' ≡ reads → IsSilent written written' writes writes' → DidSo
+    lacked-did e kept silent = lacked_memory (record { is = e; unread = not-unread; reads_are = kept; silent = silent })
+
+    -- the input was too long, and its line was written or memory was wanting
+    pub declined-did : reads' ≡ reads → TakesPast left left' file_bytes → Declines written written' writes writes' (Passed FileBytes None) result → DidSo
+    declined-did kept past (inl f) = overflowed (record { options = options; in_form = refl; to_read = none; reads_are = kept; past = past; finishes = f })
+    declined-did kept past (inr (e, silent)) = lacked-did e kept silent
+
+-- a file was generated, and was answered or memory was wanting; nothing was read
+pub generated-did : (options : Options) (number : ℕ) (left : Option (List ℕ)) (reads : ℕ) (written written' : Option (List ℕ)) (writes writes' : ℕ) (result : Status)
+    → options.generate ≡ Some number → Answers written written' writes writes' options (generated_file number) result
+    → Did (Some options) left left reads reads written written' writes writes' result
+generated-did options number left reads written written' writes writes' result some answers =
+    got-did options left left reads reads written written' writes writes' result (generated_file number) refl
+    (subst (λ (n : Option ℕ). GetsFile n left left (generated_file number)) (sym some) (refl, refl)) (λ h. refl) answers

@@ -5,6 +5,9 @@ pub mod AnswerLemmas
 pub mod OverLemmas
 pub mod CourtLemmas
 pub mod OnlyLemmas
-pub mod RunLemmas
+pub mod DecideLemmas
+pub mod KeepLemmas
 pub mod DoneLemmas
+pub mod RunLemmas
+pub mod WordLemmas
 mod Worked

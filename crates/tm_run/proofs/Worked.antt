@@ -1,10 +1,13 @@
--- Worked rows: where a byte stands, and a file that isn't UTF-8.
-use Rattle.std.proofs.Common.{◌≡◌, ℕ, zero, suc, ◌<◌, refl, false, [], ◌∷◌, take, IsUtf8, arith}
+-- Worked rows: where a byte stands, a file that isn't UTF-8, and words that are in form or aren't.
+use Rattle.std.proofs.Common.{◌≡◌, ℕ, zero, suc, ◌<◌, refl, true, false, None, Some, [], ◌∷◌, codes, take, IsUtf8, arith}
 use Rattle.std.specs.Str.{chars, is_utf8}
 use Rattle.std.proofs.lemmas.Str.{IsUtf8-nil, is_utf8-from_IsUtf8}
+use Rattle.tm_base.specs.declared.profile.Profile.{Profile}
+use Rattle.tm_base.specs.declared.profile.Profile.TheVariants.{Be64}
 use Rattle.tm_report.specs.declared.fault.FileFault.TheVariants.{NotUtf8}
 use Rattle.tm_run.specs.Faults.{HasFault}
 use Rattle.tm_run.specs.Places.{at_byte}
+use Rattle.tm_run.specs.Words.{choices_of, options_of, with_choices}
 
 -- the byte that ends a line stands on it, and the byte behind it on the next
 end_of_a_line : at_byte (0x41 ∷ 0x0A ∷ 0x42 ∷ []) 1 ≡ record { byte = 1; line = 1 }
@@ -26,5 +29,18 @@ no_longer zero h utf8 = absurd (omega arith)
 no_longer (suc zero) h utf8 = no_text utf8
 no_longer (suc (suc m)) h utf8 = no_text utf8
 
-byte_outside_of_text : HasFault (0xFF ∷ []) (NotUtf8 (at_byte (0xFF ∷ []) 0))
-byte_outside_of_text = (refl, record { short = omega arith; broken = no_text; front = record { short = omega arith; front = IsUtf8-nil; longest = no_longer } })
+byte_outside_of_text : (profile : Profile) → HasFault profile (0xFF ∷ []) (NotUtf8 (at_byte (0xFF ∷ []) 0))
+byte_outside_of_text profile = (refl, record { short = omega arith; broken = no_text; front = record { short = omega arith; front = IsUtf8-nil; longest = no_longer } })
+
+-- each option in either form, in any order
+three_options : options_of (codes "--profile=be64" ∷ codes "--generate" ∷ codes "007" ∷ codes "--summary" ∷ []) ≡ Some (record { summary = true; generate = Some 7; profile = Some Be64 })
+unfolding choices_of with_choices
+three_options = refl
+
+option_twice : options_of (codes "--generate=1" ∷ codes "--generate" ∷ codes "2" ∷ []) ≡ None
+unfolding choices_of with_choices
+option_twice = refl
+
+number_with_a_sign : options_of (codes "--generate" ∷ codes "+1" ∷ []) ≡ None
+unfolding choices_of with_choices
+number_with_a_sign = refl

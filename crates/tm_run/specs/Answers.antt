@@ -6,6 +6,7 @@ use Rattle.tm_base.specs.declared.answer.Side.{Side}
 use Rattle.tm_base.specs.declared.answer.Why.{Why}
 use Rattle.tm_base.specs.declared.ask.Ask.{Ask}
 use Rattle.tm_base.specs.declared.ground.Ground.{Ground}
+use Rattle.tm_base.specs.declared.profile.Profile.{Profile}
 use Rattle.tm_base.specs.declared.world.World.{World}
 use Rattle.tm_base.specs.Answers.{AreJudged, IsAnswer, IsTrueAnswer, side_type}
 use Rattle.tm_base.specs.Asked.{HoldsOf}
@@ -45,13 +46,13 @@ abbrev pub AreAnswered : World → List Ask → List Answer → Type 0
 AreAnswered world = AllZip (IsAnswered world)
 
 -- the file is accepted, and each of its questions is to be answered yes
-pub record EachHolds (file : List ℕ) : Type 0 where
+pub record EachHolds (profile : Profile) (file : List ℕ) : Type 0 where
   pub world : World
-  pub of_file : IsWorldOf file world
+  pub of_file : IsWorldOf profile file world
   pub each : All (HoldsOf (tables_of world)) world.questions
 
 -- the file is accepted, and some question of it isn't
-pub record SomeDoesNot (file : List ℕ) : Type 0 where
+pub record SomeDoesNot (profile : Profile) (file : List ℕ) : Type 0 where
   pub world : World
-  pub of_file : IsWorldOf file world
+  pub of_file : IsWorldOf profile file world
   pub some : Any (λ ask. ¬ HoldsOf (tables_of world) ask) world.questions

@@ -4,6 +4,7 @@ use Rattle.std.specs.Str.{IsValidUpTo}
 use Rattle.tm_base.specs.declared.limit.LimitKind.{LimitKind}
 use Rattle.tm_base.specs.declared.limit.LimitKind.TheVariants.{FileBytes, NamedTypes, References, Depth}
 use Rattle.tm_base.specs.declared.limit.NameWhy.{NameWhy}
+use Rattle.tm_base.specs.declared.profile.Profile.{Profile}
 use Rattle.tm_ground.specs.Limits.{HasCause}
 use Rattle.tm_ground.specs.declared.fault.GroundErr.TheVariants.{TooManyTypes, TooManyRefs, TooDeep}
 use Rattle.tm_lex.specs.Lexes.{IsFault}
@@ -18,7 +19,7 @@ use Rattle.tm_parse.specs.Spelling.{terminals_of}
 use Rattle.tm_parse.specs.declared.parsed.Parsed.{Parsed}
 use Rattle.tm_report.specs.declared.fault.FileFault.{FileFault}
 use Rattle.tm_report.specs.declared.fault.FileFault.TheVariants.{NotUtf8, NoToken, BadNumber, OpenComment, Unexpected, EndOfFile, Passed, Names, BadRefutation, NoQuestion}
-use Rattle.tm_run.specs.Files.{file_bytes, run_profile, IsLexed, IsResolved, IsSpelled}
+use Rattle.tm_run.specs.Files.{file_bytes, IsLexed, IsResolved, IsSpelled}
 use Rattle.tm_run.specs.Places.{IsPlaceIn, at_byte}
 use Rattle.tm_run.specs.declared.status.Status.{Status}
 use Rattle.tm_run.specs.declared.status.Status.TheVariants.{BadText, Limit, IllFormed}
@@ -69,11 +70,11 @@ start_of file None = length file
 start_of file (Some token) = token.start
 
 -- the file is spelled, and its first name fault is of the kind and stands at the token that begins at the byte
-pub record HasNameFaultAt (file : List ℕ) (why : NameWhy) (byte : ℕ) : Type 0 where
+pub record HasNameFaultAt (profile : Profile) (file : List ℕ) (why : NameWhy) (byte : ℕ) : Type 0 where
   pub parsed : Parsed
   pub spelled : IsSpelled file parsed
   pub place : ℕ
-  pub first : IsFirstFault run_profile (name_at file spelled.tokens) parsed why place
+  pub first : IsFirstFault profile (name_at file spelled.tokens) parsed why place
   pub begins : start_of file (slice_get spelled.tokens place) ≡ byte
 
 -- of the limits on closed types, the first that is passed is of the kind
@@ -84,25 +85,25 @@ IsFirstLimit resolved Depth = HasCause resolved TooDeep
 IsFirstLimit resolved _ = ⊥
 
 -- the file is resolved, and the first limit that the types of its questions pass is of the kind
-pub record PassesLimitOnTypes (file : List ℕ) (kind : LimitKind) : Type 0 where
+pub record PassesLimitOnTypes (profile : Profile) (file : List ℕ) (kind : LimitKind) : Type 0 where
   pub resolved : Resolved
-  pub names : IsResolved file resolved
+  pub names : IsResolved profile file resolved
   pub first : IsFirstLimit resolved kind
 
--- the file has the fault, at its place
-abbrev pub HasFault : List ℕ → FileFault → Type 0
-HasFault file (NotUtf8 at) = IsPlaceIn file at × IsNotUtf8 file at.byte
-HasFault file (NoToken at) = IsPlaceIn file at × LacksToken file at.byte why.NoToken
-HasFault file (BadNumber at) = IsPlaceIn file at × LacksToken file at.byte why.BadNumber
-HasFault file (OpenComment at) = IsPlaceIn file at × LacksToken file at.byte why.OpenComment
-HasFault file (Unexpected at) = IsPlaceIn file at × StopsAtToken file at.byte
-HasFault file (EndOfFile at) = (at ≡ at_byte file (length file)) × EndsTooSoon file
-HasFault file (Passed kind None) = ((kind ≡ FileBytes) × (file_bytes < length file)) ⊎ PassesLimitOnTypes file kind
-HasFault file (Passed kind (Some at)) = IsPlaceIn file at × PassesLimitAtToken file kind at.byte
-HasFault file (Names why at) = IsPlaceIn file at × HasNameFaultAt file why at.byte
+-- for the profile, the file has the fault, at its place
+abbrev pub HasFault : Profile → List ℕ → FileFault → Type 0
+HasFault profile file (NotUtf8 at) = IsPlaceIn file at × IsNotUtf8 file at.byte
+HasFault profile file (NoToken at) = IsPlaceIn file at × LacksToken file at.byte why.NoToken
+HasFault profile file (BadNumber at) = IsPlaceIn file at × LacksToken file at.byte why.BadNumber
+HasFault profile file (OpenComment at) = IsPlaceIn file at × LacksToken file at.byte why.OpenComment
+HasFault profile file (Unexpected at) = IsPlaceIn file at × StopsAtToken file at.byte
+HasFault profile file (EndOfFile at) = (at ≡ at_byte file (length file)) × EndsTooSoon file
+HasFault profile file (Passed kind None) = ((kind ≡ FileBytes) × (file_bytes < length file)) ⊎ PassesLimitOnTypes profile file kind
+HasFault profile file (Passed kind (Some at)) = IsPlaceIn file at × PassesLimitAtToken file kind at.byte
+HasFault profile file (Names why at) = IsPlaceIn file at × HasNameFaultAt profile file why at.byte
 -- no refutation is read yet, and no question asked for by its number
-HasFault file (BadRefutation line) = ⊥
-HasFault file (NoQuestion number) = ⊥
+HasFault profile file (BadRefutation line) = ⊥
+HasFault profile file (NoQuestion number) = ⊥
 
 abbrev pub status_of_fault : FileFault → Status
 status_of_fault (NotUtf8 at) = BadText
@@ -117,7 +118,7 @@ status_of_fault (BadRefutation line) = BadText
 status_of_fault (NoQuestion number) = BadText
 
 -- the file has a fault for which the run ends with the status
-pub record IsFaulty (file : List ℕ) (status : Status) : Type 0 where
+pub record IsFaulty (profile : Profile) (file : List ℕ) (status : Status) : Type 0 where
   pub fault : FileFault
-  pub has : HasFault file fault
+  pub has : HasFault profile file fault
   pub status_is : status_of_fault fault ≡ status

@@ -3,7 +3,6 @@
 use Rattle.std.specs.Prelude.{◌≡◌, ℕ, ◌≤◌, List, length, IsUtf8}
 use Rattle.tm_base.specs.declared.limit.LimitKind.TheVariants.{FileBytes}
 use Rattle.tm_base.specs.declared.profile.Profile.{Profile}
-use Rattle.tm_base.specs.declared.profile.Profile.TheVariants.{Le64}
 use Rattle.tm_base.specs.declared.world.World.{World}
 use Rattle.tm_base.specs.Limits.{limit_number}
 use Rattle.tm_ground.specs.Belongs.{BelongsToFile}
@@ -17,10 +16,6 @@ use Rattle.tm_names.specs.declared.resolved.Resolved.{Resolved}
 use Rattle.tm_parse.specs.Parsing.{SpellsFile}
 use Rattle.tm_parse.specs.Spelling.{terminals_of}
 use Rattle.tm_parse.specs.declared.parsed.Parsed.{Parsed}
-
--- the profile for which files are answered
-abbrev pub run_profile : Profile
-run_profile = Le64
 
 -- the greatest number of bytes that a file has
 abbrev pub file_bytes : ℕ
@@ -38,26 +33,26 @@ pub record IsSpelled (file : List ℕ) (parsed : Parsed) : Type 0 where
   pub lexed : IsLexed file tokens
   pub spelled : SpellsFile (terminals_of file tokens) parsed
 
--- no name in what the file's tokens spell is at fault
-abbrev pub HasSoundNames : List ℕ → List Token → Parsed → Type 0
-HasSoundNames file tokens parsed = HasNoFault run_profile (name_at file tokens) parsed
+-- for the profile, no name in what the file's tokens spell is at fault
+abbrev pub HasSoundNames : Profile → List ℕ → List Token → Parsed → Type 0
+HasSoundNames profile file tokens parsed = HasNoFault profile (name_at file tokens) parsed
 
--- the file is spelled, none of its names is at fault, and this is what its names mean
-pub record IsResolved (file : List ℕ) (resolved : Resolved) : Type 0 where
+-- the file is spelled, for the profile none of its names is at fault, and this is what its names mean
+pub record IsResolved (profile : Profile) (file : List ℕ) (resolved : Resolved) : Type 0 where
   pub parsed : Parsed
   pub spelled : IsSpelled file parsed
-  pub sound : HasSoundNames file spelled.tokens parsed
-  pub means : resolved ≡ resolved_of run_profile (name_at file spelled.tokens) parsed
+  pub sound : HasSoundNames profile file spelled.tokens parsed
+  pub means : resolved ≡ resolved_of profile (name_at file spelled.tokens) parsed
 
--- the file is resolved, and the closed types that its questions lead to pass no limit
-pub record IsAccepted (file : List ℕ) : Type 0 where
+-- the file is resolved, and for the profile the closed types that its questions lead to pass no limit
+pub record IsAccepted (profile : Profile) (file : List ℕ) : Type 0 where
   pub resolved : Resolved
-  pub names : IsResolved file resolved
+  pub names : IsResolved profile file resolved
   pub limits : IsWithinLimits resolved
 
--- the file is accepted, and the world belongs to it
-pub record IsWorldOf (file : List ℕ) (world : World) : Type 0 where
+-- the file is accepted, and the world belongs to it and to the profile
+pub record IsWorldOf (profile : Profile) (file : List ℕ) (world : World) : Type 0 where
   pub resolved : Resolved
-  pub names : IsResolved file resolved
+  pub names : IsResolved profile file resolved
   pub limits : IsWithinLimits resolved
   pub belongs : BelongsToFile resolved world

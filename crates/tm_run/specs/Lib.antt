@@ -5,5 +5,7 @@ pub mod Faults
 pub mod Files
 pub mod Outcomes
 pub mod Places
+pub mod Reading
 pub mod Report
 pub mod Runs
+pub mod Words

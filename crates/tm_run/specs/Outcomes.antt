@@ -1,47 +1,49 @@
 -- What a run comes to: a status, and the bytes that are written.
-use Rattle.std.specs.Prelude.{◌≡◌, ℕ, ◌<◌, ◌⊎◌, Option, Some, List, ◌++◌, length, codes}
+use Rattle.std.specs.Prelude.{◌≡◌, ℕ, ◌⊎◌, Option, Some, None, List, ◌++◌, ⊤, codes}
 use Rattle.tm_base.specs.declared.answer.Answer.{Answer}
 use Rattle.tm_base.specs.declared.world.World.{World}
-use Rattle.tm_base.specs.Worlds.{tables_of}
+use Rattle.tm_gen.specs.Generated.{generated_file}
 use Rattle.tm_io.specs.Told.{AddsAll, AddsPrefix}
 use Rattle.tm_report.specs.FaultLines.{line_end, line_of}
 use Rattle.tm_report.specs.declared.fault.FileFault.{FileFault}
 use Rattle.tm_run.specs.Answers.{AreAnswered}
 use Rattle.tm_run.specs.Faults.{HasFault, status_of_fault}
 use Rattle.tm_run.specs.Files.{IsWorldOf}
-use Rattle.tm_run.specs.Report.{report_of, status_of}
+use Rattle.tm_run.specs.Report.{report_for, status_of}
+use Rattle.tm_run.specs.Words.{profile_for}
+use Rattle.tm_run.specs.declared.options.Options.{Options}
 use Rattle.tm_run.specs.declared.status.Status.{Status}
 use Rattle.tm_run.specs.declared.status.Status.TheVariants.{AllYes, Mixed, Usage, BadText, Limit, ReadFault, WriteFault, Memory, IllFormed}
 
 abbrev pub usage_line : List ℕ
-usage_line = codes "usage: transmute_report" ++ line_end
+usage_line = codes "usage: transmute_report [--summary] [--generate N] [--profile NAME]" ++ line_end
 
--- The headline: each question of the world that belongs to the file has its answer, and the text is the report
--- on these answers.
-pub record IsReport (file : List ℕ) (status : Status) (text : List ℕ) : Type 0 where
+-- The headline: each question of the world that belongs to the file and to the profile has its answer, and the
+-- text is the report on these answers, in the form that the options ask for.
+pub record IsReport (options : Options) (file : List ℕ) (status : Status) (text : List ℕ) : Type 0 where
   pub world : World
-  pub of_file : IsWorldOf file world
+  pub of_file : IsWorldOf (profile_for options) file world
   pub answers : List Answer
   pub answered : AreAnswered world world.questions answers
   pub status_is : status ≡ status_of answers
-  pub text_is : text ≡ report_of (tables_of world) answers
+  pub text_is : text ≡ report_for options file world answers
 
 -- the text is the line of a fault that the file has
-pub record IsRefusal (file : List ℕ) (status : Status) (text : List ℕ) : Type 0 where
+pub record IsRefusal (options : Options) (file : List ℕ) (status : Status) (text : List ℕ) : Type 0 where
   pub fault : FileFault
-  pub has : HasFault file fault
+  pub has : HasFault (profile_for options) file fault
   pub status_is : status ≡ status_of_fault fault
   pub text_is : text ≡ line_of fault
 
 -- What is answered to a file: the report on it, or why it gets none.
-abbrev pub IsFileOutcome : List ℕ → Status → List ℕ → Type 0
-IsFileOutcome file status text = IsReport file status text ⊎ IsRefusal file status text
+abbrev pub IsFileOutcome : Options → List ℕ → Status → List ℕ → Type 0
+IsFileOutcome options file status text = IsReport options file status text ⊎ IsRefusal options file status text
 
--- What a run comes to where no read and no write fails and memory is found: by the words that it is given
--- and the bytes of its input up to their end.
-abbrev pub IsOutcome : {W : Type 0} → List W → List ℕ → Status → List ℕ → Type 0
-IsOutcome words file status text =
-    ((0 < length words) × (status ≡ Usage) × (text ≡ usage_line)) ⊎ ((length words ≡ 0) × IsFileOutcome file status text)
+-- What a run comes to where no read and no write fails and memory is found: by what its words ask for, where
+-- they are in form, and by its file.
+abbrev pub IsOutcome : Option Options → List ℕ → Status → List ℕ → Type 0
+IsOutcome None file status text = (status ≡ Usage) × (text ≡ usage_line)
+IsOutcome (Some options) file status text = IsFileOutcome options file status text
 
 -- no read and no write failed, and memory was found
 abbrev pub IsSettled : Status → Type 0
@@ -55,36 +57,48 @@ IsSettled BadText = Unit {0}
 IsSettled Limit = Unit {0}
 IsSettled IllFormed = Unit {0}
 
--- The input of a run: with words none is asked for, and where the source tells its bytes they are these.
-abbrev pub IsInput : {W : Type 0} → List W → Option (List ℕ) → List ℕ → Type 0
-IsInput words left file = length words ≡ 0 → (told : List ℕ) → left ≡ Some told → file ≡ told
+-- The file that is asked for: the one of a number, or else the bytes of the input up to its end, which the source
+-- told.
+abbrev pub IsFileOf : Option ℕ → Option (List ℕ) → List ℕ → Type 0
+IsFileOf (Some number) left file = file ≡ generated_file number
+IsFileOf None left file = left ≡ Some file
 
--- the words are in form, the source told the bytes of the file, and the run is settled
-pub record IsRead {W : Type 0} (words : List W) (left : Option (List ℕ)) (file : List ℕ) (status : Status) : Type 0 where
-  pub in_form : length words ≡ 0
-  pub told : left ≡ Some file
+-- The same, of a source that may tell nothing: where it tells its bytes the file is these.
+abbrev pub IsFileIfTold : Option ℕ → Option (List ℕ) → List ℕ → Type 0
+IsFileIfTold (Some number) left file = file ≡ generated_file number
+IsFileIfTold None left file = (told : List ℕ) → left ≡ Some told → file ≡ told
+
+-- the file of a run; with words that aren't in form none is asked for
+abbrev pub IsInput : Option Options → Option (List ℕ) → List ℕ → Type 0
+IsInput None left file = ⊤
+IsInput (Some options) left file = IsFileIfTold options.generate left file
+
+-- the words are in form and ask for this, the file is the one that they ask for, and the run is settled
+pub record IsRunOn (asked : Option Options) (left : Option (List ℕ)) (options : Options) (file : List ℕ) (status : Status) : Type 0 where
+  pub in_form : asked ≡ Some options
+  pub file_is : IsFileOf options.generate left file
   pub settled : IsSettled status
 
 -- the whole text of the outcome of an input was written
-pub record WritesOutcome {W : Type 0} (words : List W) (left : Option (List ℕ)) (status : Status) (before now : Option (List ℕ)) : Type 0 where
+pub record WritesOutcome (asked : Option Options) (left : Option (List ℕ)) (status : Status) (before now : Option (List ℕ)) : Type 0 where
   pub file : List ℕ
-  pub input : IsInput words left file
+  pub input : IsInput asked left file
   pub text : List ℕ
-  pub outcome : IsOutcome words file status text
+  pub outcome : IsOutcome asked file status text
   pub adds : AddsAll before now text
 
 -- a front of it was written
-pub record WritesPrefix {W : Type 0} (words : List W) (left : Option (List ℕ)) (before now : Option (List ℕ)) : Type 0 where
+pub record WritesPrefix (asked : Option Options) (left : Option (List ℕ)) (before now : Option (List ℕ)) : Type 0 where
   pub file : List ℕ
-  pub input : IsInput words left file
+  pub input : IsInput asked left file
   pub status : Status
   pub text : List ℕ
-  pub outcome : IsOutcome words file status text
+  pub outcome : IsOutcome asked file status text
   pub adds : AddsPrefix before now text
 
 -- the whole report was written
-abbrev pub WritesReport : List ℕ → Status → Option (List ℕ) → Option (List ℕ) → Type 0
-WritesReport file status before now = (text : List ℕ) × IsReport file status text × AddsAll before now text
+abbrev pub WritesReport : Options → List ℕ → Status → Option (List ℕ) → Option (List ℕ) → Type 0
+WritesReport options file status before now = (text : List ℕ) × IsReport options file status text × AddsAll before now text
 
 -- the status is that of the fault, and its whole line was written
 abbrev pub WritesFault : FileFault → Status → Option (List ℕ) → Option (List ℕ) → Type 0

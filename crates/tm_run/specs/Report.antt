@@ -1,11 +1,16 @@
 -- The text of a report: a line for each reference type, one for each question, and a summary.
-use Rattle.std.specs.Prelude.{ℕ, ◌+◌, if◌then◌else◌, List, [], ◌∷◌, ◌++◌, count_by}
+use Rattle.std.specs.Prelude.{ℕ, ◌+◌, if◌then◌else◌, Bool, true, false, Option, None, Some, List, [], ◌∷◌, ◌++◌, codes, count_by, length}
+use Rattle.std.specs.Fmt.{decimal}
 use Rattle.std.specs.List.{list_all}
 use Rattle.tm_base.specs.declared.answer.Answer.{Answer}
 use Rattle.tm_base.specs.declared.definition.RefRow.{RefRow}
+use Rattle.tm_base.specs.declared.world.World.{World}
 use Rattle.tm_base.specs.Tables.{Tables}
+use Rattle.tm_base.specs.Worlds.{tables_of}
 use Rattle.tm_laws.specs.AnswerKinds.{is_no, is_refusal, is_yes}
 use Rattle.tm_report.specs.AnswerLines.{answer_line, reference_line, summary_line}
+use Rattle.tm_report.specs.FaultLines.{line_end}
+use Rattle.tm_run.specs.declared.options.Options.{Options}
 use Rattle.tm_run.specs.declared.status.Status.{Status}
 use Rattle.tm_run.specs.declared.status.Status.TheVariants.{AllYes, Mixed}
 
@@ -26,6 +31,20 @@ summary_of answers = summary_line (count_by is_yes answers) (count_by is_no answ
 -- the whole report: reference types are numbered from 0, and questions from 1
 abbrev pub report_of : Tables → List Answer → List ℕ
 report_of tables answers = reference_lines tables 0 tables.refs ++ answer_lines tables 1 answers ++ summary_of answers
+
+-- as `generated 7: 6183 bytes, 64 questions`
+abbrev pub generated_line : ℕ → ℕ → ℕ → List ℕ
+generated_line number bytes questions = codes "generated " ++ decimal number ++ codes ": " ++ decimal bytes ++ codes " bytes, " ++ decimal questions ++ codes " questions" ++ line_end
+
+-- the report in the form that is asked for. Of a generated file that is the line that says which it is, and the
+-- summary; of a file that was read the summary alone, or the whole report.
+abbrev pub report_by : Option ℕ → Bool → List ℕ → World → List Answer → List ℕ
+report_by (Some number) summary file world answers = generated_line number (length file) (length world.questions) ++ summary_of answers
+report_by None true file world answers = summary_of answers
+report_by None false file world answers = report_of (tables_of world) answers
+
+abbrev pub report_for : Options → List ℕ → World → List Answer → List ℕ
+report_for options = report_by options.generate options.summary
 
 -- each answer is yes, or not
 abbrev pub status_of : List Answer → Status

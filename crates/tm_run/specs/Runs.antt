@@ -1,6 +1,7 @@
 -- What the parts of a run keep.
-use Rattle.std.specs.Prelude.{◌≡◌, ℕ, ◌<◌, ◌≤◌, ◌⊎◌, Option, None, List, length}
+use Rattle.std.specs.Prelude.{◌≡◌, ℕ, ◌<◌, ◌≤◌, ◌⊎◌, true, false, Option, None, Some, List, length}
 use Rattle.tm_base.specs.declared.limit.LimitKind.TheVariants.{FileBytes}
+use Rattle.tm_gen.specs.Generated.{generated_file}
 use Rattle.tm_io.specs.Faults.{Rose}
 use Rattle.tm_io.specs.Told.{AddsAll, AddsPrefix, TakesAll, TakesPast}
 use Rattle.tm_report.specs.FaultLines.{line_of}
@@ -10,6 +11,8 @@ use Rattle.tm_run.specs.Answers.{EachHolds, SomeDoesNot}
 use Rattle.tm_run.specs.Faults.{HasFault, status_of_fault}
 use Rattle.tm_run.specs.Files.{file_bytes, IsAccepted}
 use Rattle.tm_run.specs.Outcomes.{IsFileOutcome, IsReport, IsSettled, usage_line}
+use Rattle.tm_run.specs.Words.{is_read, profile_for}
+use Rattle.tm_run.specs.declared.options.Options.{Options}
 use Rattle.tm_run.specs.declared.status.Status.{Status}
 use Rattle.tm_run.specs.declared.status.Status.TheVariants.{AllYes, Mixed, Usage, ReadFault, WriteFault, Memory}
 
@@ -32,65 +35,72 @@ module _ (written written' : Option (List ℕ)) (faults faults' : ℕ) where
 
 -- The outcome of a file, and no other is: the report on it where it is accepted, with the status that its
 -- questions come to, and the status and the line of its fault where it has one.
-pub record Decides (file : List ℕ) (status : Status) (text : List ℕ) : Type 0 where
+pub record Decides (options : Options) (file : List ℕ) (status : Status) (text : List ℕ) : Type 0 where
   pub settled : IsSettled status
-  pub outcome : IsFileOutcome file status text
-  pub accepted : IsAccepted file → IsReport file status text
-  pub only : (other : Status) (line : List ℕ) → IsReport file other line → (other ≡ status) × (line ≡ text)
-  pub each_holds : EachHolds file → status ≡ AllYes
-  pub some_does_not : SomeDoesNot file → status ≡ Mixed
-  pub faulted : (fault : FileFault) → HasFault file fault → (status ≡ status_of_fault fault) × (text ≡ line_of fault)
+  pub outcome : IsFileOutcome options file status text
+  pub accepted : IsAccepted (profile_for options) file → IsReport options file status text
+  pub only : (other : Status) (line : List ℕ) → IsReport options file other line → (other ≡ status) × (line ≡ text)
+  pub each_holds : EachHolds (profile_for options) file → status ≡ AllYes
+  pub some_does_not : SomeDoesNot (profile_for options) file → status ≡ Mixed
+  pub faulted : (fault : FileFault) → HasFault (profile_for options) file fault → (status ≡ status_of_fault fault) × (text ≡ line_of fault)
 
 -- the outcome of a file is written
-pub record Settles (written written' : Option (List ℕ)) (faults faults' : ℕ) (file : List ℕ) (result : Status) : Type 0 where
+pub record Settles (written written' : Option (List ℕ)) (faults faults' : ℕ) (options : Options) (file : List ℕ) (result : Status) : Type 0 where
   pub status : Status
   pub text : List ℕ
-  pub decides : Decides file status text
+  pub decides : Decides options file status text
   pub finishes : Finishes written written' faults faults' status text result
 
 -- or memory is wanting
-abbrev pub Answers : Option (List ℕ) → Option (List ℕ) → ℕ → ℕ → List ℕ → Status → Type 0
-Answers written written' faults faults' file result =
-    Settles written written' faults faults' file result ⊎ ((result ≡ Memory) × IsSilent written written' faults faults')
+abbrev pub Answers : Option (List ℕ) → Option (List ℕ) → ℕ → ℕ → Options → List ℕ → Status → Type 0
+Answers written written' faults faults' options file result =
+    Settles written written' faults faults' options file result ⊎ ((result ≡ Memory) × IsSilent written written' faults faults')
 
--- What a run did with its words, a source and a sink.
-module _ {W : Type 0} (words : List W) (left left' : Option (List ℕ)) (reads reads' : ℕ) (written written' : Option (List ℕ)) (writes writes' : ℕ) (result : Status) where
-  -- there was a word: nothing was read
+-- How a file is got: it is made from its number and nothing is read, or the source is read to its end.
+abbrev pub GetsFile : Option ℕ → Option (List ℕ) → Option (List ℕ) → List ℕ → Type 0
+GetsFile (Some number) left left' file = (file ≡ generated_file number) × (left' ≡ left)
+GetsFile None left left' file = TakesAll left left' file × (length file ≤ file_bytes)
+
+-- What a run did with what its words ask for, a source and a sink.
+module _ (asked : Option Options) (left left' : Option (List ℕ)) (reads reads' : ℕ) (written written' : Option (List ℕ)) (writes writes' : ℕ) (result : Status) where
+  -- the words weren't in form: nothing was read
   pub record Misused : Type 0 where
-    pub some : 0 < length words
+    pub out_of_form : asked ≡ None
     pub left_is : left' ≡ left
     pub reads_are : reads' ≡ reads
     pub finishes : Finishes written written' writes writes' Usage usage_line result
 
   -- reading failed
   pub record FailedToRead : Type 0 where
-    pub in_form : length words ≡ 0
+    pub to_read : is_read asked ≡ true
     pub is : result ≡ ReadFault
     pub rose : Rose reads reads'
     pub silent : IsSilent written written' writes writes'
 
   -- memory was wanting
   pub record LackedMemory : Type 0 where
-    pub in_form : length words ≡ 0
     pub is : result ≡ Memory
+    pub unread : is_read asked ≡ false → left' ≡ left
     pub reads_are : reads' ≡ reads
     pub silent : IsSilent written written' writes writes'
 
   -- the input was too long
   pub record Overflowed : Type 0 where
-    pub in_form : length words ≡ 0
+    pub options : Options
+    pub in_form : asked ≡ Some options
+    pub to_read : options.generate ≡ None
     pub reads_are : reads' ≡ reads
     pub past : TakesPast left left' file_bytes
     pub finishes : Finishes written written' writes writes' (status_of_fault (Passed FileBytes None)) (line_of (Passed FileBytes None)) result
 
-  -- a file was read, and its outcome written
+  -- a file was read or generated, and its outcome written
   pub record Answered : Type 0 where
-    pub in_form : length words ≡ 0
+    pub options : Options
+    pub in_form : asked ≡ Some options
     pub reads_are : reads' ≡ reads
     pub file : List ℕ
-    pub takes : TakesAll left left' file
-    pub short : length file ≤ file_bytes
-    pub settles : Settles written written' writes writes' file result
+    pub gets : GetsFile options.generate left left' file
+    pub settles : Settles written written' writes writes' options file result
 
   pub data Did : Type 0 where
     misused : Misused → Did

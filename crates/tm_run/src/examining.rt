@@ -1,4 +1,5 @@
 ghost use Rattle.std.specs.Prelude.{◌≡◌, ◌≤◌, ℕ, List, IfOk, IfErr, length, slice_get};
+ghost use Rattle.tm_base.specs.declared.profile.Profile.{Profile};
 ghost use Rattle.tm_names.specs.ApartNames.{HasApartNames};
 ghost use Rattle.tm_names.specs.InForm.{IsInForm};
 ghost use Rattle.tm_run.specs.Examined.{AreTokensOf, IsExamined, IsMeaningOf, IsParsedOf, IsResolvedOf, IsStop, fault_at, no_token_at};
@@ -17,14 +18,11 @@ use tm_names::{NameErr, Resolved, check};
 use tm_parse::{ParseErr, Parsed, parse};
 use tm_report::{At, FileFault};
 
-/// The profile for which files are answered.
-const PROFILE: Profile = Profile::Le64;
-
 /// The text of a file.
 fn decoded(file: &[u8]) -> Result<&str, Stop>
     requires { length file.now ≤ file_bytes }
     ensures text { IfOk result (λ text. text.now ≡ file.now) }
-    ensures stop { IfErr result (IsStop file.now) }
+    ensures stop { (profile : Profile) → IfErr result (IsStop profile file.now) }
 {
     match str::from_utf8(file) {
         Ok(text) => Ok(text),
@@ -47,7 +45,7 @@ fn no_token(why: LexWhy, at: At) -> FileFault
 fn tokens(alloc: Global, text: &str) -> Result<Vec<Token>, Stop>
     requires { length text.now ≤ file_bytes }
     ensures tokens { IfOk result (λ tokens. AreTokensOf text.now tokens.items) }
-    ensures stop { IfErr result (IsStop text.now) }
+    ensures stop { (profile : Profile) → IfErr result (IsStop profile text.now) }
 {
     match lex(alloc, text) {
         Ok(tokens) => Ok(tokens),
@@ -91,7 +89,7 @@ fn parsed(alloc: Global, text: &str, tokens: &[Token]) -> Result<Parsed, Stop>
     requires short { length text.now ≤ file_bytes }
     requires tokens { AreTokensOf text.now tokens.now }
     ensures parsed { IfOk result (IsParsedOf text.now tokens.now) }
-    ensures stop { IfErr result (IsStop text.now) }
+    ensures stop { (profile : Profile) → IfErr result (IsStop profile text.now) }
 {
     match parse(alloc, text, tokens) {
         Ok(parsed) => Ok(parsed),
@@ -104,16 +102,22 @@ fn parsed(alloc: Global, text: &str, tokens: &[Token]) -> Result<Parsed, Stop>
     }
 }
 
-/// What the names of what a text spells mean.
-fn resolved(alloc: Global, text: &str, tokens: &[Token], parsed: &Parsed) -> Result<Resolved, Stop>
+/// What the names of what a text spells mean, for a profile.
+fn resolved(
+    alloc: Global,
+    profile: Profile,
+    text: &str,
+    tokens: &[Token],
+    parsed: &Parsed,
+) -> Result<Resolved, Stop>
     requires short { length text.now ≤ file_bytes }
     requires parsed { IsParsedOf text.now tokens.now parsed.now }
-    ensures resolved { IfOk result (IsResolvedOf text.now tokens.now parsed.now) }
+    ensures resolved { IfOk result (IsResolvedOf profile text.now tokens.now parsed.now) }
     ensures in_form { IfOk result IsInForm }
     ensures apart { IfOk result HasApartNames }
-    ensures stop { IfErr result (IsStop text.now) }
+    ensures stop { IfErr result (IsStop profile text.now) }
 {
-    match check(alloc, text, tokens, parsed, PROFILE) {
+    match check(alloc, text, tokens, parsed, profile) {
         Ok(resolved) => Ok(resolved),
         Err(NameErr::Fault(why, place)) => {
             let names = FileFault::Names(why, start(text, tokens, place as usize));
@@ -123,37 +127,39 @@ fn resolved(alloc: Global, text: &str, tokens: &[Token], parsed: &Parsed) -> Res
     }
 }
 
-/// What the names of a text mean.
-fn meaning(alloc: Global, text: &str) -> Result<Resolved, Stop>
+/// What the names of a text mean, for a profile.
+fn meaning(alloc: Global, profile: Profile, text: &str) -> Result<Resolved, Stop>
     requires { length text.now ≤ file_bytes }
-    ensures meaning { IfOk result (IsMeaningOf text.now) }
+    ensures meaning { IfOk result (IsMeaningOf profile text.now) }
     ensures in_form { IfOk result IsInForm }
     ensures apart { IfOk result HasApartNames }
-    ensures stop { IfErr result (IsStop text.now) }
+    ensures stop { IfErr result (IsStop profile text.now) }
 {
     let tokens = tokens(alloc, text)?;
     let parsed = parsed(alloc, text, &tokens)?;
-    resolved(alloc, text, &tokens, &parsed)
+    resolved(alloc, profile, text, &tokens, &parsed)
 }
 
 /// The world of a file whose names mean this.
 fn world(alloc: Global, resolved: &Resolved) -> Result<World, Stop>
     requires form { IsInForm resolved.now }
     requires names { HasApartNames resolved.now }
-    ensures world { (file : List ℕ) → IsMeaningOf file resolved.now → IfOk result (IsExamined file) }
-    ensures stop { (file : List ℕ) → IsMeaningOf file resolved.now → IfErr result (IsStop file) }
+    ensures world { (profile : Profile) (file : List ℕ) → IsMeaningOf profile file resolved.now
+        → IfOk result (IsExamined profile file) }
+    ensures stop { (profile : Profile) (file : List ℕ) → IsMeaningOf profile file resolved.now
+        → IfErr result (IsStop profile file) }
 {
     let world = ground(alloc, resolved)?;
     Ok(world)
 }
 
-/// The world of a file of at most 1,048,576 bytes, or the one fault for which it gets no report.
-pub fn examine(alloc: Global, file: &[u8]) -> Result<World, Stop>
+/// The world of a file of at most 1,048,576 bytes for a profile, or the one fault for which it gets no report.
+pub fn examine(alloc: Global, profile: Profile, file: &[u8]) -> Result<World, Stop>
     requires { length file.now ≤ file_bytes }
-    ensures world { IfOk result (IsExamined file.now) }
-    ensures stop { IfErr result (IsStop file.now) }
+    ensures world { IfOk result (IsExamined profile file.now) }
+    ensures stop { IfErr result (IsStop profile file.now) }
 {
     let text = decoded(file)?;
-    let resolved = meaning(alloc, text)?;
+    let resolved = meaning(alloc, profile, text)?;
     world(alloc, &resolved)
 }

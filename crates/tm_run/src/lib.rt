@@ -4,6 +4,7 @@
 mod court;
 mod examining;
 mod judging;
+mod options;
 mod places;
 mod report;
 mod running;

@@ -4,8 +4,9 @@ ghost use Rattle.tm_base.specs.Profiles.{pointer_size};
 ghost use Rattle.tm_base.specs.Worlds.{tables_of};
 ghost use Rattle.tm_laws.specs.AnswerKinds.{is_no, is_refusal, is_yes};
 ghost use Rattle.tm_report.specs.AnswerLines.{HasWholeWord};
-ghost use Rattle.tm_run.specs.Report.{answer_lines, reference_lines, report_of, status_of, summary_of};
+ghost use Rattle.tm_run.specs.Report.{answer_lines, generated_line, reference_lines, report_for, report_of, status_of, summary_of};
 
+use crate::options::Options;
 use crate::status::Status;
 use std::alloc::Global;
 use tm_base::{Answer, Memory, RefId, Text, World};
@@ -87,8 +88,8 @@ fn summary_line(alloc: Global, answers: &[Answer]) -> Result<Text, Memory>
     summary(alloc, yes, no, refused)
 }
 
-/// The report on the answers to a world's questions.
-pub fn report(alloc: Global, world: &World, answers: &[Answer]) -> Result<Text, Memory>
+/// The whole report on the answers to a world's questions.
+fn whole(alloc: Global, world: &World, answers: &[Answer]) -> Result<Text, Memory>
     requires whole { All (HasWholeWord (pointer_size world.now.profile)) answers.now }
     requires few { length answers.now ≤ 256 }
     ensures { IfOk result (λ text. text ≡ report_of (tables_of world.now) answers.now) }
@@ -98,6 +99,57 @@ pub fn report(alloc: Global, world: &World, answers: &[Answer]) -> Result<Text, 
     add_answer_lines(alloc, &mut text, world, answers)?;
     text.push_str(summary_line(alloc, answers)?.as_str())?;
     Ok(text)
+}
+
+/// The line that says which file was generated, how many bytes it has and how many questions.
+fn generated_line(
+    alloc: Global,
+    number: u64,
+    bytes: usize,
+    questions: usize,
+) -> Result<Text, Memory>
+    ensures { IfOk result (λ line. line ≡ generated_line number bytes questions) }
+{
+    let line = format!(in alloc; "generated {number}: {bytes} bytes, {questions} questions\n")?;
+    Ok(Text::from(line))
+}
+
+/// The report on the file that a number determines: which it is, and the summary.
+fn of_generated(
+    alloc: Global,
+    number: u64,
+    file: &[u8],
+    world: &World,
+    answers: &[Answer],
+) -> Result<Text, Memory>
+    requires few { length answers.now ≤ 256 }
+    ensures { IfOk result (λ text. text
+        ≡ generated_line number (length file.now) (length world.now.questions)
+        ++ summary_of answers.now) }
+{
+    let questions = world.questions.len();
+    let mut text = generated_line(alloc, number, file.len(), questions)?;
+    text.push_str(summary_line(alloc, answers)?.as_str())?;
+    Ok(text)
+}
+
+/// The report on the answers to the questions of a file's world, in the form that the options ask for.
+pub fn report(
+    alloc: Global,
+    options: Options,
+    file: &[u8],
+    world: &World,
+    answers: &[Answer],
+) -> Result<Text, Memory>
+    requires whole { All (HasWholeWord (pointer_size world.now.profile)) answers.now }
+    requires few { length answers.now ≤ 256 }
+    ensures { IfOk result (λ text. text ≡ report_for options file.now world.now answers.now) }
+{
+    match (options.generate, options.summary) {
+        (Some(number), _) => of_generated(alloc, number, file, world, answers),
+        (None, true) => summary_line(alloc, answers),
+        (None, false) => whole(alloc, world, answers),
+    }
 }
 
 fn all_yes(answers: &[Answer]) -> bool

@@ -1,0 +1,106 @@
+-- The words of a run: which options there are, how each is written, and what they ask for together.
+use Rattle.std.specs.Prelude.{String, ℕ, ◌==◌, ◌^◌, ◌&&◌, nat_lt, nat_le, Bool, true, false, if◌then◌else◌, Option, Some, None, is_some, option_map, option_and_then, List, [], ◌∷◌, length, map, codes, bytes_eq, not, string_bytes, unwrap_or}
+use Rattle.std.specs.Global.{Global}
+use Rattle.std.specs.List.{before_first, after_first, list_all}
+use Rattle.std.specs.Char.{is_ascii_digit}
+use Rattle.std.specs.Str.Parse.{digits_value}
+use Rattle.tm_base.specs.declared.profile.Profile.{Profile}
+use Rattle.tm_base.specs.declared.profile.Profile.TheVariants.{Le64, Be64, Le32}
+use Rattle.tm_run.specs.declared.options.Choice.{Choice}
+use Rattle.tm_run.specs.declared.options.Choice.TheVariants as choice
+use Rattle.tm_run.specs.declared.options.Options.{Options}
+
+-- from one to twenty ASCII digits, whose number is below 2^64
+abbrev pub is_number : List ℕ → Bool
+is_number text = nat_lt 0 (length text) && (nat_le (length text) 20 && (list_all is_ascii_digit text && nat_lt (digits_value 10 text) (2 ^ 64)))
+
+abbrev pub number_of : List ℕ → Option ℕ
+number_of text = if is_number text then Some (digits_value 10 text) else None
+
+-- the profile of a name
+abbrev pub profile_of : List ℕ → Option Profile
+profile_of text =
+    if bytes_eq text (codes "le64") then Some Le64
+    else (if bytes_eq text (codes "be64") then Some Be64
+    else (if bytes_eq text (codes "le32") then Some Le32 else None))
+
+-- what an option that has a value asks for
+abbrev pub choice_with : List ℕ → List ℕ → Option Choice
+choice_with name value =
+    if bytes_eq name (codes "--generate") then option_map choice.Generate (number_of value)
+    else (if bytes_eq name (codes "--profile") then option_map choice.Profile (profile_of value) else None)
+
+abbrev pub is_equals : ℕ → Bool
+is_equals b = b == 0x3D
+
+-- What one word asks for by itself: `--summary`, or an option and its value with `=` between them. Where there
+-- is no `=` the value is empty, which no option has.
+abbrev pub choice_of : List ℕ → Option Choice
+choice_of word =
+    if bytes_eq word (codes "--summary") then Some choice.Summary
+    else choice_with (before_first is_equals word) (after_first is_equals word)
+
+-- one more choice before others
+abbrev pub before_choices : Choice → Option (List Choice) → Option (List Choice)
+before_choices choice = option_map (λ choices. choice ∷ choices)
+
+-- a word that asks by itself comes before the choices of the words behind it; else it asks with the next one,
+-- and comes before the choices of the words behind that
+abbrev pub one_or_two : Option Choice → Option Choice → Option (List Choice) → Option (List Choice) → Option (List Choice)
+one_or_two (Some choice) two behind behind_two = before_choices choice behind
+one_or_two None (Some choice) behind behind_two = before_choices choice behind_two
+one_or_two None None behind behind_two = None
+
+-- what the words ask for, one option after another; each stands in one word, or in two
+unfoldable pub choices_of : List (List ℕ) → Option (List Choice)
+choices_of [] = Some []
+choices_of (word ∷ []) = one_or_two (choice_of word) None (Some []) None
+choices_of (word ∷ next ∷ words) = one_or_two (choice_of word) (choice_with word next) (choices_of (next ∷ words)) (choices_of words)
+
+-- an option that isn't chosen yet is
+abbrev pub with_summary : Options → Bool → Option Options
+with_summary options false = Some (record options { summary = true })
+with_summary options true = None
+
+abbrev pub with_number : ℕ → Options → Option ℕ → Option Options
+with_number number options None = Some (record options { generate = Some number })
+with_number number options (Some other) = None
+
+abbrev pub with_profile : Profile → Options → Option Profile → Option Options
+with_profile profile options None = Some (record options { profile = Some profile })
+with_profile profile options (Some other) = None
+
+abbrev pub with_choice : Choice → Options → Option Options
+with_choice choice.Summary options = with_summary options options.summary
+with_choice (choice.Generate number) options = with_number number options options.generate
+with_choice (choice.Profile profile) options = with_profile profile options options.profile
+
+-- some options and further choices, where no option is chosen twice
+unfoldable pub with_choices : Options → List Choice → Option Options
+with_choices options [] = Some options
+with_choices options (choice ∷ choices) = option_and_then (λ more. with_choices more choices) (with_choice choice options)
+
+abbrev pub no_options : Options
+no_options = record { summary = false; generate = None; profile = None }
+
+-- what the words ask for. They are in form where there is such an answer: each is a part of an option, and no
+-- option stands twice.
+abbrev pub options_of : List (List ℕ) → Option Options
+options_of words = option_and_then (with_choices no_options) (choices_of words)
+
+-- the bytes of each word
+abbrev pub texts_of : List (String Global) → List (List ℕ)
+texts_of = map string_bytes
+
+-- the same of the words that a run is given
+abbrev pub asked : List (String Global) → Option Options
+asked words = options_of (texts_of words)
+
+-- the profile for which files are answered: the one that is named, or else le64
+abbrev pub profile_for : Options → Profile
+profile_for options = unwrap_or options.profile Le64
+
+-- whether an input is read: the words are in form, and no file is generated
+abbrev pub is_read : Option Options → Bool
+is_read None = false
+is_read (Some options) = not (is_some options.generate)
