@@ -6,6 +6,7 @@ pub mod JoinedLemmas
 pub mod StepLemmas
 pub mod AutomatonLemmas
 pub mod WholeLemmas
+pub mod FirstLemmas
 pub mod NextLemmas
 pub mod GrowLemmas
 pub mod MakeLemmas

@@ -1,12 +1,10 @@
 -- The set that a step makes, edge by edge, is the next one.
 use Rattle.std.proofs.Common.{◌≡◌, ℕ, zero, suc, ◌+◌, ◌-◌, ◌<◌, ◌≤◌, ◌⊎◌, inl, inr, Bool, true, false, cond, nat_le, nat_lt, List, [], ◌∷◌, length, take, drop, refl, sym, ap, ◌∙◌, subst, arith, eq-eqb, add-one, drop-cons, get_or}
 use Rattle.std.specs.Prelude.{◌==◌}
-use Rattle.std.specs.List.{slice_index_or, AllWithin}
-use Rattle.std.specs.List.Sorted.{IsStrictlyIncreasing, IsPartitionedBy}
-use Rattle.std.proofs.lemmas.Bool.{ne_eqb}
+use Rattle.std.specs.List.Sorted.{IsStrictlyIncreasing}
 use Rattle.tm_auto.specs.declared.edge.Edge.{Edge}
 use Rattle.tm_auto.specs.declared.edge.Symbol.{Symbol}
-use Rattle.tm_auto.specs.Automata.{Automaton, IsAutomaton, IsStep, IsOrdered, AreStates, AreInLayer, edges_from}
+use Rattle.tm_auto.specs.Automata.{Automaton, IsAutomaton, IsStep, AreStates, AreInLayer, edges_from}
 use Rattle.tm_auto.specs.Paths.{Among, here, there, IsPath}
 use Rattle.tm_auto.specs.Sets.{with_state, with_ends, passes, next}
 use Rattle.tm_auto.proofs.SetLemmas.{bool_cases, same_at, with_state_to, with_state_has, with_state_keeps, with_state-IsStrictlyIncreasing, rises_same, increasing_rises}
@@ -92,104 +90,17 @@ module _ (A : ℕ → ℕ → Bool) (x : Symbol) where
         (λ t a. elim (all_to from [] t a) [ inl b ↦ elim b [ ] | inr (e, ea, ef, ep, eq) ↦ subst (λ (z : ℕ). Among z (next A es from x)) eq (to_next A es from x e ea ef ep) ])
         (λ t a. let (e, ea, ef, ep, eq) = next_to A es from x t a in subst (λ (z : ℕ). Among z (with_all_ends A x es from [])) eq (all_has from [] e ea ef ep))
 
--- ---- the edges of a state lie side by side
-
-ordered_at : (es : List Edge) → IsOrdered es → (i j : ℕ) (d : Edge) → i ≤ j → j < length es → (slice_index_or es i d).from ≤ (slice_index_or es j d).from
-ordered_at [] h i j d le l = absurd (omega arith)
-ordered_at (e ∷ es) h zero zero d le l = omega arith
-ordered_at (e ∷ es) h zero (suc j) d le l = h.0 (slice_index_or es j d) (at es j d (omega arith))
-  where
-    at : (es : List Edge) (j : ℕ) (d : Edge) → j < length es → Among (slice_index_or es j d) es
-    at [] j d l = absurd (omega arith)
-    at (e ∷ es) zero d l = here
-    at (e ∷ es) (suc j) d l = there (at es j d (omega arith))
-ordered_at (e ∷ es) h (suc i) zero d le l = absurd (omega arith)
-ordered_at (e ∷ es) h (suc i) (suc j) d le l = ordered_at es h.1 i j d (omega arith) (omega arith)
-
-lt_test : (a b : ℕ) → nat_lt a b ≡ true → a < b
-lt_test a b e = grind arith
-
-not_lt : (a b : ℕ) → nat_lt a b ≡ false → b ≤ a
-not_lt a b e = grind arith
-
-lt_holds : (a b : ℕ) → a < b → nat_lt a b ≡ true
-lt_holds a b h = grind arith
-
-le_test : (a b : ℕ) → nat_le a b ≡ true → a ≤ b
-le_test a b e = grind arith
-
-not_le : (a b : ℕ) → nat_le a b ≡ false → b < a
-not_le a b e = grind arith
-
-le_holds : (a b : ℕ) → a ≤ b → nat_le a b ≡ true
-le_holds a b h = grind arith
-
-pub below_partitioned : (s : ℕ) (es : List Edge) → IsOrdered es → IsPartitionedBy (λ e. nat_lt e.from s) es
-below_partitioned s es h i j d le l e = let a = ordered_at es h i j d le l in let b = lt_test _ s e in lt_holds _ s (omega arith)
-
-pub upto_partitioned : (s : ℕ) (es : List Edge) → IsOrdered es → IsPartitionedBy (λ e. nat_le e.from s) es
-upto_partitioned s es h i j d le l e = let a = ordered_at es h i j d le l in let b = le_test _ s e in le_holds _ s (omega arith)
-
--- the place of the first of them, and the place behind the last
-pub record Bounds (s : ℕ) (es : List Edge) (i j : ℕ) : Type 0 where
-  pub first : i ≤ length es
-  pub last : j ≤ length es
-  pub below : AllWithin (λ (e : Edge). nat_lt e.from s ≡ true) es 0 i
-  pub from : AllWithin (λ (e : Edge). nat_lt e.from s ≡ false) es i (length es)
-  pub upto : AllWithin (λ (e : Edge). nat_le e.from s ≡ true) es 0 j
-  pub above : AllWithin (λ (e : Edge). nat_le e.from s ≡ false) es j (length es)
-
-tail_bounds : (s : ℕ) (e : Edge) (es : List Edge) (i j : ℕ) → Bounds s (e ∷ es) (suc i) (suc j) → Bounds s es i j
-tail_bounds s e es i j b = record {
-  first = let x = b.first in omega arith;
-  last = let x = b.last in omega arith;
-  below = λ k d l u. b.below (suc k) d (omega arith) (omega arith);
-  from = λ k d l u. b.from (suc k) d (omega arith) (omega arith);
-  upto = λ k d l u. b.upto (suc k) d (omega arith) (omega arith);
-  above = λ k d l u. b.above (suc k) d (omega arith) (omega arith);
-}
-
-pub bounds_le : (s : ℕ) (es : List Edge) (i j : ℕ) → Bounds s es i j → i ≤ j
-bounds_le s [] i j b = let x = b.first in omega arith
-bounds_le s (e ∷ es) zero j b = omega arith
-bounds_le s (e ∷ es) (suc i) zero b = let x = lt_test e.from s (b.below 0 e (omega arith) (omega arith)) in let y = not_le e.from s (b.above 0 e (omega arith) (omega arith)) in absurd (omega arith)
-bounds_le s (e ∷ es) (suc i) (suc j) b = let x = bounds_le s es i j (tail_bounds s e es i j b) in omega arith
-
--- how many there are from the first on
-fore : (s : ℕ) (es : List Edge) (j : ℕ) → j ≤ length es → ((k : ℕ) (d : Edge) → k < length es → nat_lt (slice_index_or es k d).from s ≡ false) → AllWithin (λ (e : Edge). nat_le e.from s ≡ true) es 0 j → AllWithin (λ (e : Edge). nat_le e.from s ≡ false) es j (length es) → take j es ≡ edges_from s es
-fore s [] zero l from upto above = refl
-fore s [] (suc j) l from upto above = absurd (omega arith)
-fore s (e ∷ es) zero l from upto above =
-    let y = not_le e.from s (above 0 e (omega arith) (omega arith)) in
-    let rest = fore s es zero (omega arith) (λ k d m. from (suc k) d (omega arith)) (λ k d m u. absurd (omega arith)) (λ k d m u. above (suc k) d (omega arith) (omega arith)) in
-    rw (ne_eqb e.from s (λ q. omega arith)) rest
-fore s (e ∷ es) (suc j) l from upto above =
-    let x = le_test e.from s (upto 0 e (omega arith) (omega arith)) in
-    let y = not_lt e.from s (from 0 e (omega arith)) in
-    let rest = fore s es j (omega arith) (λ k d m. from (suc k) d (omega arith)) (λ k d m u. upto (suc k) d (omega arith) (omega arith)) (λ k d m u. above (suc k) d (omega arith) (omega arith)) in
-    rw (eq-eqb e.from s (omega arith)) (ap (λ (z : List Edge). e ∷ z) rest)
-
-pub between : (s : ℕ) (es : List Edge) (i j : ℕ) → Bounds s es i j → take (j - i) (drop i es) ≡ edges_from s es
-between s [] zero j b = let none : j - 0 ≡ 0 = let x = b.last in omega arith in rw none refl
-between s [] (suc i) j b = let x = b.first in absurd (omega arith)
-between s (e ∷ es) zero j b = let less : j - 0 ≡ j = omega arith in rw less (fore s (e ∷ es) j b.last (λ k d l. b.from k d (omega arith) l) b.upto b.above)
-between s (e ∷ es) (suc i) zero b = let x = bounds_le s (e ∷ es) (suc i) zero b in absurd (omega arith)
-between s (e ∷ es) (suc i) (suc j) b =
-    let x = lt_test e.from s (b.below 0 e (omega arith) (omega arith)) in
-    let less : suc j - suc i ≡ j - i = omega arith in
-    rw (ne_eqb e.from s (λ q. omega arith), less) (between s es i j (tail_bounds s e es i j b))
-
 -- ---- along the states of a set
 
 module _ (A : ℕ → ℕ → Bool) (x : Symbol) where
   pub step_turn : (es : List Edge) (ss : List ℕ) (i : ℕ) (xs : List ℕ) → i < length ss → with_all_ends A x es (drop (i + 1) ss) (with_ends A x (edges_from (get_or ss i 0) es) xs) ≡ with_all_ends A x es (drop i ss) xs
   step_turn es ss i xs l = rw (add-one, drop-cons ss i 0) refl
 
-  pub step_done : (es fs : List Edge) (ss from : List ℕ) (i : ℕ) (reached : List ℕ) → length ss ≤ i → with_all_ends A x es (drop i ss) reached ≡ with_all_ends A x es ss [] → es ≡ fs → ss ≡ from → reached ≡ next A fs from x
-  step_done es fs ss from i reached l e ee es2 =
+  pub step_done : (es : List Edge) (ss from : List ℕ) (i : ℕ) (reached : List ℕ) → length ss ≤ i → with_all_ends A x es (drop i ss) reached ≡ with_all_ends A x es ss [] → ss ≡ from → reached ≡ next A es from x
+  step_done es ss from i reached l e is =
       let none : drop i ss ≡ [] = drop_none ss i l in
       let whole : reached ≡ with_all_ends A x es ss [] = rw none at e in
-      whole ∙ with_all_ends-next A x es ss ∙ ap (λ (z : List Edge). next A z ss x) ee ∙ ap (λ (z : List ℕ). next A fs z x) es2
+      whole ∙ with_all_ends-next A x es ss ∙ ap (λ (z : List ℕ). next A es z x) is
     where
       drop_none : (ss : List ℕ) (i : ℕ) → length ss ≤ i → drop i ss ≡ []
       drop_none [] zero l = refl

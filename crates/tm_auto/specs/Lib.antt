@@ -3,6 +3,7 @@ pub mod Joined
 pub mod Paths
 pub mod Sets
 pub mod Automata
+pub mod Firsts
 pub mod Classes
 pub mod Loose
 pub mod Shapes

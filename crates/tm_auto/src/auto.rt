@@ -1,13 +1,14 @@
-ghost use Rattle.std.specs.Prelude.{◌≡◌, ℕ, ◌+◌, ◌^◌, ◌<◌, ◌≤◌, ◌⊎◌, ◌↔◌, Bool, IfOk, OnOk, length, slice_range};
+ghost use Rattle.std.specs.Prelude.{◌≡◌, ℕ, ◌+◌, ◌^◌, ◌<◌, ◌≤◌, ◌⊎◌, ◌↔◌, Bool, IfOk, OnOk, length};
 ghost use Rattle.tm_base.specs.Cells.{Word};
 ghost use Rattle.tm_base.specs.Shapes.{leaves_of, HasNoPrivate, HasNoAlternatives, HasSize};
 ghost use Rattle.tm_base.specs.Transmutes.{holds};
 ghost use Rattle.tm_base.specs.Trees.{TreeWord};
-ghost use Rattle.tm_auto.specs.Automata.{AutoWord, IsAutomaton, HasOneStateALayer, IsLayered, ReadsWords, AreStates, AreInLayer, IsStep, IsOrdered, edges_from};
+ghost use Rattle.tm_auto.specs.Automata.{AutoWord, IsAutomaton, HasOneStateALayer, IsLayered, ReadsWords, AreStates, AreInLayer, IsStep, edges_from};
 ghost use Rattle.tm_auto.specs.Sets.{with_ends};
 
 use crate::build::Building;
 use crate::edge::{Edge, Symbol};
+use crate::edges::Edges;
 use crate::set::StateSet;
 use std::alloc::Global;
 use std::marker::Model;
@@ -18,7 +19,7 @@ use tm_base::{Memory, RefTest, Tree};
 #[derive(Drop)]
 pub struct Auto {
     states: u32,
-    edges: Vec<Edge>,
+    edges: Edges,
     starts: StateSet,
     size: u32,
     pointer: u32,
@@ -29,9 +30,9 @@ impl Model for Auto {
 
     ghost Value = { Automaton };
 
-    ghost view = { λ auto. record { states = auto.states; edges = auto.edges.items; starts = auto.starts; size = auto.size; pointer = auto.pointer } };
+    ghost view = { λ auto. record { states = auto.states; edges = auto.edges; starts = auto.starts; size = auto.size; pointer = auto.pointer } };
 
-    ghost invariant = { λ auto. IsAutomaton (record { states = auto.states; edges = auto.edges.items; starts = auto.starts; size = auto.size; pointer = auto.pointer }) };
+    ghost invariant = { λ auto. IsAutomaton (record { states = auto.states; edges = auto.edges; starts = auto.starts; size = auto.size; pointer = auto.pointer }) };
 }
 
 impl Auto {
@@ -53,14 +54,14 @@ impl Auto {
         match b.whole(tree)? {
             None => Ok(Auto {
                 states: 0,
-                edges: Vec::new(alloc),
+                edges: Edges::new(alloc),
                 starts: StateSet::new(alloc),
                 size,
                 pointer,
             }),
             Some(start) => Ok(Auto {
                 states: b.states,
-                edges: b.edges,
+                edges: Edges::of(alloc, b.edges)?,
                 starts: StateSet::of_one(alloc, start)?,
                 size,
                 pointer,
@@ -98,7 +99,7 @@ impl Auto {
         requires { state < self.now.states }
         ensures { result.now ≡ edges_from state self.now.edges }
     {
-        edges_of(self.edges.as_slice(), state)
+        self.edges.leaving(state)
     }
 
     /// The set of the states to which an edge leads that leaves one of these and passes the symbol. A
@@ -115,34 +116,12 @@ impl Auto {
         ensures states { IfOk result (λ set. AreStates self.now set) }
         ensures layer { (k : ℕ) → AreInLayer self.now k from.now → IfOk result (λ set. AreInLayer self.now (k + 1) set) }
     {
-        let edges = self.edges.as_slice();
         let mut reached = StateSet::new(alloc);
         for state in from.as_slice() {
-            follow(refs, edges_of(edges, *state), symbol, &mut reached)?;
+            follow(refs, self.edges.leaving(*state), symbol, &mut reached)?;
         }
         Ok(reached)
     }
-}
-
-// The edges that leave a state: they stand side by side.
-fn edges_of(edges: &[Edge], state: u32) -> &[Edge]
-    requires { IsOrdered edges.now }
-    ensures { result.now ≡ edges_from state edges.now }
-{
-    let (first, end) = places_of(edges, state);
-    &edges[first..end]
-}
-
-// Where they begin and end.
-fn places_of(edges: &[Edge], state: u32) -> (usize, usize)
-    requires { IsOrdered edges.now }
-    ensures rising { result.0 ≤ result.1 }
-    ensures within { result.1 ≤ length edges.now }
-    ensures edges { slice_range edges.now result.0 result.1 ≡ edges_from state edges.now }
-{
-    let first = edges.partition_point(|edge| edge.from < state);
-    let end = edges.partition_point(|edge| edge.from <= state);
-    (first, end)
 }
 
 // Puts the end of each edge that passes the symbol into the set.

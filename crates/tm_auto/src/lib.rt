@@ -38,6 +38,7 @@ mod auto;
 mod build;
 mod class;
 mod edge;
+mod edges;
 mod extent;
 mod set;
 
