@@ -1,5 +1,5 @@
 -- The edges of a state lie side by side, between the places at which its own and the next state's begin.
-use Rattle.std.proofs.Common.{◌≡◌, ℕ, zero, suc, ◌+◌, ◌-◌, ◌<◌, ◌≤◌, List, [], ◌∷◌, length, take, drop, inl, inr, refl, ap, ◌∙◌, arith, eq-eqb}
+use Rattle.std.proofs.Common.{◌≡◌, ℕ, zero, suc, ◌+◌, ◌-◌, ◌<◌, ◌≤◌, List, [], ◌∷◌, length, take, drop, inl, inr, refl, ap, arith, eq-eqb}
 use Rattle.std.specs.List.{slice_index_or, AllWithin}
 use Rattle.std.proofs.lemmas.Bool.{ne_eqb, cases_lt}
 use Rattle.tm_auto.specs.declared.edge.Edge.{Edge}

@@ -6,8 +6,12 @@ ghost use Rattle.tm_auto.specs.Classes.{AreClasses, IsUncut, AreUncut, AreRanges
 use crate::auto::Auto;
 use crate::edge::{Edge, Label, Symbol};
 use crate::set::StateSet;
+use smallvec::SmallVec;
 use std::alloc::Global;
 use tm_base::{Equal, List, Memory, RefId};
+
+// The labels of some edges: most often one or two, for which no memory is taken.
+type Labels = SmallVec<Label, 4>;
 
 /// The symbols by which two sets are walked together, in the order of cells and apart from each other:
 /// each cell that the source's set can take is in exactly one, and each cell of a symbol passes the same
@@ -34,11 +38,11 @@ pub fn classes(
 }
 
 // The labels of the edges that leave the states.
-fn labels_of(alloc: Global, auto: &Auto, states: &StateSet) -> Result<Vec<Label>, Memory>
+fn labels_of(alloc: Global, auto: &Auto, states: &StateSet) -> Result<Labels, Memory>
     requires { AreStates auto.now states.now }
     ensures { IfOk result (λ labels. labels.items ≡ labels_from auto.now.edges states.now) }
 {
-    let mut labels = Vec::new(alloc);
+    let mut labels = Labels::new(alloc);
     for state in states.as_slice() {
         add_labels(&mut labels, auto.edges(*state))?;
     }
@@ -46,7 +50,7 @@ fn labels_of(alloc: Global, auto: &Auto, states: &StateSet) -> Result<Vec<Label>
 }
 
 // Adds those of some edges.
-fn add_labels(labels: &mut Vec<Label>, edges: &[Edge]) -> Result<(), Memory>
+fn add_labels(labels: &mut Labels, edges: &[Edge]) -> Result<(), Memory>
     ensures { OnOk result (labels.new.items ≡ labels.old.items ++ labels_in edges.now) }
 {
     for edge in edges {

@@ -4,10 +4,11 @@ ghost use Rattle.tm_auto.specs.Sets.{passes};
 use tm_base::{RefId, RefTest};
 
 /// What an edge takes: a byte of a range, both of its ends taken in; a byte that nothing is asked of
-/// and that may be uninitialised; or the byte of a place of a reference.
-#[derive(Clone, Copy, PartialEq, Eq, Debug)]
+/// and that may be uninitialised, which is the default; or the byte of a place of a reference.
+#[derive(Clone, Copy, PartialEq, Eq, Debug, Default)]
 pub enum Label {
     Bytes(u8, u8),
+    #[default]
     Free,
     Leaf(RefId, u8),
 }

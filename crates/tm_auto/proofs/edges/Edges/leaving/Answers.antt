@@ -1,4 +1,3 @@
-use Rattle.std.proofs.Common.{◌≤◌, arith}
 use Rattle.tm_auto.proofs.FirstLemmas.{first_le, between}
 use Rattle.tm_auto.proofs.edges.Edges.leaving.Goals as goal
 
