@@ -3,6 +3,7 @@ pub mod ViableLemmas
 pub mod MeaningLemmas
 pub mod NumberLemmas
 pub mod PairLemmas
+pub mod LayerLemmas
 pub mod OfferLemmas
 pub mod ExpandLemmas
 pub mod NextLayerLemmas

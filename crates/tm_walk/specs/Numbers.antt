@@ -1,9 +1,10 @@
 -- Sets of states, and pairs of them, by numbers.
-use Rattle.std.specs.Prelude.{◌≡◌, ℕ, ◌<◌, List, [], ◌∷◌, map, length}
+use Rattle.std.specs.Prelude.{◌≡◌, ℕ, ◌<◌, Option, Some, None, List, [], ◌∷◌, map, length}
 use Rattle.std.specs.Global.{Vec}
 use Rattle.std.specs.List.{slice_index_or}
 use Rattle.tm_auto.specs.Paths.{Among}
 use Rattle.tm_walk.specs.declared.way.Pair.{Pair}
+use Rattle.tm_walk.specs.declared.way.Reached.{Reached}
 use Rattle.tm_walk.specs.declared.way.Way.{Way}
 use Rattle.tm_walk.specs.Layers.{Entry}
 
@@ -23,6 +24,16 @@ AreNumbered (row ∷ rows) = (row.0.items ≡ row.1) × (¬ Among row.1 (sets_of
 -- a pair of sets reached by a way, and that way
 abbrev pub entry_by : List ℕ → List ℕ → Way → Entry
 entry_by src dst way = record { src = src; dst = dst; parent = way.parent; cell = way.cell }
+
+-- the only pair, or else several
+abbrev pub only_or : Option Reached → List Entry → List Entry
+only_or None several = several
+only_or (Some only) several = entry_by only.src only.dst only.way ∷ []
+
+-- beside an only pair stand no several
+abbrev pub IsAlone : Option Reached → List Entry → Type 0
+IsAlone None several = Unit {0}
+IsAlone (Some only) several = several ≡ []
 
 abbrev pub way_of : Entry → Way
 way_of e = record { parent = e.parent; cell = e.cell }

@@ -1,11 +1,11 @@
 -- Ways back through layers, and the cells along them.
 use Rattle.std.specs.Prelude.{◌≡◌, ℕ, List, [], ◌∷◌, ◌++◌, map, reverse, Option, Some, None, slice_get}
-use Rattle.std.specs.Global.{Vec}
+use Rattle.smallvec.specs.SmallVec.{SmallVec}
 use Rattle.tm_base.specs.Cells.{Word}
 use Rattle.tm_walk.specs.declared.way.Way.{Way}
 
 -- the ways of layers, newest first, of those that stand oldest first
-abbrev pub newest_first : List (Vec Way) → List (List Way)
+abbrev pub newest_first : List (SmallVec Way) → List (List Way)
 newest_first layers = reverse (map (λ ways. ways.items) layers)
 
 abbrev pub cells_by : Option Way → (ℕ → Word) → Word

@@ -12,7 +12,7 @@ use crate::way::Way;
 use std::alloc::Global;
 use std::sync::ledger::Ledger;
 use tm_auto::{Auto, StateSet, Symbol, classes};
-use tm_base::{Cell, Equal, List, Memory, RefTest, Steps};
+use tm_base::{Equal, List, Memory, RefTest, Steps};
 
 /// What is walked, and what is sought.
 #[derive(Drop)]
@@ -34,11 +34,7 @@ impl<'a, Q: Quantifier, M: RefTest> Walk<'a, Q, M> {
         let src = self.src.start(self.alloc)?;
         if is_live(&src) {
             let dst = self.dst.start(self.alloc)?;
-            let nowhere = Way {
-                parent: 0,
-                cell: Cell::Uninit,
-            };
-            layer.offer(self.alloc, src, dst, nowhere)?;
+            layer.offer(self.alloc, src, dst, Way::default())?;
         }
         Ok(layer)
     }

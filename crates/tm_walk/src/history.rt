@@ -1,7 +1,7 @@
 ghost use Rattle.std.specs.Prelude.{◌≡◌, ◌<◌, [], ◌∷◌, Some, IfOk, OnOk, length, slice_get};
 ghost use Rattle.tm_walk.specs.Ways.{cells_to, LeadsBack};
 
-use crate::way::Way;
+use crate::way::{Way, Ways};
 use std::alloc::Global;
 use std::marker::Model;
 use tm_base::{Cell, Memory};
@@ -9,7 +9,7 @@ use tm_base::{Cell, Memory};
 /// The ways of all layers up to one. Contracts see them newest first.
 #[derive(Drop)]
 pub struct History {
-    layers: Vec<Vec<Way>>,
+    layers: Vec<Ways>,
 }
 
 impl Model for History {
@@ -33,7 +33,7 @@ impl History {
     }
 
     /// Adds the ways of the next layer.
-    pub fn add(&mut self, ways: Vec<Way>) -> Result<(), Memory>
+    pub fn add(&mut self, ways: Ways) -> Result<(), Memory>
         ensures { OnOk result (self.new ≡ ways.items ∷ self.old) }
     {
         self.layers.push(ways)?;

@@ -35,6 +35,7 @@ mod laws;
 mod layer;
 mod live;
 mod obligation;
+mod pairs;
 mod quantifier;
 mod reading;
 mod sets;

@@ -13,30 +13,30 @@ use tm_base::Memory;
 /// Pairs of a source's and a target's set, each once, in the order in which they were reached, with the
 /// way by which each first was. Contracts see the list of the pairs.
 #[derive(Drop)]
-pub struct Layer {
+pub struct Pairs {
     sources: Sets,
     targets: Sets,
     pairs: IndexMap<Pair, Way>,
 }
 
-impl Model for Layer {
+impl Model for Pairs {
     ghost use Rattle.std.specs.Prelude.{List};
     ghost use Rattle.tm_walk.specs.Layers.{Entry};
     ghost use Rattle.tm_walk.specs.Numbers.{entries_of, AreWithin};
 
     ghost Value = { List Entry };
 
-    ghost view = { λ layer. entries_of layer.sources layer.targets layer.pairs.entries };
+    ghost view = { λ pairs. entries_of pairs.sources pairs.targets pairs.pairs.entries };
 
-    ghost invariant = { λ layer. AreWithin layer.sources layer.targets layer.pairs.entries };
+    ghost invariant = { λ pairs. AreWithin pairs.sources pairs.targets pairs.pairs.entries };
 }
 
-impl Layer {
+impl Pairs {
     /// No pairs. It takes no memory.
-    pub fn new(alloc: Global) -> Layer
+    pub fn new(alloc: Global) -> Pairs
         ensures { result ≡ [] }
     {
-        Layer {
+        Pairs {
             sources: Sets::new(alloc),
             targets: Sets::new(alloc),
             pairs: IndexMap::new(alloc),
@@ -81,9 +81,9 @@ impl Layer {
     }
 
     /// The ways by which the pairs were reached, in order.
-    pub fn ways(&self, alloc: Global) -> Result<Vec<Way>, Memory>
-        ensures { IfOk result (λ ways. ways.items ≡ map way_of self.now) }
+    pub fn ways(&self) -> &[Way]
+        ensures { result.now ≡ map way_of self.now }
     {
-        Ok(Vec::from_slice(alloc, self.pairs.values().as_slice())?)
+        self.pairs.values().as_slice()
     }
 }

@@ -1,3 +1,7 @@
+ghost use Rattle.std.specs.Prelude.{◌≡◌, ◌↔◌, IsTrue};
+
+use smallvec::SmallVec;
+use tm_auto::StateSet;
 use tm_base::Cell;
 
 /// The numbers of a source's and a target's set.
@@ -12,4 +16,34 @@ pub struct Pair {
 pub struct Way {
     pub parent: usize,
     pub cell: Cell,
+}
+
+impl Default for Way {
+    /// The way of a pair to which nothing leads. It says nothing.
+    fn default() -> Way {
+        Way {
+            parent: 0,
+            cell: Cell::Uninit,
+        }
+    }
+}
+
+/// The ways of a layer's pairs, in their order. Most layers have one pair, for which no memory is taken.
+pub type Ways = SmallVec<Way, 1>;
+
+/// A source's and a target's set that were reached, and how they first were.
+#[derive(Drop)]
+pub struct Reached {
+    pub src: StateSet,
+    pub dst: StateSet,
+    pub way: Way,
+}
+
+impl Reached {
+    /// Whether they are these sets.
+    pub fn has(&self, src: &StateSet, dst: &StateSet) -> bool
+        ensures { IsTrue result ↔ ((self.now.src ≡ src.now) × (self.now.dst ≡ dst.now)) }
+    {
+        self.src.as_slice() == src.as_slice() && self.dst.as_slice() == dst.as_slice()
+    }
 }

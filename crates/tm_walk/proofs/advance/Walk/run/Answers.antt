@@ -2,6 +2,7 @@ use Rattle.std.proofs.Common.{◌≢◌, ℕ, ◌+◌, ◌∙◌, sym, ap, subst
 use Rattle.std.specs.Prelude.{◌==◌}
 use Rattle.std.proofs.lemmas.List.{nil_from_length}
 use Rattle.tm_walk.specs.declared.way.Way.{Way}
+use Rattle.tm_walk.proofs.LayerLemmas.{nothing_answered}
 use Rattle.tm_walk.proofs.RunLemmas.{IsWalked, walked_states, walked_leads, walked_front, walked_long, walked_found, walked_end, walked_empty, walked_on, walked_narrow}
 use Rattle.tm_walk.proofs.advance.Walk.run.Goals as goal
 use Rattle.tm_walk.proofs.advance.Walk.run.Goals.{then-at_end-via-then-at_end, then-at_end-via-else-at_end+then-len-eq0}
@@ -86,3 +87,9 @@ places-preserved g c =
           omega arith;
       counted = let a = c.places.invariant.counted in let b = c.advance.ensures.counted in omega arith;
     }
+
+pub returns-in_err-add-clause-found : goal.returns-in_err-add-clause-found
+returns-in_err-add-clause-found g c = nothing_answered _ _ c.from_residual-in_err-add.result c.from_residual-in_err-add.ensures.1
+
+pub returns-in_err-add-clause-none : goal.returns-in_err-add-clause-none
+returns-in_err-add-clause-none g c = nothing_answered _ _ c.from_residual-in_err-add.result c.from_residual-in_err-add.ensures.1

@@ -1,6 +1,6 @@
 use Rattle.std.proofs.Common.{◌∙◌, sym}
 use Rattle.tm_walk.proofs.PairLemmas.{there_offered, last_row, new_within, new_offered}
-use Rattle.tm_walk.proofs.layer.Layer.offer.Goals as goal
+use Rattle.tm_walk.proofs.pairs.Pairs.offer.Goals as goal
 
 pub returns-then-contains_key : goal.returns-then-contains_key
 returns-then-contains_key c =

@@ -1,6 +1,6 @@
 use Rattle.std.proofs.Common.{sym}
 use Rattle.tm_walk.proofs.PairLemmas.{read_row, read_entry}
-use Rattle.tm_walk.proofs.layer.Layer.sets.Goals as goal
+use Rattle.tm_walk.proofs.pairs.Pairs.sets.Goals as goal
 
 pub get-requires : goal.get-requires
 get-requires c =

@@ -1,0 +1,101 @@
+ghost use Rattle.std.specs.Prelude.{◌≡◌, ◌<◌, [], Some, IfOk, OnOk, length, map, slice_get};
+ghost use Rattle.tm_walk.specs.Layers.{Entry, IsOffered};
+ghost use Rattle.tm_walk.specs.Numbers.{entry_by, way_of};
+
+use crate::pairs::Pairs;
+use crate::way::{Reached, Way, Ways};
+use std::alloc::Global;
+use std::marker::Model;
+use tm_auto::StateSet;
+use tm_base::Memory;
+
+/// Pairs of a source's and a target's set, each once, in the order in which they were reached, with the
+/// way by which each first was. Contracts see the list of the pairs.
+///
+/// Most layers have one pair: as long as it is the only one, nothing is looked up.
+#[derive(Drop)]
+pub struct Layer {
+    only: Option<Reached>,
+    several: Pairs,
+}
+
+impl Model for Layer {
+    ghost use Rattle.std.specs.Prelude.{List};
+    ghost use Rattle.tm_walk.specs.Layers.{Entry};
+    ghost use Rattle.tm_walk.specs.Numbers.{only_or, IsAlone};
+
+    ghost Value = { List Entry };
+
+    ghost view = { λ layer. only_or layer.only layer.several };
+
+    ghost invariant = { λ layer. IsAlone layer.only layer.several };
+}
+
+impl Layer {
+    /// No pairs. It takes no memory.
+    pub fn new(alloc: Global) -> Layer
+        ensures { result ≡ [] }
+    {
+        Layer {
+            only: None,
+            several: Pairs::new(alloc),
+        }
+    }
+
+    /// How many pairs there are.
+    pub fn len(&self) -> usize
+        ensures { result ≡ length self.now }
+    {
+        match &self.only {
+            Some(_) => 1,
+            None => self.several.len(),
+        }
+    }
+
+    /// The sets of the pair at a place.
+    pub fn sets(&self, place: usize) -> (&StateSet, &StateSet)
+        requires { place < length self.now }
+        ensures { ((e : Entry) × (slice_get self.now place ≡ Some e)
+            × (result.0.now ≡ e.src) × (result.1.now ≡ e.dst)) }
+    {
+        match &self.only {
+            Some(only) => (&only.src, &only.dst),
+            None => self.several.sets(place),
+        }
+    }
+
+    /// Puts a pair last, unless it is there.
+    pub fn offer(
+        &mut self,
+        alloc: Global,
+        src: StateSet,
+        dst: StateSet,
+        way: Way,
+    ) -> Result<(), Memory>
+        ensures { OnOk result (IsOffered (entry_by src dst way) self.old self.new) }
+    {
+        let Some(only) = self.only.take() else {
+            if self.several.len() == 0 {
+                self.only = Some(Reached { src, dst, way });
+                return Ok(());
+            }
+            return self.several.offer(alloc, src, dst, way);
+        };
+        if only.has(&src, &dst) {
+            self.only = Some(only);
+            return Ok(());
+        }
+        self.several.offer(alloc, only.src, only.dst, only.way)?;
+        self.several.offer(alloc, src, dst, way)
+    }
+
+    /// The ways by which the pairs were reached, in order.
+    pub fn ways(&self, alloc: Global) -> Result<Ways, Memory>
+        ensures { IfOk result (λ ways. ways.items ≡ map way_of self.now) }
+    {
+        match &self.only {
+            Some(only) => Ok(Ways::from_slice(alloc, &[only.way])?),
+            None => Ok(Ways::from_slice(alloc, self.several.ways())?),
+        }
+    }
+}
