@@ -3,7 +3,8 @@ ghost use Rattle.std.specs.Prelude.{◌≡◌, ◌∷◌, [], IfOk};
 use std::alloc::Global;
 use std::test::Fail;
 use tm_auto::{Auto, StateSet, Symbol};
-use tm_base::{Boxed, Equal, List, Memory, RefId, Tree};
+use tm_base::{Boxed, Equal, List, Memory, Profile, RefId, Tree};
+use tm_niche::char_tree;
 
 fn two(alloc: Global, first: Tree, second: Tree) -> Result<List<Tree>, Memory>
     ensures { IfOk result (λ trees. trees ≡ first ∷ second ∷ []) }
@@ -50,5 +51,37 @@ fn reads_cells(rt: HostRuntime) -> Result<(), Fail> {
     assert_eq!(rt; after(rt.alloc(), &auto, &[])?.as_slice(), [9].as_slice());
     assert_eq!(rt; after(rt.alloc(), &auto, &word)?.as_slice(), [0].as_slice());
     assert_eq!(rt; after(rt.alloc(), &auto, &mixed)?.as_slice(), [].as_slice());
+    Ok(())
+}
+
+// `char`, its least byte first.
+fn character(alloc: Global) -> Result<Auto, Memory> {
+    let tree = char_tree(alloc, Profile::Le64)?;
+    Auto::build(alloc, &tree, 4, 8)
+}
+
+fn byte(value: u8) -> Symbol {
+    Symbol::Bytes(value, value)
+}
+
+#[test]
+fn reads_characters(rt: HostRuntime) -> Result<(), Fail> {
+    let auto = character(rt.alloc())?;
+    let last_before_surrogates = [byte(0xFF), byte(0xD7), byte(0x00), byte(0x00)];
+    let last = [byte(0xFF), byte(0xFF), byte(0x10), byte(0x00)];
+    let first_of_surrogate = [byte(0x00), byte(0xD8)];
+    let surrogate = [byte(0x00), byte(0xD8), byte(0x00)];
+    assert!(rt;
+        !after(rt.alloc(), &auto, &last_before_surrogates)?
+            .as_slice()
+            .is_empty()
+    );
+    assert!(rt; !after(rt.alloc(), &auto, &last)?.as_slice().is_empty());
+    assert!(rt;
+        !after(rt.alloc(), &auto, &first_of_surrogate)?
+            .as_slice()
+            .is_empty()
+    );
+    assert!(rt; after(rt.alloc(), &auto, &surrogate)?.as_slice().is_empty());
     Ok(())
 }
