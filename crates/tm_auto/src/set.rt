@@ -43,7 +43,7 @@ impl StateSet {
     }
 
     /// The set of one state.
-    pub(crate) fn of_one(alloc: Global, state: u32) -> Result<StateSet, Memory>
+    pub fn of_one(alloc: Global, state: u32) -> Result<StateSet, Memory>
         ensures { IfOk result (λ set. set ≡ state ∷ []) }
     {
         let mut set = StateSet::new(alloc);
