@@ -122,7 +122,7 @@ module _ (auto : Automaton) (h : IsAutomaton auto) where
   leads_below A (c ∷ w) s t l (e, m, q, k, p) = let (x, y) = h.down e m in leads_below A w e.to t (omega arith) p
 
   -- every state leads to the end
-  path_down : (k s : ℕ) → s < k → s < auto.states → (j : ℕ) × IsPath auto.edges j s 0
+  pub path_down : (k s : ℕ) → s < k → s < auto.states → (j : ℕ) × IsPath auto.edges j s 0
   path_down zero s lt l = absurd (omega arith)
   path_down (suc k) s lt l = elim (cases_lt 0 s) [
     | inl pos ↦ (
@@ -216,7 +216,7 @@ module _ (auto : Automaton) (h : IsAutomaton auto) where
   any x t = true
 
   -- the way to a state and on to the end has the length of a word
-  in_layer : (k j s : ℕ) → IsInLayer auto k s → IsPath auto.edges j s 0 → k + j ≡ auto.size
+  pub in_layer : (k j s : ℕ) → IsInLayer auto k s → IsPath auto.edges j s 0 → k + j ≡ auto.size
   in_layer k j s i p =
       let full : (t : ℕ) → (x : ℕ) × holds any x t = λ t. (0, refl) in
       let g = fits_start (holds any) full i.start i.among in
@@ -225,7 +225,7 @@ module _ (auto : Automaton) (h : IsAutomaton auto) where
       let size = h.sized any (w ++ v) (word_of (holds any) full w v i.start s i.among l l2 (joined_on Uninit w v jw jv)) in
       omega (arith, length-append w v)
 
-  layer_below : (k s : ℕ) → IsInLayer auto k s → s < auto.states
+  pub layer_below : (k s : ℕ) → IsInLayer auto k s → s < auto.states
   layer_below k s i = path_below k i.start s (h.below i.start i.among) i.path
 
   pub layered : IsLayered auto
@@ -248,7 +248,7 @@ module _ (auto : Automaton) (h : IsAutomaton auto) where
 
   -- ---- lists of cells
 
-  path_of : (A : ℕ → ℕ → Type 0) (w : Word) (s t : ℕ) → Leads A auto.edges w s t → IsPath auto.edges (length w) s t
+  pub path_of : (A : ℕ → ℕ → Type 0) (w : Word) (s t : ℕ) → Leads A auto.edges w s t → IsPath auto.edges (length w) s t
   path_of A [] s t l = l
   path_of A (c ∷ w) s t (e, m, q, k, l) = (e, m, q, path_of A w e.to t l)
 

@@ -8,6 +8,7 @@ pub mod AutomatonLemmas
 pub mod WholeLemmas
 pub mod FirstLemmas
 pub mod NextLemmas
+pub mod LayerLemmas
 pub mod GrowLemmas
 pub mod MakeLemmas
 pub mod ExtentLemmas

@@ -90,7 +90,11 @@ module _ (A : ℕ → ℕ → Bool) (x : Symbol) where
         (λ t a. elim (all_to from [] t a) [ inl b ↦ elim b [ ] | inr (e, ea, ef, ep, eq) ↦ subst (λ (z : ℕ). Among z (next A es from x)) eq (to_next A es from x e ea ef ep) ])
         (λ t a. let (e, ea, ef, ep, eq) = next_to A es from x t a in subst (λ (z : ℕ). Among z (with_all_ends A x es from [])) eq (all_has from [] e ea ef ep))
 
--- ---- along the states of a set
+-- ---- along a path and the states of a set
+
+pub path_more : (es : List Edge) (k a s : ℕ) (e : Edge) → IsPath es k a s → Among e es → e.from ≡ s → IsPath es (suc k) a e.to
+path_more es zero a s e p m q = (e, m, q ∙ sym p, refl)
+path_more es (suc k) a s e (f, fm, ff, p) m q = (f, fm, ff, path_more es k f.to s e p m q)
 
 module _ (A : ℕ → ℕ → Bool) (x : Symbol) where
   pub step_turn : (es : List Edge) (ss : List ℕ) (i : ℕ) (xs : List ℕ) → i < length ss → with_all_ends A x es (drop (i + 1) ss) (with_ends A x (edges_from (get_or ss i 0) es) xs) ≡ with_all_ends A x es (drop i ss) xs
@@ -117,10 +121,6 @@ module _ (A : ℕ → ℕ → Bool) (x : Symbol) where
   -- what a step makes of states is states, and of a layer the next one
   pub next_states : (auto : Automaton) → IsAutomaton auto → (from : List ℕ) → AreStates auto (next A auto.edges from x)
   next_states auto h from s m = let (e, ea, ef, ep, eq) = next_to A auto.edges from x s m in let (y, z) = h.down e ea in omega arith
-
-  path_more : (es : List Edge) (k a s : ℕ) (e : Edge) → IsPath es k a s → Among e es → e.from ≡ s → IsPath es (suc k) a e.to
-  path_more es zero a s e p m q = (e, m, q ∙ sym p, refl)
-  path_more es (suc k) a s e (f, fm, ff, p) m q = (f, fm, ff, path_more es k f.to s e p m q)
 
   pub next_layer : (auto : Automaton) (from : List ℕ) (k : ℕ) → AreInLayer auto k from → AreInLayer auto (k + 1) (next A auto.edges from x)
   next_layer auto from k h s m =

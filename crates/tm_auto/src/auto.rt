@@ -1,4 +1,4 @@
-ghost use Rattle.std.specs.Prelude.{◌≡◌, ℕ, ◌+◌, ◌^◌, ◌<◌, ◌≤◌, ◌⊎◌, ◌↔◌, Bool, IfOk, OnOk, length};
+ghost use Rattle.std.specs.Prelude.{◌≡◌, ℕ, ◌+◌, ◌^◌, ◌<◌, ◌≤◌, ◌⊎◌, ◌↔◌, Bool, IfOk, OnOk, IsTrue, length};
 ghost use Rattle.tm_base.specs.Cells.{Word};
 ghost use Rattle.tm_base.specs.Shapes.{leaves_of, HasNoPrivate, HasNoAlternatives, HasSize};
 ghost use Rattle.tm_base.specs.Transmutes.{holds};
@@ -92,6 +92,13 @@ impl Auto {
         ensures { result ≡ self.now.size }
     {
         self.size
+    }
+
+    /// Whether at each place of the words there is one state at most.
+    pub fn has_one_state_a_layer(&self) -> bool
+        ensures { IsTrue result ↔ HasOneStateALayer self.now }
+    {
+        u64::from(self.states) <= u64::from(self.size) + 1
     }
 
     /// The edges that leave a state of the automaton, in order.

@@ -7,7 +7,7 @@
 //! is state 0. There is one start, or none where there is no word. Each state lies on a word, where a
 //! target reference may also hold itself, and stands at one place in the words; the end alone stands
 //! behind the last cell. A tree in which no alternative has two members has one state at each place at
-//! most.
+//! most: `Auto::has_one_state_a_layer` tells by how many states and cells there are.
 //!
 //! `start` and `step` lead from set to set. A set is seen as the rising list of its states, so two sets
 //! with the same states are equal. A step leads to a state exactly where an edge from the set does that
