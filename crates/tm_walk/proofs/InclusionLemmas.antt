@@ -16,7 +16,7 @@ use Rattle.tm_auto.proofs.StepLemmas.{next_to, to_next}
 use Rattle.tm_walk.specs.declared.obligation.Obligation.{Obligation}
 use Rattle.tm_walk.specs.Layers.{is_live}
 use Rattle.tm_walk.specs.Meanings.{EachWordFits}
-use Rattle.tm_walk.specs.Obligations.{is_refused, AreAdded, IsFirst, IsPlaced, Follows, FollowsSome}
+use Rattle.tm_walk.specs.Obligations.{is_refused, AreAdded, IsFirst, IsBetween, Follows, FollowsSome}
 use Rattle.tm_walk.specs.Sought.{IsSourceWord}
 use Rattle.tm_walk.proofs.ChainLemmas.{reached_more}
 use Rattle.tm_walk.proofs.ImpliesLemmas.{any_to, none_of, implies_to}
@@ -51,8 +51,8 @@ module _ (A : ℕ → ℕ → Bool) (src dst : Automaton) (hs : IsAutomaton src)
     sound = λ o m. elim (a.from o m) [ inl n ↦ absurd (none_among n) | inr f ↦ first_sound A src dst hs rs hd rd o f ];
     complete = λ w word.
         let s = word.reaches.state in
-        let o : Obligation = record { state = s; reached = src.starts; target = dst.starts } in
-        let (p, m, i) = a.added o (record { state = word.reaches.among; reached = refl; target = refl }) in
+        let o : Obligation = record { state = s; target = dst.starts } in
+        let (p, m, i) = a.added o (record { state = word.reaches.among; target = refl }) in
         let (same, of) = implies_to p o i in
         (p, m, record { rest = subst (λ (z : ℕ). Spells (holds equal) src.edges w z) (sym same) word.reaches.spells; target = of });
   }
@@ -71,14 +71,14 @@ module _ (A : ℕ → ℕ → Bool) (src dst : Automaton) (hs : IsAutomaton src)
             let less : place < length w = omega arith in
             let more_cells : place + 1 ≡ suc place = omega arith in
             let (e, ea, ef, t, rest) = subst (λ (z : Word). Spells (holds equal) src.edges z o.state) (drop_more w place Uninit less) met.rest in (
-              record { state = e.to; reached = next equal src.edges o.reached (symbol_of c); target = next A dst.edges o.target (symbol_of c) },
+              record { state = e.to; target = next A dst.edges o.target (symbol_of c) },
               (c, inl (l, (e, ea, ef, t, refl)), refl),
               record { rest = subst (λ (n : ℕ). Spells (holds equal) src.edges (drop n w) e.to) more_cells rest; target = more },
             ))
         | inr l ↦ (
             let past : length w ≤ place = omega arith in
             let gone : drop place w ≡ drop (suc place) w = drop_all place w past ∙ sym (drop_all (suc place) w (omega arith)) in (
-              record { state = o.state; reached = next equal src.edges o.reached (symbol_of c); target = next A dst.edges o.target (symbol_of c) },
+              record { state = o.state; target = next A dst.edges o.target (symbol_of c) },
               (c, inr (l, cell_past w place past, refl), refl),
               record { rest = subst (λ (z : Word). Spells (holds equal) src.edges z o.state) gone met.rest; target = more },
             ))
@@ -95,8 +95,8 @@ module _ (A : ℕ → ℕ → Bool) (src dst : Automaton) (hs : IsAutomaton src)
         (r, m, record { rest = subst (λ (z : ℕ). Spells (holds equal) src.edges (drop (suc place) w) z) (sym same) more.rest; target = λ s k. more.target s (of s k) });
   })
 
-  pub layer_placed : (place : ℕ) (layer : List Obligation) → Layer place layer → (o : Obligation) → Among o layer → IsPlaced src dst place o
-  layer_placed place layer i o m = (i.sound o m).placed
+  pub layer_between : (place : ℕ) (layer : List Obligation) → Layer place layer → (o : Obligation) → Among o layer → IsBetween src dst o
+  layer_between place layer i o m = (i.sound o m).between
 
   -- ---- what is answered
 

@@ -1,5 +1,5 @@
 -- An obligation of a layer is some source word's, and so is what follows from it.
-use Rattle.std.proofs.Common.{◌≡◌, ◌≢◌, ℕ, suc, ◌≤◌, inl, inr, Bool, List, [], ◌∷◌, ◌++◌, length, sym, ap, ◌∙◌, subst, arith, length-append}
+use Rattle.std.proofs.Common.{◌≡◌, ◌≢◌, ℕ, suc, ◌<◌, ◌≤◌, inl, inr, Bool, List, [], ◌∷◌, ◌++◌, length, sym, ap, ◌∙◌, subst, arith, length-append}
 use Rattle.tm_base.specs.declared.cell.Cell.{Cell}
 use Rattle.tm_base.specs.Cells.{Word}
 use Rattle.tm_auto.specs.Automata.{Automaton, AreStates, IsAutomaton, ReadsWords, reached, equal}
@@ -9,18 +9,18 @@ use Rattle.tm_auto.proofs.AmongLemmas.{none_among}
 use Rattle.tm_auto.proofs.NextLemmas.{next_states}
 use Rattle.tm_auto.proofs.StepLemmas.{passes_takes, to_next}
 use Rattle.tm_walk.specs.declared.obligation.Obligation.{Obligation}
-use Rattle.tm_walk.specs.Obligations.{IsFirst, IsPlaced, Follows}
+use Rattle.tm_walk.specs.Obligations.{IsFirst, IsBetween, Follows}
 use Rattle.tm_walk.specs.Sought.{IsSourceWord}
 use Rattle.tm_walk.proofs.ChainLemmas.{reached_more}
 use Rattle.tm_walk.proofs.PaddedLemmas.{padded, cell_at, cell_past, padded_more, padded_front, length-padded}
 
 module _ (A : ℕ → ℕ → Bool) (src dst : Automaton) where
-  -- Some source word leads there: its cells before the place reach these states of the source, and fitted those of the target.
+  -- Some source word leads there: up to its end its cells before the place reach the source's state, and fitted the target's.
   pub record IsSound (place : ℕ) (o : Obligation) : Type 0 where
-    pub placed : IsPlaced src dst place o
+    pub between : IsBetween src dst o
     pub whole : Word
     pub word : IsSourceWord src whole
-    pub source : o.reached ≡ reached equal src (padded whole place)
+    pub state : place ≤ src.size → Among o.state (reached equal src (padded whole place))
     pub target : o.target ≡ reached A dst (padded whole place)
 
 module _ (A : ℕ → ℕ → Bool) (src dst : Automaton) (hs : IsAutomaton src) (rs : ReadsWords src) (hd : IsAutomaton dst) (rd : ReadsWords dst) where
@@ -34,14 +34,10 @@ module _ (A : ℕ → ℕ → Bool) (src dst : Automaton) (hs : IsAutomaton src)
       let start : src.starts ≢ [] = λ e. none_among (subst (λ (z : List ℕ). Among o.state z) e f.state) in
       let (w, word) = (rs.source []).0 (λ e. start (sym (rs.begins equal) ∙ e)) in
       record {
-        placed = record {
-          reached = subst (AreStates src) (sym f.reached) hs.below;
-          target = subst (AreStates dst) (sym f.target) hd.below;
-          state = λ l. subst (λ (z : List ℕ). Among o.state z) (sym f.reached) f.state;
-        };
+        between = record { state = hs.below o.state f.state; target = subst (AreStates dst) (sym f.target) hd.below };
         whole = w;
         word = word;
-        source = f.reached;
+        state = λ l. f.state;
         target = f.target;
       }
 
@@ -50,51 +46,41 @@ module _ (A : ℕ → ℕ → Bool) (src dst : Automaton) (hs : IsAutomaton src)
   longer : (w : Word) (place : ℕ) (c : Cell) → length (padded w place ++ c ∷ []) ≡ suc place
   longer w place c = length-append (padded w place) (c ∷ []) ∙ (let z = length-padded w place in omega arith)
 
-  next_placed : (place : ℕ) (o p : Obligation) (c : Cell) → p.reached ≡ next equal src.edges o.reached (symbol_of c) → p.target ≡ next A dst.edges o.target (symbol_of c)
-      → (suc place ≤ src.size → Among p.state p.reached) → IsPlaced src dst (suc place) p
-  next_placed place o p c a b f = record {
-    reached = subst (AreStates src) (sym a) (next_states equal (symbol_of c) src hs o.reached);
-    target = subst (AreStates dst) (sym b) (next_states A (symbol_of c) dst hd o.target);
-    state = f;
-  }
-
   -- where the same word, padded, has the cell next
-  next_reached : (place : ℕ) (o p : Obligation) (c : Cell) (w v : Word) → p.reached ≡ next equal src.edges o.reached (symbol_of c) → o.reached ≡ reached equal src (padded w place)
-      → padded v (suc place) ≡ padded w place ++ c ∷ [] → p.reached ≡ reached equal src (padded v (suc place))
-  next_reached place o p c w v a b e = a ∙ ap (λ (z : List ℕ). next equal src.edges z (symbol_of c)) b ∙ sym (reached_more equal src (padded w place) c) ∙ ap (reached equal src) (sym e)
-
   next_target : (place : ℕ) (o p : Obligation) (c : Cell) (w v : Word) → p.target ≡ next A dst.edges o.target (symbol_of c) → o.target ≡ reached A dst (padded w place)
       → padded v (suc place) ≡ padded w place ++ c ∷ [] → p.target ≡ reached A dst (padded v (suc place))
   next_target place o p c w v a b e = a ∙ ap (λ (z : List ℕ). next A dst.edges z (symbol_of c)) b ∙ sym (reached_more A dst (padded w place) c) ∙ ap (reached A dst) (sym e)
 
+  target_states : (o p : Obligation) (c : Cell) → p.target ≡ next A dst.edges o.target (symbol_of c) → AreStates dst p.target
+  target_states o p c a = subst (AreStates dst) (sym a) (next_states A (symbol_of c) dst hd o.target)
+
   pub next_sound : (place : ℕ) (o p : Obligation) → Sound place o → Follows A src dst place o p → Sound (suc place) p
   next_sound place o p s (c, inl (l, (e, ea, ef, t, to)), q) =
-      let a : p.reached ≡ next equal src.edges o.reached (symbol_of c) = ap (λ (z : Obligation). z.reached) q in
-      let b : p.target ≡ next A dst.edges o.target (symbol_of c) = ap (λ (z : Obligation). z.target) q in
-      let from : Among e.from o.reached = subst (λ (z : ℕ). Among z o.reached) (sym ef) (s.placed.state (omega arith)) in
-      let m : Among p.state p.reached = subst (λ (z : List ℕ). Among p.state z) (sym a)
-      (subst (λ (z : ℕ). Among z (next equal src.edges o.reached (symbol_of c))) to (to_next equal src.edges o.reached (symbol_of c) e ea from ((passes_takes equal e.label c).1 t))) in
+      let a : p.target ≡ next A dst.edges o.target (symbol_of c) = ap (λ (z : Obligation). z.target) q in
+      let before = reached equal src (padded s.whole place) in
+      let from : Among e.from before = subst (λ (z : ℕ). Among z before) (sym ef) (s.state (omega arith)) in
       let u = padded s.whole place ++ c ∷ [] in
-      let is : p.reached ≡ reached equal src u = a ∙ ap (λ (z : List ℕ). next equal src.edges z (symbol_of c)) s.source ∙ sym (reached_more equal src (padded s.whole place) c) in
-      let (v, word) = (rs.source u).0 (λ none. none_among (subst (λ (z : List ℕ). Among p.state z) (is ∙ none) m)) in
+      let m : Among p.state (reached equal src u) = subst (λ (z : List ℕ). Among p.state z) (sym (reached_more equal src (padded s.whole place) c))
+      (subst (λ (z : ℕ). Among z (next equal src.edges before (symbol_of c))) to (to_next equal src.edges before (symbol_of c) e ea from ((passes_takes equal e.label c).1 t))) in
+      let (v, word) = (rs.source u).0 (λ none. none_among (subst (λ (z : List ℕ). Among p.state z) none m)) in
       let front : padded (u ++ v) (suc place) ≡ u = subst (λ (n : ℕ). padded (u ++ v) n ≡ u) (longer s.whole place c) (padded_front u v) in
+      let (down, up) = hs.down e ea in
       record {
-        placed = next_placed place o p c a b (λ k. m);
+        between = record { state = omega arith; target = target_states o p c a };
         whole = u ++ v;
         word = word;
-        source = next_reached place o p c s.whole (u ++ v) a s.source front;
-        target = next_target place o p c s.whole (u ++ v) b s.target front;
+        state = λ k. subst (λ (z : Word). Among p.state (reached equal src z)) (sym front) m;
+        target = next_target place o p c s.whole (u ++ v) a s.target front;
       }
   next_sound place o p s (c, inr (l, u, same), q) =
-      let a : p.reached ≡ next equal src.edges o.reached (symbol_of c) = ap (λ (z : Obligation). z.reached) q in
-      let b : p.target ≡ next A dst.edges o.target (symbol_of c) = ap (λ (z : Obligation). z.target) q in
+      let a : p.target ≡ next A dst.edges o.target (symbol_of c) = ap (λ (z : Obligation). z.target) q in
       let size = hs.sized equal s.whole s.word in
       let past : cell_at s.whole place ≡ c = cell_past s.whole place (omega arith) ∙ sym u in
       let front : padded s.whole (suc place) ≡ padded s.whole place ++ c ∷ [] = padded_more s.whole place ∙ ap (λ (z : Cell). padded s.whole place ++ z ∷ []) past in
       record {
-        placed = next_placed place o p c a b (λ k. absurd (omega arith));
+        between = record { state = subst (λ (n : ℕ). n < src.states) (sym same) s.between.state; target = target_states o p c a };
         whole = s.whole;
         word = s.word;
-        source = next_reached place o p c s.whole s.whole a s.source front;
-        target = next_target place o p c s.whole s.whole b s.target front;
+        state = λ k. absurd (omega arith);
+        target = next_target place o p c s.whole s.whole a s.target front;
       }

@@ -49,27 +49,26 @@ module _ (src dst : Automaton) where
   -- before the first cell: what begins at a start begins at one of the target's
   pub record IsFirst (o : Obligation) : Type 0 where
     pub state : Among o.state src.starts
-    pub reached : o.reached ≡ src.starts
     pub target : o.target ≡ dst.starts
 
-  -- it is of states of the two, and up to the source's end its state is one of those reached
-  pub record IsPlaced (place : ℕ) (o : Obligation) : Type 0 where
-    pub reached : AreStates src o.reached
+  -- it is of states of the two
+  pub record IsBetween (o : Obligation) : Type 0 where
+    pub state : o.state < src.states
     pub target : AreStates dst o.target
-    pub state : place ≤ src.size → Among o.state o.reached
 
-module _ (A : ℕ → ℕ → Bool) (src dst : Automaton) where
+module _ (A : ℕ → ℕ → Bool) (dst : Automaton) where
   -- the obligation of a state, behind a symbol
   abbrev pub behind : Obligation → Symbol → ℕ → Obligation
-  behind o x s = record { state = s; reached = next equal src.edges o.reached x; target = next A dst.edges o.target x }
+  behind o x s = record { state = s; target = next A dst.edges o.target x }
 
   -- the edge passes the symbol and leads to the second
   abbrev pub FollowsEdge : Obligation → Symbol → Edge → Obligation → Type 0
   FollowsEdge o x e p = (passes equal e.label x ≡ true) × (p ≡ behind o x e.to)
 
+module _ (A : ℕ → ℕ → Bool) (src dst : Automaton) where
   -- an edge out of its state does
   abbrev pub FollowsSymbol : Obligation → Symbol → Obligation → Type 0
-  FollowsSymbol o x p = (e : Edge) × Among e (edges_from o.state src.edges) × FollowsEdge o x e p
+  FollowsSymbol o x p = (e : Edge) × Among e (edges_from o.state src.edges) × FollowsEdge A dst o x e p
 
   -- A source word may have the cell at the place and lead from the one state to the other. Behind its end only uninitialised
   -- cells follow, and the end stays.
@@ -80,7 +79,7 @@ module _ (A : ℕ → ℕ → Bool) (src dst : Automaton) where
 
   -- the second is what becomes of the first behind some cell
   abbrev pub Follows : ℕ → Obligation → Obligation → Type 0
-  Follows place o p = (c : Cell) × Moves place o.state c p.state × (p ≡ behind o (symbol_of c) p.state)
+  Follows place o p = (c : Cell) × Moves place o.state c p.state × (p ≡ behind A dst o (symbol_of c) p.state)
 
   -- it follows from one of them
   abbrev pub FollowsSome : ℕ → List Obligation → Obligation → Type 0

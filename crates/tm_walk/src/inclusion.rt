@@ -4,12 +4,12 @@ ghost use Rattle.tm_auto.specs.Automata.{AreStates};
 ghost use Rattle.tm_auto.specs.Paths.{Among};
 ghost use Rattle.tm_walk.specs.declared.obligation.Obligation.{Obligation};
 ghost use Rattle.tm_walk.specs.Meanings.{EachWordFits};
-ghost use Rattle.tm_walk.specs.Obligations.{AreAdded, IsFirst, IsPlaced, Follows, FollowsSome, FollowsSymbol, behind};
+ghost use Rattle.tm_walk.specs.Obligations.{AreAdded, IsBetween, IsFirst, Follows, FollowsSome, FollowsSymbol, behind};
 
 use crate::antichain::Antichain;
 use crate::obligation::Obligation;
 use std::alloc::Global;
-use tm_auto::{Auto, Symbol, classes};
+use tm_auto::{Auto, StateSet, Symbol, classes};
 use tm_base::{Equal, Memory, RefTest};
 
 /// Whether each word of the source, fitted, is a word of the target. Alternatives that overlap are gone
@@ -69,7 +69,6 @@ impl<'a, M: RefTest> Inclusion<'a, M> {
         for state in starts.as_slice() {
             layer.add(Obligation {
                 state: *state,
-                reached: self.src.start(self.alloc)?,
                 target: self.dst.start(self.alloc)?,
             })?;
         }
@@ -78,8 +77,8 @@ impl<'a, M: RefTest> Inclusion<'a, M> {
 
     /// What follows from a layer's obligations, which are at the place.
     fn advance(&self, place: u32, layer: &Antichain) -> Result<Antichain, Memory>
-        requires placed { (o : Obligation) → Among o layer.now
-            → IsPlaced self.now.src.now self.now.dst.now place o }
+        requires states { (o : Obligation) → Among o layer.now
+            → IsBetween self.now.src.now self.now.dst.now o }
         ensures { IfOk result (λ next. AreAdded
             (FollowsSome (M.test self.now.refs.now) self.now.src.now self.now.dst.now
             place layer.now) [] next) }
@@ -93,7 +92,7 @@ impl<'a, M: RefTest> Inclusion<'a, M> {
 
     /// Adds what follows from one obligation. Behind the source's end its state stays.
     fn expand(&self, place: u32, from: &Obligation, next: &mut Antichain) -> Result<(), Memory>
-        requires placed { IsPlaced self.now.src.now self.now.dst.now place from.now }
+        requires states { IsBetween self.now.src.now self.now.dst.now from.now }
         ensures { OnOk result (AreAdded
             (Follows (M.test self.now.refs.now) self.now.src.now self.now.dst.now place from.now)
             next.old next.new) }
@@ -101,7 +100,8 @@ impl<'a, M: RefTest> Inclusion<'a, M> {
         if place >= self.src.size() {
             return next.add(self.behind(from, Symbol::Uninit, from.state)?);
         }
-        let symbols = classes(self.alloc, self.src, &from.reached, self.dst, &from.target)?;
+        let state = StateSet::of_one(self.alloc, from.state)?;
+        let symbols = classes(self.alloc, self.src, &state, self.dst, &from.target)?;
         for symbol in symbols.as_slice() {
             self.follow(from, *symbol, next)?;
         }
@@ -111,7 +111,6 @@ impl<'a, M: RefTest> Inclusion<'a, M> {
     /// Adds what follows by a symbol: an obligation for each edge out of the state that passes it.
     fn follow(&self, from: &Obligation, symbol: Symbol, next: &mut Antichain) -> Result<(), Memory>
         requires state { from.now.state < self.now.src.now.states }
-        requires reached { AreStates self.now.src.now from.now.reached }
         requires target { AreStates self.now.dst.now from.now.target }
         ensures { OnOk result (AreAdded
             (FollowsSymbol (M.test self.now.refs.now) self.now.src.now self.now.dst.now
@@ -127,15 +126,12 @@ impl<'a, M: RefTest> Inclusion<'a, M> {
 
     /// The obligation of a state, behind the symbol.
     fn behind(&self, from: &Obligation, symbol: Symbol, state: u32) -> Result<Obligation, Memory>
-        requires reached { AreStates self.now.src.now from.now.reached }
         requires target { AreStates self.now.dst.now from.now.target }
         ensures { IfOk result (λ to. to
-            ≡ behind (M.test self.now.refs.now) self.now.src.now self.now.dst.now
-            from.now symbol state) }
+            ≡ behind (M.test self.now.refs.now) self.now.dst.now from.now symbol state) }
     {
         Ok(Obligation {
             state,
-            reached: self.src.step(self.alloc, &Equal, &from.reached, symbol)?,
             target: self.dst.step(self.alloc, self.refs, &from.target, symbol)?,
         })
     }

@@ -8,9 +8,6 @@ use tm_auto::StateSet;
 #[derive(Drop)]
 pub struct Obligation {
     pub state: u32,
-    /// What the cells before reach in the source, the state among it.
-    pub reached: StateSet,
-    /// What they reach in the target.
     pub target: StateSet,
 }
 

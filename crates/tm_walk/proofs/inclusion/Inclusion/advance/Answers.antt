@@ -11,7 +11,7 @@ expand-requires g c =
     let xs = c.as_slice-obligation-items.result.now in
     let o = c.obligation-item.result in
     let at = subst (λ (z : Obligation). Among z xs) (sym c.obligation-item.is) (among_at follows xs c.loop-obligation.obligation-index o c.loop-obligation-test.true) in
-    record { placed = c.requires.placed o (subst (λ (z : List Obligation). Among o z) c.as_slice-obligation-items.ensures at) }
+    record { states = c.requires.states o (subst (λ (z : List Obligation). Among o z) c.as_slice-obligation-items.ensures at) }
 
 pub loop-obligation-preserved : goal.loop-obligation-preserved
 loop-obligation-preserved g c =

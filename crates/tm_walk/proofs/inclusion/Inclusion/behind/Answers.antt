@@ -3,5 +3,4 @@ use Rattle.tm_walk.proofs.inclusion.Inclusion.behind.Goals as goal
 
 pub returns : goal.returns
 returns g c =
-    behind_is (g.M.RefTest.test c.args.self.now.refs.now) c.args.self.now.src.now c.args.self.now.dst.now c.args.from.now c.args.symbol c.args.state
-    _ _ c.in_ok-step.ensures.step c.in_ok-step-2.ensures.step
+    behind_is (g.M.RefTest.test c.args.self.now.refs.now) c.args.self.now.dst.now c.args.from.now c.args.symbol c.args.state _ c.in_ok-step.ensures.step

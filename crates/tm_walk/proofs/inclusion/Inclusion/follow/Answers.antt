@@ -10,20 +10,19 @@ use Rattle.tm_walk.proofs.inclusion.Inclusion.follow.Goals.{then-takes+in_ok-beh
 pub loop-edge-preserved : goal.loop-edge-preserved
 loop-edge-preserved g c =
     let A = g.M.RefTest.test c.args.self.now.refs.now in
-    let src = c.args.self.now.src.now in
     let dst = c.args.self.now.dst.now in
     let es = c.edges-edge-items.result.now in
     let i = c.loop-edge.edge-index in
-    let follows = FollowsEdge A src dst c.args.from.now c.args.symbol in
+    let follows = FollowsEdge A dst c.args.from.now c.args.symbol in
     λ after h. c.loop-edge.invariant after (elim c.if-takes.branch [
-      | then-takes+in_ok-behind+in_ok-add w ↦ edge_taken A src dst c.args.from.now c.args.symbol es i _ c.loop-edge-test.true c.loop-edge.next after w.add.new.self _
+      | then-takes+in_ok-behind+in_ok-add w ↦ edge_taken A dst c.args.from.now c.args.symbol es i _ c.loop-edge-test.true c.loop-edge.next after w.add.new.self _
           (sym c.takes.ensures ∙ w.if-takes.true) w.in_ok-behind.ensures w.in_ok-add.ensures (subst (λ (z : List Obligation). AreAdded (OfSome follows (drop (i + 1) es)) z after) w.next-is h)
-      | else-takes w ↦ edge_left A src dst c.args.from.now c.args.symbol es i _ c.loop-edge-test.true c.loop-edge.next after
+      | else-takes w ↦ edge_left A dst c.args.from.now c.args.symbol es i _ c.loop-edge-test.true c.loop-edge.next after
           (sym c.takes.ensures ∙ w.if-takes.false) (subst (λ (z : List Obligation). AreAdded (OfSome follows (drop (i + 1) es)) z after) w.next-is h)
     ])
 
 pub returns : goal.returns
 returns g c =
-    let follows = FollowsEdge (g.M.RefTest.test c.args.self.now.refs.now) c.args.self.now.src.now c.args.self.now.dst.now c.args.from.now c.args.symbol in
+    let follows = FollowsEdge (g.M.RefTest.test c.args.self.now.refs.now) c.args.self.now.dst.now c.args.from.now c.args.symbol in
     subst (λ (z : List Edge). AreAdded (OfSome follows z) c.args.next.now c.loop-edge.next) c.edges-edge-items.ensures
     (c.loop-edge.invariant c.loop-edge.next (added_end follows c.edges-edge-items.result.now c.loop-edge.edge-index c.loop-edge-test.false c.loop-edge.next))

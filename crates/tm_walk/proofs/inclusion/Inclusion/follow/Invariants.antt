@@ -7,5 +7,5 @@ use Rattle.tm_walk.proofs.inclusion.Inclusion.follow.Given as goal
 -- what the edges that are left make of the next layer so far, all make of what it was
 abbrev pub invariant-loop-edge : goal.invariant-loop-edge
 invariant-loop-edge g l = (after : List Obligation)
-    → AreAdded (OfSome (FollowsEdge (g.M.RefTest.test l.self.refs.now) l.self.src.now l.self.dst.now l.from l.symbol) (drop l.edge-index l.edge-items)) l.next after
-    → AreAdded (OfSome (FollowsEdge (g.M.RefTest.test l.self.refs.now) l.self.src.now l.self.dst.now l.from l.symbol) l.edge-items) l.initial.next after
+    → AreAdded (OfSome (FollowsEdge (g.M.RefTest.test l.self.refs.now) l.self.dst.now l.from l.symbol) (drop l.edge-index l.edge-items)) l.next after
+    → AreAdded (OfSome (FollowsEdge (g.M.RefTest.test l.self.refs.now) l.self.dst.now l.from l.symbol) l.edge-items) l.initial.next after

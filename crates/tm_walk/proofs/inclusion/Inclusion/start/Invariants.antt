@@ -8,5 +8,5 @@ use Rattle.tm_walk.proofs.inclusion.Inclusion.start.Given as goal
 -- what the starts that are left make of the layer so far, all make of none
 abbrev pub invariant-loop-state : goal.invariant-loop-state
 invariant-loop-state g l = (after : List Obligation)
-    → AreAdded (OfSome (IsFirstOf (g.M.RefTest.test l.self.refs.now) l.self.src.now l.self.dst.now) (drop l.state-index l.state-items)) l.layer after
-    → AreAdded (OfSome (IsFirstOf (g.M.RefTest.test l.self.refs.now) l.self.src.now l.self.dst.now) l.state-items) [] after
+    → AreAdded (OfSome (IsFirstOf l.self.dst.now) (drop l.state-index l.state-items)) l.layer after
+    → AreAdded (OfSome (IsFirstOf l.self.dst.now) l.state-items) [] after
