@@ -1,0 +1,5 @@
+use Rattle.tm_refute.proofs.LawLemmas.{refuted}
+use Rattle.tm_refute.proofs.law.refutations_are_true.Goals as goal
+
+pub returns : goal.returns
+returns c = refuted

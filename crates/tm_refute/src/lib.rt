@@ -1,0 +1,12 @@
+//! Refutations: noes that a third party checks by types, words and cells alone.
+//!
+//! A refutation shows that the answer to a question isn't yes: by a value of the source with which the
+//! target doesn't go along, and by pairs of references that fail, each resting on pairs that fail at
+//! lesser depths. [`refutations_are_true`] is what one shows wherever it holds.
+#![tactic(auto)]
+
+mod law;
+mod refutation;
+
+pub use law::refutations_are_true;
+pub use refutation::{Entry, Piece, Proof, Refutation};
