@@ -31,7 +31,7 @@ use Rattle.tm_refute.specs.Law.{IsNo, IsRefuted}
 use Rattle.tm_refute.specs.Refutes.{Breaks, FailsAt, Holds, Refutes, Stands}
 
 -- who keeps all local rules breaks none
-keeps-each : (tables : Tables) (assume : Assume) (r t : RefRow) → KeepsAll tables assume r t → (rule : LocalRule) → Keeps tables assume r t rule
+pub keeps-each : (tables : Tables) (assume : Assume) (r t : RefRow) → KeepsAll tables assume r t → (rule : LocalRule) → Keeps tables assume r t rule
 keeps-each tables assume r t all MoreUnique = all.more_unique
 keeps-each tables assume r t all TooBig = all.too_big
 keeps-each tables assume r t all Alignment = all.alignment

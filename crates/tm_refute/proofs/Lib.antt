@@ -1,1 +1,5 @@
+mod DepthLemmas
+mod JudgedLemmas
 mod LawLemmas
+mod ShownLemmas
+mod VerifyLemmas

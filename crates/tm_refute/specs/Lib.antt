@@ -1,2 +1,5 @@
 pub mod Refutes
 pub mod Law
+pub mod Depths
+pub mod Judged
+pub mod Ready

@@ -2,11 +2,19 @@
 //!
 //! A refutation shows that the answer to a question isn't yes: by a value of the source with which the
 //! target doesn't go along, and by pairs of references that fail, each resting on pairs that fail at
-//! lesser depths. [`refutations_are_true`] is what one shows wherever it holds.
+//! lesser depths. [`verify`] says whether one holds; it asks what a value is, how references break the
+//! local rules, and nothing else. [`refutations_are_true`] is what one shows wherever it holds.
 #![tactic(auto)]
 
+mod depths;
+mod fitted;
+mod judged;
 mod law;
 mod refutation;
+mod standing;
+mod verifier;
+mod verifying;
 
 pub use law::refutations_are_true;
 pub use refutation::{Entry, Piece, Proof, Refutation};
+pub use verifying::verify;
