@@ -10,6 +10,7 @@ mod depths;
 mod fitted;
 mod judged;
 mod law;
+mod pieces;
 mod refutation;
 mod standing;
 mod verifier;

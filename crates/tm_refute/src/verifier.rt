@@ -1,26 +1,18 @@
-//! Whether pieces break two types, and whether entries hold.
-ghost use Rattle.std.specs.Prelude.{◌≡◌, ◌+◌, ◌↔◌, IsTrue, IfOk, Some, All, length, slice_get, take};
-ghost use Rattle.tm_base.specs.Cells.{fit};
+//! Whether the entries of a refutation hold.
+ghost use Rattle.std.specs.Prelude.{◌≡◌, ◌↔◌, IsTrue, IfOk, Some, All, slice_get};
 ghost use Rattle.tm_base.specs.Compatible.{IsLocalFault};
-ghost use Rattle.tm_base.specs.Layout.{size_of};
 ghost use Rattle.tm_base.specs.Reaches.{IsJudged};
-ghost use Rattle.tm_base.specs.Tables.{OnRows, expanded_in};
-ghost use Rattle.tm_base.specs.Transmutes.{IsSourceWord};
-ghost use Rattle.tm_base.specs.Viable.{Viable};
+ghost use Rattle.tm_base.specs.Tables.{OnRows};
 ghost use Rattle.tm_base.specs.Worlds.{tables_of};
-ghost use Rattle.tm_refs.specs.LaidOut.{HasLayout};
 ghost use Rattle.tm_refs.specs.Local.{AreJudged};
 ghost use Rattle.tm_refute.specs.Ready.{IsReady};
-ghost use Rattle.tm_refute.specs.Refutes.{Breaks, Holds, IsKnown, IsShown, Stands};
+ghost use Rattle.tm_refute.specs.Refutes.{Holds, IsShown};
 
 use crate::depths::Depths;
-use crate::fitted::fitted;
 use crate::judged::Judged;
-use crate::refutation::{Entry, Piece, Proof};
-use crate::standing::Standing;
+use crate::refutation::{Entry, Proof};
 use std::alloc::Global;
-use tm_base::{Assume, Cell, Equal, Ground, LocalRule, Memory, RefRow, World};
-use tm_check::{valid, viable};
+use tm_base::{Assume, LocalRule, Memory, RefRow, World};
 use tm_layout::Layouts;
 use tm_refs::local;
 use tm_region::Order;
@@ -54,89 +46,6 @@ impl Verifier<'_> {
             }
         }
         Ok(true)
-    }
-
-    /// Whether the piece breaks the source `s` and the target `t`, where the pairs of entries with a depth
-    /// below the limit fail. `None`: those of all entries.
-    pub fn breaks(
-        &self,
-        limit: Option<u32>,
-        s: &Ground,
-        t: &Ground,
-        piece: &Piece,
-    ) -> Result<bool, Memory>
-        requires ready { IsReady self.now }
-        requires source { HasLayout (tables_of self.now.world.now) s.now }
-        requires target { HasLayout (tables_of self.now.world.now) t.now }
-        ensures { let tables = tables_of self.now.world.now in
-            IfOk result (λ breaks. IsTrue breaks
-            ↔ Breaks tables self.now.assume self.now.entries.now limit
-            (expanded_in tables s.now) (expanded_in tables t.now) piece.now) }
-    {
-        if !self.knows(piece.word.as_slice()) || !self.is_value(s, piece.word.as_slice()) {
-            return Ok(false);
-        }
-        Ok(!self.goes_along(limit, t, piece)?)
-    }
-
-    /// Whether the cells name no reference but the world's.
-    fn knows(&self, word: &[Cell]) -> bool
-        ensures { IsTrue result ↔ All (IsKnown (length self.now.world.now.refs)) word.now }
-    {
-        let count = self.world.refs.len();
-        for cell in word {
-            if !is_known(count, *cell) {
-                return false;
-            }
-        }
-        true
-    }
-
-    /// Whether the cells are a value of a source.
-    fn is_value(&self, s: &Ground, word: &[Cell]) -> bool
-        requires ready { IsReady self.now }
-        requires source { HasLayout (tables_of self.now.world.now) s.now }
-        ensures { let tables = tables_of self.now.world.now in
-            IsTrue result ↔ IsSourceWord (expanded_in tables s.now) word.now }
-    {
-        valid(self.world, self.layouts, &Equal, true, s, word)
-    }
-
-    /// Whether the target goes along with the piece's word, fitted, up to its place.
-    fn goes_along(&self, limit: Option<u32>, t: &Ground, piece: &Piece) -> Result<bool, Memory>
-        requires ready { IsReady self.now }
-        requires target { HasLayout (tables_of self.now.world.now) t.now }
-        ensures { let t = expanded_in (tables_of self.now.world.now) t.now in
-            IfOk result (λ goes. IsTrue goes
-            ↔ Viable (Stands self.now.entries.now limit) self.now.assume.safety t
-            (take (piece.now.offset + 1) (fit piece.now.word (size_of t)))) }
-    {
-        let count = self.size(t).min(piece.offset as usize + 1);
-        let asked = fitted(self.alloc, piece.word.as_slice(), count)?;
-        let refs = Standing {
-            depths: &self.depths,
-            limit,
-        };
-        Ok(viable(
-            self.world,
-            self.layouts,
-            &refs,
-            self.assume.safety,
-            t,
-            asked.as_slice(),
-        ))
-    }
-
-    /// The size of a type, in bytes.
-    fn size(&self, g: &Ground) -> usize
-        requires ready { IsReady self.now }
-        requires has { HasLayout (tables_of self.now.world.now) g.now }
-        ensures { result ≡ size_of (expanded_in (tables_of self.now.world.now) g.now) }
-    {
-        match self.layouts.of(g) {
-            Ok(layout) => layout.size as usize,
-            Err(_) => unreachable!(),
-        }
     }
 
     /// Whether an entry names references of the world with judged pointees, and they fail as it says.
@@ -209,15 +118,5 @@ impl Verifier<'_> {
             Ok(()) => false,
             Err(first) => first == rule,
         }
-    }
-}
-
-/// Whether a cell names no reference but one of the first so many.
-fn is_known(count: usize, cell: Cell) -> bool
-    ensures { IsTrue result ↔ IsKnown count cell }
-{
-    match cell {
-        Cell::Byte(_) | Cell::Uninit => true,
-        Cell::Ptr(id, _) => (id.0 as usize) < count,
     }
 }
