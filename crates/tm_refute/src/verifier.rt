@@ -88,7 +88,8 @@ impl Verifier<'_> {
                 self.breaks(Some(entry.depth), &source.pointee, &target.pointee, piece)
             }
             Proof::Reverse(piece) => {
-                if entry.depth == 0 || !target.mutable {
+                let writable = target.mutable;
+                if entry.depth == 0 || !writable {
                     return Ok(false);
                 }
                 self.breaks(Some(entry.depth), &target.pointee, &source.pointee, piece)

@@ -28,10 +28,10 @@ returns-else-entry-eq0-2 c =
     (λ b. forward-shown (tables_of self.world.now) self.assume self.entries.now entry.depth c.if-entry-eq0-2.false c.args.source.now c.args.target.now entry.proof c.in-Forward.piece b c.in-Forward.is)
     c.breaks.ensures
 
-pub returns-else-not-target : goal.returns-else-not-target
-returns-else-not-target c =
+pub returns-else-not-writable : goal.returns-else-not-writable
+returns-else-not-writable c =
     let self = c.args.self.now in
     let entry = c.args.entry.now in
     IfOk-weaker c.breaks-in-Reverse.result _ _
-    (λ b. reverse-shown (tables_of self.world.now) self.assume self.entries.now entry.depth c.if-entry-eq0-3.false c.args.source.now c.args.target.now entry.proof c.in-Reverse.piece b c.in-Reverse.is c.if-not-target.false)
+    (λ b. reverse-shown (tables_of self.world.now) self.assume self.entries.now entry.depth c.if-entry-eq0-3.false c.args.source.now c.args.target.now entry.proof c.in-Reverse.piece b c.in-Reverse.is c.if-not-writable.false)
     c.breaks-in-Reverse.ensures
