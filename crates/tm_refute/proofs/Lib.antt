@@ -1,5 +1,11 @@
 mod DepthLemmas
 mod JudgedLemmas
 mod LawLemmas
+mod LineFormLemmas
+mod PartFormLemmas
+mod Rows
 mod ShownLemmas
+mod TextFormLemmas
+mod TextLemmas
 mod VerifyLemmas
+mod WordFormLemmas

@@ -3,3 +3,5 @@ pub mod Law
 pub mod Depths
 pub mod Judged
 pub mod Ready
+pub mod WordForms
+pub mod TextForms

@@ -1,7 +1,14 @@
 ghost use Rattle.tm_refute.specs.Law.{RefutationsAreTrue};
+ghost use Rattle.tm_refute.specs.TextForms.{TextsAreReadOneWay};
 
 /// Where a refutation holds, the answer to its question isn't yes, and each pair of references that it
 /// names fails at the depth that it names.
 pub fn refutations_are_true()
     ensures { RefutationsAreTrue }
+{}
+
+/// A text is that of one refutation of one question, and ends at one place. Bytes that are none have one bad
+/// line at most, and bytes that are one have none.
+pub fn texts_are_read_one_way()
+    ensures { TextsAreReadOneWay }
 {}

@@ -3,7 +3,8 @@
 //! A refutation shows that the answer to a question isn't yes: by a value of the source with which the
 //! target doesn't go along, and by pairs of references that fail, each resting on pairs that fail at
 //! lesser depths. [`verify`] says whether one holds; it asks what a value is, how references break the
-//! local rules, and nothing else. [`refutations_are_true`] is what one shows wherever it holds.
+//! local rules, and nothing else. [`refutations_are_true`] is what one shows wherever it holds, and
+//! [`texts_are_read_one_way`] says that its text is read in one way.
 #![tactic(auto)]
 
 mod depths;
@@ -16,6 +17,6 @@ mod standing;
 mod verifier;
 mod verifying;
 
-pub use law::refutations_are_true;
+pub use law::{refutations_are_true, texts_are_read_one_way};
 pub use refutation::{Entry, Piece, Proof, Refutation};
 pub use verifying::verify;

@@ -1,0 +1,5 @@
+use Rattle.tm_refute.proofs.TextFormLemmas.{texts-apart}
+use Rattle.tm_refute.proofs.law.texts_are_read_one_way.Goals as goal
+
+pub returns : goal.returns
+returns c = texts-apart
