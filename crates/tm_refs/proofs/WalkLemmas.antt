@@ -1,25 +1,16 @@
 -- What walks find, in the words of casts.
 use Rattle.std.proofs.Common.{◌≡◌, ℕ, ◌↔◌, inl, inr, refl, sym, ◌∙◌, ap, length, Bool, true, false, IsTrue, List, [], ◌∷◌, Option, None, Some}
-use Rattle.std.specs.Prelude.{◌==◌, is_none, is_some, IfNone, IfSome}
+use Rattle.std.specs.Prelude.{◌==◌, is_some, IfNone, IfSome}
 use Rattle.std.proofs.lemmas.Bool.{eqb-true}
 use Rattle.tm_base.specs.Cells.{Word}
 use Rattle.tm_auto.specs.Automata.{Automaton, ReadsWords, equal, reached}
 use Rattle.tm_walk.specs.declared.walking.Found.{Found}
-use Rattle.tm_walk.specs.Meanings.{EachWordFits, IsFirstRefusal, IsLeastExample, NoWordFits, exists_skips, exists_stops, for_all_skips, for_all_stops}
+use Rattle.tm_walk.specs.Meanings.{EachWordFits, IsLeastExample, NoWordFits, exists_skips, exists_stops}
 use Rattle.tm_walk.specs.Sought.{IsFound, NoneIsSought}
 use Rattle.tm_refs.proofs.ListLemmas.{empty}
 use Rattle.tm_refs.specs.Pointees.{AutoCasts, HasNoWord, SomeWordFits}
 
 module _ (A : ℕ → ℕ → Bool) (source target : Automaton) where
-  -- each word fits where no refused one is found
-  pub each-fits : (answer : Option Found) → (NoneIsSought A source target for_all_stops for_all_skips ↔ EachWordFits A source target)
-      → ((w : Word) (offset : ℕ) → IsFound A source target for_all_stops for_all_skips w offset → IsFirstRefusal A source target w offset)
-      → IfNone answer (NoneIsSought A source target for_all_stops for_all_skips)
-      → IfSome answer (λ found. IsFound A source target for_all_stops for_all_skips found.word found.offset)
-      → IsTrue (is_none answer) ↔ EachWordFits A source target
-  each-fits None none first unsought found = (λ _. none.0 unsought, λ _. refl)
-  each-fits (Some it) none first unsought found = (λ h. cc, λ each. let refusal = first it.word it.offset found in absurd (refusal.misfit (each it.word refusal.word)))
-
   -- some word fits where one is found
   pub some-fits : (answer : Option Found) → (NoneIsSought A source target exists_stops exists_skips ↔ NoWordFits A source target)
       → ((w : Word) (offset : ℕ) → IsFound A source target exists_stops exists_skips w offset → IsLeastExample A source target w offset)

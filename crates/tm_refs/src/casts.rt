@@ -1,7 +1,6 @@
 //! Casts of the values of one automaton as those of another.
 ghost use Rattle.std.specs.Prelude.{◌≡◌, ◌↔◌, ◌<◌, IfNone, IfOk, IfSome, IsTrue};
 ghost use Rattle.tm_refs.specs.Pointees.{AutoCasts, HasNoWord, SomeWordFits};
-ghost use Rattle.tm_walk.specs.Meanings.{EachWordFits};
 ghost use Rattle.tm_walk.specs.Sought.{IsFound, NoneIsSought};
 
 use std::alloc::Global;
@@ -9,9 +8,7 @@ use std::marker::Brand;
 use std::sync::ledger::{Blank, Ledger};
 use tm_auto::Auto;
 use tm_base::{Memory, RefTest, Steps};
-use tm_walk::{
-    Exists, ForAll, Found, Quantifier, exists_seeks_examples, for_all_seeks_refusals, walk,
-};
+use tm_walk::{Exists, Found, Quantifier, exists_seeks_examples, is_included, walk};
 
 /// Whether a value of the source may be taken as one of the target, where the test says which
 /// references in it may: the source has no value; or each fits, or, where validity is assumed, some
@@ -27,7 +24,7 @@ pub fn casts<M: RefTest>(
         ↔ AutoCasts (M.test refs.now) validity source.now target.now) }
 {
     if !validity {
-        return each_word_fits(alloc, source, target, refs);
+        return is_included(alloc, source, target, refs);
     }
     if has_no_word(alloc, source)? {
         return Ok(true);
@@ -42,21 +39,6 @@ fn has_no_word(alloc: Global, source: &Auto) -> Result<bool, Memory>
     source.law();
     let starts = source.start(alloc)?;
     Ok(starts.as_slice().is_empty())
-}
-
-/// Whether each word of the source, fitted, is one of the target.
-fn each_word_fits<M: RefTest>(
-    alloc: Global,
-    source: &Auto,
-    target: &Auto,
-    refs: &M,
-) -> Result<bool, Memory>
-    ensures { IfOk result (λ each. IsTrue each
-        ↔ EachWordFits (M.test refs.now) source.now target.now) }
-{
-    for_all_seeks_refusals(source, target);
-    let refused = find::<ForAll, M, Brand>(alloc, &ForAll, source, target, refs, Blank::new(1))?;
-    Ok(refused.is_none())
 }
 
 /// Whether some word of the source, fitted, is one of the target.

@@ -38,7 +38,7 @@ impl RefTest for Compat {
 impl Compat {
     /// The table of a world's references under some assumptions.
     ///
-    /// A look at a pair asks whether its pointees' values go together, by a walk or two, and is counted
+    /// A look at a pair asks whether its pointees' values go together, once or twice, and is counted
     /// in `looks`: each pair is looked at once, and again at most once for each pair that it depends on
     /// and that isn't compatible. `Memory`: there wasn't enough memory.
     pub fn solve<L: Ledger>(

@@ -8,7 +8,7 @@
 //! is lost is its depth. After the first round only those are looked at again that depend on a pair that
 //! was lost in the round before. Where a round loses nothing, the table is that of every depth.
 //!
-//! The automata of each pointee are built once, and a look is a walk or two through them.
+//! The automata of each pointee are built once, and a look goes through them once or twice.
 #![tactic(auto)]
 
 mod casts;

@@ -11,8 +11,8 @@ returns-then-not-validity g c =
     let A = g.M.RefTest.test c.args.refs.now in
     let source = c.args.source.now in
     let target = c.args.target.now in
-    IfOk-then c.each_word_fits.result (λ b. IsTrue b ↔ EachWordFits A source target) (λ b. IsTrue b ↔ AutoCasts A c.args.validity source target)
-    (λ (b : Bool) each. subst (λ v. IsTrue b ↔ AutoCasts A v source target) (sym c.if-not-validity.true) (casts-each A source target b each)) c.each_word_fits.ensures
+    IfOk-then c.is_included.result (λ b. IsTrue b ↔ EachWordFits A source target) (λ b. IsTrue b ↔ AutoCasts A c.args.validity source target)
+    (λ (b : Bool) each. subst (λ v. IsTrue b ↔ AutoCasts A v source target) (sym c.if-not-validity.true) (casts-each A source target b each)) c.is_included.ensures.included
 
 pub returns-then-branch : goal.returns-then-branch
 returns-then-branch g c =
