@@ -17,9 +17,9 @@ use tm_region::Order;
 
 /// The answer to a question about types of the world. The table is the one for what the question assumes.
 ///
-/// `steps` counts how often two sets of states are asked what may come next, which costs the most: where no
-/// type has alternatives, at most once for each byte of the target and once at its end. `Memory`: there
-/// wasn't enough memory.
+/// `steps` counts how often a walk asks two sets of states what may come next, which costs the most: where no
+/// type has alternatives, at most once for each byte of the target and once at its end. Where one has, a yes
+/// is told by inclusion, which isn't counted. `Memory`: there wasn't enough memory.
 pub fn judge<L: Ledger>(
     alloc: Global,
     world: &World,

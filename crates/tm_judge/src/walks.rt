@@ -9,9 +9,12 @@ use std::sync::ledger::Ledger;
 use tm_auto::Auto;
 use tm_base::{Memory, Steps};
 use tm_refs::Compat;
-use tm_walk::{Exists, ForAll, Found, exists_seeks_examples, for_all_seeks_refusals, walk};
+use tm_walk::{
+    Exists, ForAll, Found, exists_seeks_examples, for_all_seeks_refusals, is_included, walk,
+};
 
-/// The source word that the target refuses first; `None` where each, fitted, is a target word.
+/// The source word that the target refuses first; `None` where each, fitted, is a target word. Where a place
+/// has several states, it is asked first whether there is such a word: a walk goes through sets of them.
 pub(crate) fn first_refusal<L: Ledger>(
     alloc: Global,
     src: &Auto,
@@ -23,6 +26,10 @@ pub(crate) fn first_refusal<L: Ledger>(
     ensures cost { HasOneStateALayer src.now → HasOneStateALayer dst.now
         → steps.new ≤ steps.old + (dst.now.size + 1) }
 {
+    let single = src.has_one_state_a_layer() && dst.has_one_state_a_layer();
+    if !single && is_included(alloc, src, dst, compat)? {
+        return Ok(None);
+    }
     for_all_seeks_refusals(src, dst);
     walk(alloc, &ForAll, src, dst, compat, steps)
 }
