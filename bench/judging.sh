@@ -5,10 +5,6 @@
 set -u
 . "$(dirname "${BASH_SOURCE[0]}")/program.sh"
 
-memory_of() { # FILE
-    /usr/bin/env time -f '%M' "$program" <"$1" 2>&1 >/dev/null | tail -n 1
-}
-
 measure() { # NAME
     cost_of "$work/file" "$1"
     echo "    greatest memory: $(memory_of "$work/file") kB"

@@ -13,6 +13,11 @@ instructions() { # FILE
         awk '/Collected/ { print $4 }'
 }
 
+# The greatest memory of a run, in kB.
+memory_of() { # FILE
+    /usr/bin/env time -f '%M' "$program" <"$1" 2>&1 >/dev/null | tail -n 1
+}
+
 # A line on a file: its bytes, the instructions and the seconds that a run over it takes, and what it writes.
 cost_of() { # FILE WHAT
     /usr/bin/env time -f '%e' "$program" <"$1" >"$work/out" 2>"$work/seconds"
