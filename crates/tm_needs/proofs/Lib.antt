@@ -1,3 +1,3 @@
-mod NumberLemmas
+pub mod NumberLemmas
 mod RisingLemmas
-mod LeastLemmas
+pub mod LeastLemmas
