@@ -1,9 +1,7 @@
 -- Answers to questions: what each of them says, and whether each of some is yes.
-use Rattle.std.proofs.Common.{◌≡◌, suc, ◌≤◌, ◌⊎◌, inl, inr, ◌↔◌, true, false, Bool, IsTrue, refl, List, [], ◌∷◌, ◌++◌, length, arith}
-use Rattle.std.specs.List.{All, Any, list_all}
-use Rattle.std.proofs.lemmas.Bool.{and_parts}
+use Rattle.std.proofs.Common.{◌≡◌, ◌≤◌, ◌⊎◌, inl, inr, ◌↔◌, true, false, IsTrue, refl, List, length, arith}
+use Rattle.std.specs.List.{All, AllZip}
 use Rattle.std.proofs.lemmas.Slice.Zip.{AllZip-long}
-use Rattle.std.proofs.lemmas.List.Elements.{All-cons, All-head, All-nil, All-tail}
 use Rattle.tm_base.specs.declared.answer.Answer.{Answer}
 use Rattle.tm_base.specs.declared.answer.Answer.TheVariants.{Yes, YesBecause, No, NoAt, Refused}
 use Rattle.tm_base.specs.declared.ask.Ask.{Ask}
@@ -23,6 +21,7 @@ use Rattle.tm_laws.proofs.WholeTypes.{expanded_in-for}
 use Rattle.tm_laws.proofs.WholeWords.{whole-references}
 use Rattle.tm_report.specs.AnswerLines.{HasWholeWord}
 use Rattle.tm_run.specs.Answers.{AreAnswered, IsAnswered, IsRight, ReachesFault}
+use Rattle.tm_run.proofs.VerdictLemmas.{zip-all}
 
 module _ (tables : Tables) (ask : Ask) where
   -- what a side reaches isn't at fault where both are judged
@@ -89,6 +88,10 @@ module _ (tables : Tables) (ask : Ask) where
   yes-judged (NoAt rule o w fault) h e = cc
   yes-judged (Refused side why g) h e = cc
 
+  -- so a refusal is of a question that isn't judged
+  pub refusal-unjudged : (answer : Answer) → IsTrue (is_refusal answer) → IsTrueAnswer tables ask answer → ¬ AreJudged tables ask
+  refusal-unjudged answer e h judged = judged-faultless judged ((refusal-right answer h).0 e)
+
   yes-holds : (answer : Answer) → IsTrueAnswer tables ask answer → is_yes answer ≡ true → HoldsOf tables ask
   yes-holds answer h e =
       let judged = yes-judged answer h e in
@@ -97,68 +100,31 @@ module _ (tables : Tables) (ask : Ask) where
   holds-yes : (answer : Answer) → IsTrueAnswer tables ask answer → HoldsOf tables ask → is_yes answer ≡ true
   holds-yes answer h holds = ((answer-means tables ask answer h).allowed holds.judged).1 holds.casts
 
+  pub answer-means-holding : (answer : Answer) → IsTrueAnswer tables ask answer → is_yes answer ≡ true ↔ HoldsOf tables ask
+  answer-means-holding answer h = (yes-holds answer h, holds-yes answer h)
+
+  -- what isn't refused is judged
+  pub unrefused-judged : (answer : Answer) → is_refusal answer ≡ false → IsTrueAnswer tables ask answer → AreJudged tables ask
+  unrefused-judged Yes e h = h.judged
+  unrefused-judged (YesBecause w) e h = h.judged
+  unrefused-judged (No rule) e h = h.judged
+  unrefused-judged (NoAt rule o w fault) e h = h.judged
+  unrefused-judged (Refused side why g) e h = cc
+
 -- the answer to a question says what is so, with the least evidence
 pub answered-so : (world : World) (ask : Ask) (answer : Answer) → IsAnswer (tables_of world) ask answer → IsAnswered world ask answer
 answered-so world ask answer h = record { right = answer-right (tables_of world) ask answer h.is_true; least = h }
 
 -- ---- answers one after another
 
-pub AreAnswered-push : (world : World) (asks : List Ask) (answers : List Answer) (ask : Ask) (a : Answer) → AreAnswered world asks answers → IsAnswered world ask a
-    → AreAnswered world (asks ++ ask ∷ []) (answers ++ a ∷ [])
-AreAnswered-push world [] [] ask a h one = (one, tt)
-AreAnswered-push world [] (b ∷ answers) ask a h one = absurd h
-AreAnswered-push world (b ∷ asks) [] ask a h one = absurd h
-AreAnswered-push world (b ∷ asks) (c ∷ answers) ask a h one = (h.0, AreAnswered-push world asks answers ask a h.1 one)
-
 -- the words of answers have whole references
 pub answers-whole : (world : World) (asks : List Ask) (answers : List Answer) → AreAnswered world asks answers → All (HasWholeWord (pointer_size world.profile)) answers
-answers-whole world [] [] h = All-nil (HasWholeWord (pointer_size world.profile))
-answers-whole world [] (a ∷ answers) h = absurd h
-answers-whole world (ask ∷ asks) [] h = absurd h
-answers-whole world (ask ∷ asks) (a ∷ answers) h =
-    All-cons (HasWholeWord (pointer_size world.profile)) a answers (answer-whole (tables_of world) ask a h.0.least.is_true) (answers-whole world asks answers h.1)
+answers-whole world asks answers h =
+    zip-all (IsAnswered world) (HasWholeWord (pointer_size world.profile)) (λ ask a answered. answer-whole (tables_of world) ask a answered.least.is_true) asks answers h
 
--- and there are no more than questions
-pub answers-few : (world : World) (answers : List Answer) → AreAnswered world world.questions answers → length answers ≤ 256
-answers-few world answers h =
-    let long = AllZip-long (IsAnswered world) world.questions answers h in
+-- there are no more answers, or whatever goes with questions one by one, than questions
+pub zip-few : {Y : Type 0} (R : Ask → Y → Type 0) (world : World) (ys : List Y) → AllZip R world.questions ys → length ys ≤ 256
+zip-few R world ys h =
+    let long = AllZip-long R world.questions ys h in
     let few : length world.questions ≤ 256 = world.few_questions in
     omega (arith, long, few)
-
-module _ (world : World) where
-  abbrev Holds : Ask → Type 0
-  Holds = HoldsOf (tables_of world)
-
-  -- where each answer is yes, each question holds
-  pub all_yes-hold : (asks : List Ask) (answers : List Answer) → AreAnswered world asks answers → list_all is_yes answers ≡ true → All Holds asks
-  all_yes-hold [] answers h all = All-nil Holds
-  all_yes-hold (ask ∷ asks) [] h all = absurd h
-  all_yes-hold (ask ∷ asks) (a ∷ answers) h all =
-      let both = and_parts (is_yes a) (list_all is_yes answers) all in
-      All-cons Holds ask asks (yes-holds (tables_of world) ask a h.0.least.is_true both.0) (all_yes-hold asks answers h.1 both.1)
-
-  -- where each holds, each answer is yes
-  pub hold-all_yes : (asks : List Ask) (answers : List Answer) → AreAnswered world asks answers → All Holds asks → list_all is_yes answers ≡ true
-  hold-all_yes asks [] h all = refl
-  hold-all_yes [] (a ∷ answers) h all = absurd h
-  hold-all_yes (ask ∷ asks) (a ∷ answers) h all =
-      let first : is_yes a ≡ true = holds-yes (tables_of world) ask a h.0.least.is_true (All-head Holds ask asks all) in
-      let others = hold-all_yes asks answers h.1 (All-tail Holds ask asks all) in
-      cc
-
-  Any-later : (P : Ask → Type 0) (ask : Ask) (asks : List Ask) → Any P asks → Any P (ask ∷ asks)
-  Any-later P ask asks (k, x, less, is, p) = (suc k, x, omega (arith, less), is, p)
-
-  -- where some answer isn't yes, some question doesn't hold
-  pub some_not-fails : (asks : List Ask) (answers : List Answer) → AreAnswered world asks answers → list_all is_yes answers ≡ false → Any (λ ask. ¬ Holds ask) asks
-  some_not-fails asks [] h all = cc
-  some_not-fails [] (a ∷ answers) h all = absurd h
-  some_not-fails (ask ∷ asks) (a ∷ answers) h all = by (λ rest. some_not-fails asks answers h.1 rest) (is_yes a) refl
-    where
-      by : (list_all is_yes answers ≡ false → Any (λ ask. ¬ Holds ask) asks) → (b : Bool) → is_yes a ≡ b → Any (λ ask. ¬ Holds ask) (ask ∷ asks)
-      by later true e = let x = all in Any-later (λ ask. ¬ Holds ask) ask asks (later cc)
-      by later false e = (0, ask, omega arith, refl, λ holds. let y = holds-yes (tables_of world) ask a h.0.least.is_true holds in cc)
-
--- what fails for some isn't so for each
-pub none-fails : (P : Ask → Type 0) (asks : List Ask) → All P asks → Any (λ ask. ¬ P ask) asks → ⊥
-none-fails P asks all (k, ask, less, is, not_so) = not_so (rw (is) at (all k ask less))

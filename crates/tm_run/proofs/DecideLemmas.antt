@@ -1,34 +1,26 @@
 -- What is decided of a file: the report on it, or its fault.
-use Rattle.std.proofs.Common.{◌≡◌, ◌≢◌, ◌∙◌, ℕ, ◌⊎◌, inl, inr, ◌↔◌, refl, sym, ap, subst, Bool, true, false, if◌then◌else◌, Option, List}
-use Rattle.std.specs.List.{list_all}
-use Rattle.tm_base.specs.declared.answer.Answer.{Answer}
+use Rattle.std.proofs.Common.{◌≡◌, ◌≢◌, ◌∙◌, ℕ, ◌⊎◌, inl, inr, ◌↔◌, refl, sym, ap, subst, Option, List}
 use Rattle.tm_base.specs.declared.profile.Profile.{Profile}
 use Rattle.tm_base.specs.declared.world.World.{World}
-use Rattle.tm_laws.specs.AnswerKinds.{is_yes}
+use Rattle.tm_base.specs.Worlds.{tables_of}
 use Rattle.tm_report.specs.FaultLines.{line_of}
 use Rattle.tm_report.specs.declared.fault.FileFault.{FileFault}
 use Rattle.tm_report.specs.declared.fault.FileFault.TheVariants.{NotUtf8, NoToken, BadNumber, OpenComment, Unexpected, EndOfFile, Passed, Names, BadRefutation, NoQuestion}
-use Rattle.tm_run.specs.Answers.{AreAnswered, EachHolds, SomeDoesNot}
+use Rattle.tm_run.specs.Held.{EachHolds, HoldsFor, SomeDoesNot}
 use Rattle.tm_run.specs.Examined.{IsExamined, IsOnlyFault}
 use Rattle.tm_run.specs.Faults.{IsFaulty, status_of_fault}
 use Rattle.tm_run.specs.Files.{IsAccepted, IsWorldOf}
 use Rattle.tm_run.specs.Outcomes.{IsFileOutcome, IsReport, IsSettled}
-use Rattle.tm_run.specs.Report.{report_for, status_of}
+use Rattle.tm_run.specs.Reported.{IsReported}
 use Rattle.tm_run.specs.Runs.{Answers, Decides, Declines}
 use Rattle.tm_run.specs.Words.{profile_for}
 use Rattle.tm_run.specs.declared.options.Options.{Options}
 use Rattle.tm_run.specs.declared.status.Status.{Status}
 use Rattle.tm_run.specs.declared.status.Status.TheVariants.{AllYes, Mixed, Usage, BadText, Limit, IllFormed}
-use Rattle.tm_run.proofs.OnlyLemmas.{all_yes-each, each-all_yes, mixed-some, only-report, some-mixed}
+use Rattle.tm_run.proofs.OnlyLemmas.{each-all_yes, only-report, reported-verdict, some-mixed}
+use Rattle.tm_run.proofs.VerdictLemmas.{HasVerdict}
 
--- the statuses of reports and of faults
-report_status : (answers : List Answer) → (status_of answers ≡ AllYes) ⊎ (status_of answers ≡ Mixed)
-report_status answers = by (list_all is_yes answers)
-  where
-    by : (all : Bool) → ((if all then AllYes else Mixed) ≡ AllYes) ⊎ ((if all then AllYes else Mixed) ≡ Mixed)
-    by true = inl refl
-    by false = inr refl
-
+-- the statuses of faults and of reports
 fault_status : (fault : FileFault) → (status_of_fault fault ≡ BadText) ⊎ ((status_of_fault fault ≡ Limit) ⊎ (status_of_fault fault ≡ IllFormed))
 fault_status (NotUtf8 at) = inl refl
 fault_status (NoToken at) = inl refl
@@ -49,20 +41,25 @@ settled_fault fault = by (fault_status fault)
     by (inr (inl e)) = subst IsSettled (sym e) tt
     by (inr (inr e)) = subst IsSettled (sym e) tt
 
-settled_report : (answers : List Answer) → IsSettled (status_of answers)
-settled_report answers = by (report_status answers)
-  where
-    by : (status_of answers ≡ AllYes) ⊎ (status_of answers ≡ Mixed) → IsSettled (status_of answers)
-    by (inl e) = subst IsSettled (sym e) tt
-    by (inr e) = subst IsSettled (sym e) tt
+-- the status of a report is one of two
+module _ (options : Options) (file : List ℕ) (status : Status) (text : List ℕ) (report : IsReport options file status text) where
+  report-verdict : HasVerdict (HoldsFor options.mode (tables_of report.world)) report.world.questions status
+  report-verdict = reported-verdict options.mode options file report.world status text report.reported
 
--- a report's status is none of a fault's or of a misuse
-pub not_of_report : (options : Options) (file : List ℕ) (status : Status) (text : List ℕ) → IsReport options file status text → (status ≢ Usage) × (status ≢ Limit) × (status ≢ BadText) × (status ≢ IllFormed)
-not_of_report options file status text report = by (report_status report.answers)
-  where
-    by : (status_of report.answers ≡ AllYes) ⊎ (status_of report.answers ≡ Mixed) → (status ≢ Usage) × (status ≢ Limit) × (status ≢ BadText) × (status ≢ IllFormed)
-    by (inl e) = let is = report.status_is in (λ k. cc, λ k. cc, λ k. cc, λ k. cc)
-    by (inr e) = let is = report.status_is in (λ k. cc, λ k. cc, λ k. cc, λ k. cc)
+  settled_report : IsSettled status
+  settled_report = by report-verdict.two
+    where
+      by : (status ≡ AllYes) ⊎ (status ≡ Mixed) → IsSettled status
+      by (inl e) = subst IsSettled (sym e) tt
+      by (inr e) = subst IsSettled (sym e) tt
+
+  -- and none of a fault's or of a misuse
+  pub not_of_report : (status ≢ Usage) × (status ≢ Limit) × (status ≢ BadText) × (status ≢ IllFormed)
+  not_of_report = by report-verdict.two
+    where
+      by : (status ≡ AllYes) ⊎ (status ≡ Mixed) → (status ≢ Usage) × (status ≢ Limit) × (status ≢ BadText) × (status ≢ IllFormed)
+      by (inl e) = (λ k. cc, λ k. cc, λ k. cc, λ k. cc)
+      by (inr e) = (λ k. cc, λ k. cc, λ k. cc, λ k. cc)
 
 -- and a fault's status is none of a report's or of a misuse
 not_of_fault : (fault : FileFault) (status : Status) → status ≡ status_of_fault fault → (status ≢ Usage) × (status ≢ AllYes) × (status ≢ Mixed)
@@ -95,26 +92,24 @@ fault-answers options file fault written written' faults faults' result one (inl
     inl (record { status = status_of_fault fault; text = line_of fault; decides = fault_decides options file fault one; finishes = f })
 fault-answers options file fault written written' faults faults' result one (inr wants) = inr wants
 
--- answers to the questions of a file's world decide it
-pub report_decides : (options : Options) (file : List ℕ) (world : World) (answers : List Answer) → IsExamined (profile_for options) file world → AreAnswered world world.questions answers
-    → Decides options file (status_of answers) (report_for options file world answers)
-report_decides options file world answers w given = record {
-  settled = settled_report answers;
+-- what a file's world comes to decides it
+pub report_decides : (options : Options) (file : List ℕ) (world : World) (status : Status) (text : List ℕ) → IsExamined (profile_for options) file world
+    → IsReported options.mode options file world status text → Decides options file status text
+report_decides options file world status text w r = record {
+  settled = settled_report options file status text report;
   outcome = inl report;
   accepted = λ a. report;
-  only = only-report (profile_for options) file world w answers given options refl;
-  each_holds = each-all_yes (profile_for options) file world w answers given;
-  some_does_not = some-mixed (profile_for options) file world w answers given;
+  only = only-report options file world w status text r;
+  each_holds = λ e. verdict.all_yes.1 (each-all_yes options file world w status text r e);
+  some_does_not = λ s. verdict.mixed.1 (some-mixed options file world w status text r s);
   faulted = λ fault has. absurd (w.faultless fault has);
 }
   where
-    report : IsReport options file (status_of answers) (report_for options file world answers)
-    report = record { world = world; of_file = w.of_file; answers = answers; answered = given; status_is = refl; text_is = refl }
+    report : IsReport options file status text
+    report = record { world = world; of_file = w.of_file; reported = r }
 
--- the same, where status and text are known by other names
-pub decides-so : (options : Options) (file : List ℕ) (status status' : Status) (text text' : List ℕ) → Decides options file status text → status' ≡ status → text' ≡ text
-    → Decides options file status' text'
-decides-so options file status status' text text' d s t = subst (λ (x : Status). Decides options file x text') (sym s) (subst (λ (x : List ℕ). Decides options file status x) (sym t) d)
+    verdict : HasVerdict (HoldsFor options.mode (tables_of world)) world.questions status
+    verdict = reported-verdict options.mode options file world status text r
 
 -- what is decided of a file
 module _ (options : Options) (file : List ℕ) (status : Status) (text : List ℕ) (d : Decides options file status text) where
@@ -133,16 +128,16 @@ module _ (options : Options) (file : List ℕ) (status : Status) (text : List �
       by (inl report) = (not_of_report options file status text report).0 e
       by (inr refusal) = (not_of_fault refusal.fault status refusal.status_is).0 e
 
-  pub decides_all_yes : status ≡ AllYes ↔ EachHolds (profile_for options) file
+  pub decides_all_yes : status ≡ AllYes ↔ EachHolds options file
   decides_all_yes = (λ e. by e d.outcome, d.each_holds)
     where
-      by : status ≡ AllYes → IsFileOutcome options file status text → EachHolds (profile_for options) file
-      by e (inl report) = all_yes-each options file status text report e
+      by : status ≡ AllYes → IsFileOutcome options file status text → EachHolds options file
+      by e (inl report) = record { world = report.world; of_file = report.of_file; each = (report-verdict options file status text report).all_yes.0 e }
       by e (inr refusal) = absurd ((not_of_fault refusal.fault status refusal.status_is).1 e)
 
-  pub decides_mixed : status ≡ Mixed ↔ SomeDoesNot (profile_for options) file
+  pub decides_mixed : status ≡ Mixed ↔ SomeDoesNot options file
   decides_mixed = (λ e. by e d.outcome, d.some_does_not)
     where
-      by : status ≡ Mixed → IsFileOutcome options file status text → SomeDoesNot (profile_for options) file
-      by e (inl report) = mixed-some options file status text report e
+      by : status ≡ Mixed → IsFileOutcome options file status text → SomeDoesNot options file
+      by e (inl report) = record { world = report.world; of_file = report.of_file; some = (report-verdict options file status text report).mixed.0 e }
       by e (inr refusal) = absurd ((not_of_fault refusal.fault status refusal.status_is).2 e)

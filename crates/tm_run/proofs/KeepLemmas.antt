@@ -3,7 +3,7 @@ use Rattle.std.proofs.Common.{◌≡◌, ◌≢◌, ◌∙◌, ℕ, ◌+◌, ◌
 use Rattle.tm_io.specs.Faults.{Rose}
 use Rattle.tm_io.specs.Told.{AddsAll, AddsPrefix}
 use Rattle.tm_report.specs.declared.fault.FileFault.{FileFault}
-use Rattle.tm_run.specs.Answers.{EachHolds, SomeDoesNot}
+use Rattle.tm_run.specs.Held.{EachHolds, SomeDoesNot}
 use Rattle.tm_run.specs.Faults.{HasFault, IsFaulty}
 use Rattle.tm_run.specs.Files.{IsAccepted, file_bytes}
 use Rattle.tm_run.specs.Outcomes.{IsFileOf, IsInput, IsOutcome, IsReport, IsRunOn, IsSettled, WritesFault, WritesOutcome, WritesPrefix, WritesReport}
@@ -35,8 +35,8 @@ module _ (asked : Option Options) (left left' : Option (List ℕ)) (reads reads'
     pub silent_fault : status ≡ ReadFault → written' ≡ written
     pub silent_memory : status ≡ Memory → written' ≡ written
     pub fault : (options : Options) (file : List ℕ) → IsRunOn asked left options file status → (fault : FileFault) → HasFault (profile_for options) file fault → WritesFault fault status written written'
-    pub all_yes : (options : Options) (file : List ℕ) → IsRunOn asked left options file status → (status ≡ AllYes ↔ EachHolds (profile_for options) file)
-    pub mixed : (options : Options) (file : List ℕ) → IsRunOn asked left options file status → (status ≡ Mixed ↔ SomeDoesNot (profile_for options) file)
+    pub all_yes : (options : Options) (file : List ℕ) → IsRunOn asked left options file status → (status ≡ AllYes ↔ EachHolds options file)
+    pub mixed : (options : Options) (file : List ℕ) → IsRunOn asked left options file status → (status ≡ Mixed ↔ SomeDoesNot options file)
     pub usage : IsSettled status → (status ≡ Usage ↔ asked ≡ None)
     pub bad_text : (options : Options) (file : List ℕ) → IsRunOn asked left options file status → (status ≡ BadText ↔ IsFaulty (profile_for options) file BadText)
     pub limit : (options : Options) (file : List ℕ) → IsRunOn asked left options file status → (status ≡ Limit ↔ IsFaulty (profile_for options) file Limit)

@@ -1,7 +1,10 @@
 pub mod FaultLemmas
 pub mod TokenLemmas
 pub mod ClosingLemmas
+pub mod VerdictLemmas
 pub mod AnswerLemmas
+pub mod NeedLemmas
+pub mod NeedTextLemmas
 pub mod OverLemmas
 pub mod CourtLemmas
 pub mod OnlyLemmas

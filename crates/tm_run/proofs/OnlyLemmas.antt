@@ -1,9 +1,8 @@
--- The report on a file is the only one, and its status is what the file's questions come to.
-use Rattle.std.proofs.Common.{◌≡◌, ◌∙◌, ℕ, refl, sym, ap, subst, Bool, true, false, if◌then◌else◌, Option, Some, None, List, [], ◌∷◌, ◌++◌, length, Contains}
-use Rattle.std.specs.List.{All, list_all}
+-- What a world comes to is the only thing, and its status is what the world's questions come to.
+use Rattle.std.proofs.Common.{◌≡◌, ◌∙◌, ℕ, refl, sym, ap, subst, Bool, true, false, Option, Some, None, List, ◌++◌, length, Contains}
+use Rattle.std.specs.List.{All, AllZip, Any, list_all}
 use Rattle.tm_base.specs.declared.answer.Answer.{Answer}
 use Rattle.tm_base.specs.declared.ask.Ask.{Ask}
-use Rattle.tm_base.specs.declared.profile.Profile.{Profile}
 use Rattle.tm_base.specs.declared.world.World.{World}
 use Rattle.tm_base.specs.Answers.{IsAnswer, NoSharedTexts}
 use Rattle.tm_base.specs.Asked.{HoldsOf}
@@ -12,104 +11,99 @@ use Rattle.tm_base.specs.Worlds.{tables_of}
 use Rattle.tm_base.proofs.AnswerLemmas.{IsAnswer-unique}
 use Rattle.tm_ground.specs.Belongs.{BelongsToFile}
 use Rattle.tm_ground.specs.OneWorld.{AreOneWorld}
-use Rattle.tm_ground.proofs.ContainsLemmas.{contains-behind, contains-first}
 use Rattle.tm_ground.proofs.OneWorldLemmas.{one-world}
 use Rattle.tm_ground.proofs.SharedTexts.{no_shared_texts}
 use Rattle.tm_laws.specs.AnswerKinds.{is_yes}
 use Rattle.tm_names.specs.declared.resolved.Resolved.{Resolved}
-use Rattle.tm_run.specs.Answers.{AreAnswered, EachHolds, SomeDoesNot}
+use Rattle.tm_run.specs.Answers.{AreAnswered, IsAnswered}
 use Rattle.tm_run.specs.Examined.{IsExamined}
 use Rattle.tm_run.specs.Files.{IsWorldOf}
+use Rattle.tm_run.specs.Held.{EachHolds, HoldsFor, SomeDoesNot}
+use Rattle.tm_run.specs.Needs.{HoldsUnderSome, IsNeed, is_met, need_lines}
 use Rattle.tm_run.specs.Outcomes.{IsReport}
-use Rattle.tm_run.specs.Report.{generated_line, report_by, report_for, report_of, status_of, summary_of}
+use Rattle.tm_run.specs.Report.{generated_line, report_by, report_for, report_of, status_of, status_when, summary_of}
+use Rattle.tm_run.specs.Reported.{IsReported}
 use Rattle.tm_run.specs.Words.{profile_for}
+use Rattle.tm_run.specs.declared.need.Need.{Need}
+use Rattle.tm_run.specs.declared.options.Mode.{Mode}
+use Rattle.tm_run.specs.declared.options.Mode.TheVariants.{Needs}
 use Rattle.tm_run.specs.declared.options.Options.{Options}
 use Rattle.tm_run.specs.declared.status.Status.{Status}
-use Rattle.tm_run.specs.declared.status.Status.TheVariants.{AllYes, Mixed}
-use Rattle.tm_run.proofs.AnswerLemmas.{all_yes-hold, hold-all_yes, none-fails, some_not-fails}
+use Rattle.tm_run.proofs.AnswerLemmas.{answer-means-holding}
+use Rattle.tm_run.proofs.NeedLemmas.{need-means, need-same}
+use Rattle.tm_run.proofs.VerdictLemmas.{HasVerdict, verdict, zip-same, zip-weaker}
 
--- answers to the same questions by the same tables, where each question has one answer alone
-answers-same : (tables : Tables) (one other : World) → tables_of one ≡ tables → tables_of other ≡ tables → (asks : List Ask) (ours theirs : List Answer)
-    → ((ask : Ask) → Contains asks ask → NoSharedTexts tables ask) → AreAnswered one asks ours → AreAnswered other asks theirs → ours ≡ theirs
-answers-same tables one other s t [] [] [] apart h k = refl
-answers-same tables one other s t [] [] (b ∷ theirs) apart h k = absurd k
-answers-same tables one other s t [] (a ∷ ours) theirs apart h k = absurd h
-answers-same tables one other s t (ask ∷ asks) [] theirs apart h k = absurd h
-answers-same tables one other s t (ask ∷ asks) (a ∷ ours) [] apart h k = absurd k
-answers-same tables one other s t (ask ∷ asks) (a ∷ ours) (b ∷ theirs) apart h k =
-    let first : IsAnswer tables ask a = subst (λ tables. IsAnswer tables ask a) s h.0.least in
-    let second : IsAnswer tables ask b = subst (λ tables. IsAnswer tables ask b) t k.0.least in
-    let same : a ≡ b = IsAnswer-unique tables ask (apart ask (contains-first ask asks)) a b first second in
-    let others : ours ≡ theirs = answers-same tables one other s t asks ours theirs (λ ask i. apart ask (contains-behind _ asks ask i)) h.1 k.1 in
-    ap (λ z. z ∷ ours) same ∙ ap (λ zs. b ∷ zs) others
+-- the status says what holds of the questions
+pub reported-verdict : (mode : Option Mode) (options : Options) (file : List ℕ) (world : World) (status : Status) (text : List ℕ) → IsReported mode options file world status text
+    → HasVerdict (HoldsFor mode (tables_of world)) world.questions status
+reported-verdict None options file world status text r =
+    subst (HasVerdict (HoldsOf (tables_of world)) world.questions) (sym r.status_is)
+    (verdict (IsAnswered world) (HoldsOf (tables_of world)) is_yes (λ ask a h. answer-means-holding (tables_of world) ask a h.least.is_true) world.questions r.answers r.answered)
+reported-verdict (Some Needs) options file world status text r =
+    subst (HasVerdict (HoldsUnderSome (tables_of world)) world.questions) (sym r.status_is)
+    (verdict (IsNeed (tables_of world)) (HoldsUnderSome (tables_of world)) is_met (need-means (tables_of world)) world.questions r.needs r.each)
 
--- the status says whether each answer is yes
-all_yes-status : (all : Bool) → (if all then AllYes else Mixed) ≡ AllYes → all ≡ true
-all_yes-status true e = refl
-all_yes-status false e = cc
+-- two worlds that say and ask the same
+module _ (one other : World) (same : AreOneWorld other one) where
+  -- what goes with the questions of the one goes with those of the other
+  moved : {Y : Type 0} (R : Tables → Ask → Y → Type 0) (ys : List Y) → AllZip (R (tables_of other)) other.questions ys → AllZip (R (tables_of one)) one.questions ys
+  moved R ys h = subst (λ (asks : List Ask). AllZip (R (tables_of one)) asks ys) same.questions (subst (λ (t : Tables). AllZip (R t) other.questions ys) same.tables h)
 
-mixed-status : (all : Bool) → (if all then AllYes else Mixed) ≡ Mixed → all ≡ false
-mixed-status true e = cc
-mixed-status false e = refl
+  -- they have the same report, in each form
+  report-same : (options : Options) (file : List ℕ) (answers : List Answer) → report_for options file other answers ≡ report_for options file one answers
+  report-same options file answers = by options.generate options.summary
+    where
+      by : (number : Option ℕ) (summary : Bool) → report_by number summary file other answers ≡ report_by number summary file one answers
+      by (Some number) summary = ap (λ (asks : List Ask). generated_line number (length file) (length asks) ++ summary_of answers) same.questions
+      by None true = refl
+      by None false = ap (λ tables. report_of tables answers) same.tables
 
--- worlds that say and ask the same have the same report, in each form
-report-same : (options : Options) (file : List ℕ) (one other : World) (answers : List Answer) → AreOneWorld one other → report_for options file one answers ≡ report_for options file other answers
-report-same options file one other answers same = by options.generate options.summary
-  where
-    by : (number : Option ℕ) (summary : Bool) → report_by number summary file one answers ≡ report_by number summary file other answers
-    by (Some number) summary = ap (λ (asks : List Ask). generated_line number (length file) (length asks) ++ summary_of answers) same.questions
-    by None true = refl
-    by None false = ap (λ tables. report_of tables answers) same.tables
+  module _ (apart : (ask : Ask) → Contains one.questions ask → NoSharedTexts (tables_of one) ask) (options : Options) (file : List ℕ) where
+    answers-same : (ours theirs : List Answer) → AreAnswered one one.questions ours → AreAnswered other other.questions theirs → theirs ≡ ours
+    answers-same ours theirs h k =
+        zip-same (IsAnswer (tables_of one)) one.questions theirs ours (λ ask i a b. IsAnswer-unique (tables_of one) ask (apart ask i) a b)
+        (moved IsAnswer theirs (zip-weaker (IsAnswered other) (IsAnswer (tables_of other)) (λ ask a h. h.least) other.questions theirs k))
+        (zip-weaker (IsAnswered one) (IsAnswer (tables_of one)) (λ ask a h. h.least) one.questions ours h)
 
-module _ (profile : Profile) (file : List ℕ) (world : World) (w : IsExamined profile file world) where
+    needs-same : (ours theirs : List Need) → AllZip (IsNeed (tables_of one)) one.questions ours → AllZip (IsNeed (tables_of other)) other.questions theirs → theirs ≡ ours
+    needs-same ours theirs h k = zip-same (IsNeed (tables_of one)) one.questions theirs ours (λ ask i. need-same (tables_of one) ask (apart ask i)) (moved IsNeed theirs k) h
+
+    -- come to one status and one text
+    pub reported-same : (mode : Option Mode) (status status' : Status) (text text' : List ℕ) → IsReported mode options file one status text → IsReported mode options file other status' text'
+        → (status' ≡ status) × (text' ≡ text)
+    reported-same None status status' text text' r s =
+        let e = answers-same r.answers s.answers r.answered s.answered in (
+          s.status_is ∙ ap status_of e ∙ sym r.status_is,
+          s.text_is ∙ report-same options file s.answers ∙ ap (report_for options file one) e ∙ sym r.text_is,
+        )
+    reported-same (Some Needs) status status' text text' r s =
+        let e = needs-same r.needs s.needs r.each s.each in (
+          s.status_is ∙ ap (λ needs. status_when (list_all is_met needs)) e ∙ sym r.status_is,
+          s.text_is ∙ ap (λ tables. need_lines tables 1 s.needs) same.tables ∙ ap (need_lines (tables_of one) 1) e ∙ sym r.text_is,
+        )
+
+module _ (options : Options) (file : List ℕ) (world : World) (w : IsExamined (profile_for options) file world) where
   -- each world of the file says the same and asks the same
-  same-world : (other : World) → IsWorldOf profile file other → AreOneWorld other world
+  same-world : (other : World) → IsWorldOf (profile_for options) file other → AreOneWorld other world
   same-world other of_file =
       one-world w.of_file.resolved w.form w.apart other world
       (subst (λ (r : Resolved). BelongsToFile r other) (w.only of_file.resolved of_file.names) of_file.belongs) w.of_file.belongs
 
-  module _ (answers : List Answer) (answered : AreAnswered world world.questions answers) where
-    pub only-report : (options : Options) → profile_for options ≡ profile → (status : Status) (text : List ℕ) → IsReport options file status text
-        → (status ≡ status_of answers) × (text ≡ report_for options file world answers)
-    only-report options is status text r =
-        let same = same-world r.world (subst (λ (p : Profile). IsWorldOf p file r.world) is r.of_file) in
-        let same-answers : r.answers ≡ answers = answers-same (tables_of world) r.world world same.tables refl world.questions r.answers answers
-        (no_shared_texts w.of_file.resolved world w.of_file.belongs w.form w.apart)
-        (subst (λ asks. AreAnswered r.world asks r.answers) same.questions r.answered) answered in (
-          r.status_is ∙ ap status_of same-answers,
-          r.text_is ∙ report-same options file r.world world r.answers same ∙ ap (report_for options file world) same-answers,
-        )
+  module _ (status : Status) (text : List ℕ) (r : IsReported options.mode options file world status text) where
+    pub only-report : (other : Status) (line : List ℕ) → IsReport options file other line → (other ≡ status) × (line ≡ text)
+    only-report other line s =
+        reported-same world s.world (same-world s.world s.of_file) (no_shared_texts w.of_file.resolved world w.of_file.belongs w.form w.apart) options file
+        options.mode status other text line r s.reported
 
-    pub each-all_yes : EachHolds profile file → status_of answers ≡ AllYes
-    each-all_yes e =
-        let same = same-world e.world e.of_file in
-        let here : All (HoldsOf (tables_of world)) world.questions =
-        subst (λ asks. All (HoldsOf (tables_of world)) asks) same.questions (subst (λ tables. All (HoldsOf tables) e.world.questions) same.tables e.each) in
-        ap (λ all. if all then AllYes else Mixed) (hold-all_yes world world.questions answers answered here)
+    -- what holds of the questions of some world of the file holds of those of this one
+    here : (F : (Ask → Type 0) → List Ask → Type 0) (other : World) → IsWorldOf (profile_for options) file other → F (HoldsFor options.mode (tables_of other)) other.questions
+        → F (HoldsFor options.mode (tables_of world)) world.questions
+    here F other of_file h =
+        let same = same-world other of_file in
+        subst (λ asks. F (HoldsFor options.mode (tables_of world)) asks) same.questions (subst (λ tables. F (HoldsFor options.mode tables) other.questions) same.tables h)
 
-    pub some-mixed : SomeDoesNot profile file → status_of answers ≡ Mixed
-    some-mixed s = by (list_all is_yes answers) refl
-      where
-        by : (all : Bool) → list_all is_yes answers ≡ all → (if all then AllYes else Mixed) ≡ Mixed
-        by false e = refl
-        by true e =
-            let same = same-world s.world s.of_file in
-            let each = all_yes-hold world world.questions answers answered e in
-            let there : All (HoldsOf (tables_of s.world)) s.world.questions =
-            subst (λ tables. All (HoldsOf tables) s.world.questions) (sym same.tables) (subst (λ asks. All (HoldsOf (tables_of world)) asks) (sym same.questions) each) in
-            absurd (none-fails (HoldsOf (tables_of s.world)) s.world.questions there s.some)
+    pub each-all_yes : EachHolds options file → All (HoldsFor options.mode (tables_of world)) world.questions
+    each-all_yes e = here All e.world e.of_file e.each
 
-module _ (options : Options) (file : List ℕ) (status : Status) (text : List ℕ) (report : IsReport options file status text) where
-  pub all_yes-each : status ≡ AllYes → EachHolds (profile_for options) file
-  all_yes-each e = record {
-    world = report.world;
-    of_file = report.of_file;
-    each = all_yes-hold report.world report.world.questions report.answers report.answered (all_yes-status (list_all is_yes report.answers) (sym report.status_is ∙ e));
-  }
-
-  pub mixed-some : status ≡ Mixed → SomeDoesNot (profile_for options) file
-  mixed-some e = record {
-    world = report.world;
-    of_file = report.of_file;
-    some = some_not-fails report.world report.world.questions report.answers report.answered (mixed-status (list_all is_yes report.answers) (sym report.status_is ∙ e));
-  }
+    pub some-mixed : SomeDoesNot options file → Any (λ ask. ¬ HoldsFor options.mode (tables_of world) ask) world.questions
+    some-mixed s = here (λ P asks. Any (λ ask. ¬ P ask) asks) s.world s.of_file s.some

@@ -8,6 +8,7 @@ use Rattle.tm_report.specs.declared.fault.FileFault.TheVariants.{NotUtf8}
 use Rattle.tm_run.specs.Faults.{HasFault}
 use Rattle.tm_run.specs.Places.{at_byte}
 use Rattle.tm_run.specs.Words.{choices_of, options_of, with_choices}
+use Rattle.tm_run.specs.declared.options.Mode.TheVariants.{Needs}
 
 -- the byte that ends a line stands on it, and the byte behind it on the next
 end_of_a_line : at_byte (0x41 ∷ 0x0A ∷ 0x42 ∷ []) 1 ≡ record { byte = 1; line = 1 }
@@ -33,7 +34,7 @@ byte_outside_of_text : (profile : Profile) → HasFault profile (0xFF ∷ []) (N
 byte_outside_of_text profile = (refl, record { short = omega arith; broken = no_text; front = record { short = omega arith; front = IsUtf8-nil; longest = no_longer } })
 
 -- each option in either form, in any order
-three_options : options_of (codes "--profile=be64" ∷ codes "--generate" ∷ codes "007" ∷ codes "--summary" ∷ []) ≡ Some (record { summary = true; generate = Some 7; profile = Some Be64 })
+three_options : options_of (codes "--profile=be64" ∷ codes "--generate" ∷ codes "007" ∷ codes "--summary" ∷ []) ≡ Some (record { summary = true; generate = Some 7; profile = Some Be64; mode = None })
 unfolding choices_of with_choices
 three_options = refl
 
@@ -44,3 +45,16 @@ option_twice = refl
 number_with_a_sign : options_of (codes "--generate" ∷ codes "+1" ∷ []) ≡ None
 unfolding choices_of with_choices
 number_with_a_sign = refl
+
+-- a mode stands beside a profile alone
+mode_and_profile : options_of (codes "--needs" ∷ codes "--profile" ∷ codes "be64" ∷ []) ≡ Some (record { summary = false; generate = None; profile = Some Be64; mode = Some Needs })
+unfolding choices_of with_choices
+mode_and_profile = refl
+
+mode_and_summary : options_of (codes "--summary" ∷ codes "--needs" ∷ []) ≡ None
+unfolding choices_of with_choices
+mode_and_summary = refl
+
+mode_twice : options_of (codes "--needs" ∷ codes "--needs" ∷ []) ≡ None
+unfolding choices_of with_choices
+mode_twice = refl

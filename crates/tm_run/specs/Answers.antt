@@ -1,22 +1,19 @@
 -- The headline: what the answers to the questions of a file say.
-use Rattle.std.specs.Prelude.{◌≡◌, ℕ, ◌⊎◌, ◌↔◌, IsTrue, true, false, List}
-use Rattle.std.specs.List.{All, Any, AllZip}
+use Rattle.std.specs.Prelude.{◌≡◌, ◌⊎◌, ◌↔◌, IsTrue, true, false, List}
+use Rattle.std.specs.List.{AllZip}
 use Rattle.tm_base.specs.declared.answer.Answer.{Answer}
 use Rattle.tm_base.specs.declared.answer.Side.{Side}
 use Rattle.tm_base.specs.declared.answer.Why.{Why}
 use Rattle.tm_base.specs.declared.ask.Ask.{Ask}
 use Rattle.tm_base.specs.declared.ground.Ground.{Ground}
-use Rattle.tm_base.specs.declared.profile.Profile.{Profile}
 use Rattle.tm_base.specs.declared.world.World.{World}
 use Rattle.tm_base.specs.Answers.{AreJudged, IsAnswer, IsTrueAnswer, side_type}
-use Rattle.tm_base.specs.Asked.{HoldsOf}
 use Rattle.tm_base.specs.Reaches.{IsAtFault, Reaches}
 use Rattle.tm_base.specs.Rules.{Taken, source, target}
 use Rattle.tm_base.specs.Tables.{Tables}
 use Rattle.tm_base.specs.Transmutes.{EveryWordFits, IsUninhabited, SomeWordFits}
 use Rattle.tm_base.specs.Worlds.{tables_of}
 use Rattle.tm_laws.specs.AnswerKinds.{is_refusal, is_yes}
-use Rattle.tm_run.specs.Files.{IsWorldOf}
 
 -- one of the two types of a question reaches a type whose layout isn't guaranteed, or which is too large
 abbrev pub ReachesFault : Tables → Ask → Type 0
@@ -44,15 +41,3 @@ pub record IsAnswered (world : World) (ask : Ask) (answer : Answer) : Type 0 whe
 -- each question has its answer, in order
 abbrev pub AreAnswered : World → List Ask → List Answer → Type 0
 AreAnswered world = AllZip (IsAnswered world)
-
--- the file is accepted, and each of its questions is to be answered yes
-pub record EachHolds (profile : Profile) (file : List ℕ) : Type 0 where
-  pub world : World
-  pub of_file : IsWorldOf profile file world
-  pub each : All (HoldsOf (tables_of world)) world.questions
-
--- the file is accepted, and some question of it isn't
-pub record SomeDoesNot (profile : Profile) (file : List ℕ) : Type 0 where
-  pub world : World
-  pub of_file : IsWorldOf profile file world
-  pub some : Any (λ ask. ¬ HoldsOf (tables_of world) ask) world.questions

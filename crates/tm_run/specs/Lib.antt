@@ -3,9 +3,13 @@ pub mod Courts
 pub mod Examined
 pub mod Faults
 pub mod Files
+pub mod Held
+pub mod NeedTexts
+pub mod Needs
 pub mod Outcomes
 pub mod Places
 pub mod Reading
 pub mod Report
+pub mod Reported
 pub mod Runs
 pub mod Words

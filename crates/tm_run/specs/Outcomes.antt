@@ -1,32 +1,27 @@
 -- What a run comes to: a status, and the bytes that are written.
 use Rattle.std.specs.Prelude.{◌≡◌, ℕ, ◌⊎◌, Option, Some, None, List, ◌++◌, ⊤, codes}
-use Rattle.tm_base.specs.declared.answer.Answer.{Answer}
 use Rattle.tm_base.specs.declared.world.World.{World}
 use Rattle.tm_gen.specs.Generated.{generated_file}
 use Rattle.tm_io.specs.Told.{AddsAll, AddsPrefix}
 use Rattle.tm_report.specs.FaultLines.{line_end, line_of}
 use Rattle.tm_report.specs.declared.fault.FileFault.{FileFault}
-use Rattle.tm_run.specs.Answers.{AreAnswered}
 use Rattle.tm_run.specs.Faults.{HasFault, status_of_fault}
 use Rattle.tm_run.specs.Files.{IsWorldOf}
-use Rattle.tm_run.specs.Report.{report_for, status_of}
+use Rattle.tm_run.specs.Reported.{IsReported}
 use Rattle.tm_run.specs.Words.{profile_for}
 use Rattle.tm_run.specs.declared.options.Options.{Options}
 use Rattle.tm_run.specs.declared.status.Status.{Status}
 use Rattle.tm_run.specs.declared.status.Status.TheVariants.{AllYes, Mixed, Usage, BadText, Limit, ReadFault, WriteFault, Memory, IllFormed}
 
 abbrev pub usage_line : List ℕ
-usage_line = codes "usage: transmute_report [--summary] [--generate N] [--profile NAME]" ++ line_end
+usage_line = codes "usage: transmute_report [--profile NAME] [--summary] [--generate N] [MODE]" ++ line_end
 
--- The headline: each question of the world that belongs to the file and to the profile has its answer, and the
--- text is the report on these answers, in the form that the options ask for.
+-- The headline: the world belongs to the file and to the profile, and it comes to this status and text, by what
+-- the options ask for. Without a mode each question has its answer, and the text is the report on these answers.
 pub record IsReport (options : Options) (file : List ℕ) (status : Status) (text : List ℕ) : Type 0 where
   pub world : World
   pub of_file : IsWorldOf (profile_for options) file world
-  pub answers : List Answer
-  pub answered : AreAnswered world world.questions answers
-  pub status_is : status ≡ status_of answers
-  pub text_is : text ≡ report_for options file world answers
+  pub reported : IsReported options.mode options file world status text
 
 -- the text is the line of a fault that the file has
 pub record IsRefusal (options : Options) (file : List ℕ) (status : Status) (text : List ℕ) : Type 0 where

@@ -46,6 +46,10 @@ report_by None false file world answers = report_of (tables_of world) answers
 abbrev pub report_for : Options → List ℕ → World → List Answer → List ℕ
 report_for options = report_by options.generate options.summary
 
+-- the status of a run by whether all of it is as wished
+abbrev pub status_when : Bool → Status
+status_when all = if all then AllYes else Mixed
+
 -- each answer is yes, or not
 abbrev pub status_of : List Answer → Status
-status_of answers = if list_all is_yes answers then AllYes else Mixed
+status_of answers = status_when (list_all is_yes answers)

@@ -7,7 +7,7 @@ use Rattle.tm_io.specs.Told.{AddsAll, AddsPrefix, TakesAll, TakesPast}
 use Rattle.tm_report.specs.FaultLines.{line_of}
 use Rattle.tm_report.specs.declared.fault.FileFault.{FileFault}
 use Rattle.tm_report.specs.declared.fault.FileFault.TheVariants.{Passed}
-use Rattle.tm_run.specs.Answers.{EachHolds, SomeDoesNot}
+use Rattle.tm_run.specs.Held.{EachHolds, SomeDoesNot}
 use Rattle.tm_run.specs.Faults.{HasFault, status_of_fault}
 use Rattle.tm_run.specs.Files.{file_bytes, IsAccepted}
 use Rattle.tm_run.specs.Outcomes.{IsFileOutcome, IsReport, IsSettled, usage_line}
@@ -40,8 +40,8 @@ pub record Decides (options : Options) (file : List ℕ) (status : Status) (text
   pub outcome : IsFileOutcome options file status text
   pub accepted : IsAccepted (profile_for options) file → IsReport options file status text
   pub only : (other : Status) (line : List ℕ) → IsReport options file other line → (other ≡ status) × (line ≡ text)
-  pub each_holds : EachHolds (profile_for options) file → status ≡ AllYes
-  pub some_does_not : SomeDoesNot (profile_for options) file → status ≡ Mixed
+  pub each_holds : EachHolds options file → status ≡ AllYes
+  pub some_does_not : SomeDoesNot options file → status ≡ Mixed
   pub faulted : (fault : FileFault) → HasFault (profile_for options) file fault → (status ≡ status_of_fault fault) × (text ≡ line_of fault)
 
 -- the outcome of a file is written

@@ -1,5 +1,5 @@
 -- The words of a run: which options there are, how each is written, and what they ask for together.
-use Rattle.std.specs.Prelude.{String, ℕ, ◌==◌, ◌^◌, ◌&&◌, nat_lt, nat_le, Bool, true, false, if◌then◌else◌, Option, Some, None, is_some, option_map, option_and_then, List, [], ◌∷◌, length, map, codes, bytes_eq, not, string_bytes, unwrap_or}
+use Rattle.std.specs.Prelude.{String, ℕ, ◌==◌, ◌^◌, ◌&&◌, ◌||◌, nat_lt, nat_le, Bool, true, false, if◌then◌else◌, Option, Some, None, is_some, option_map, option_and_then, List, [], ◌∷◌, length, map, codes, bytes_eq, not, string_bytes, unwrap_or}
 use Rattle.std.specs.Global.{Global}
 use Rattle.std.specs.List.{before_first, after_first, list_all}
 use Rattle.std.specs.Char.{is_ascii_digit}
@@ -8,6 +8,8 @@ use Rattle.tm_base.specs.declared.profile.Profile.{Profile}
 use Rattle.tm_base.specs.declared.profile.Profile.TheVariants.{Le64, Be64, Le32}
 use Rattle.tm_run.specs.declared.options.Choice.{Choice}
 use Rattle.tm_run.specs.declared.options.Choice.TheVariants as choice
+use Rattle.tm_run.specs.declared.options.Mode.{Mode}
+use Rattle.tm_run.specs.declared.options.Mode.TheVariants.{Needs}
 use Rattle.tm_run.specs.declared.options.Options.{Options}
 
 -- from one to twenty ASCII digits, whose number is below 2^64
@@ -33,12 +35,13 @@ choice_with name value =
 abbrev pub is_equals : ℕ → Bool
 is_equals b = b == 0x3D
 
--- What one word asks for by itself: `--summary`, or an option and its value with `=` between them. Where there
--- is no `=` the value is empty, which no option has.
+-- What one word asks for by itself: `--summary`, a mode, or an option and its value with `=` between them. Where
+-- there is no `=` the value is empty, which no option has.
 abbrev pub choice_of : List ℕ → Option Choice
 choice_of word =
     if bytes_eq word (codes "--summary") then Some choice.Summary
-    else choice_with (before_first is_equals word) (after_first is_equals word)
+    else (if bytes_eq word (codes "--needs") then Some (choice.Mode Needs)
+    else choice_with (before_first is_equals word) (after_first is_equals word))
 
 -- one more choice before others
 abbrev pub before_choices : Choice → Option (List Choice) → Option (List Choice)
@@ -70,23 +73,39 @@ abbrev pub with_profile : Profile → Options → Option Profile → Option Opti
 with_profile profile options None = Some (record options { profile = Some profile })
 with_profile profile options (Some other) = None
 
+abbrev pub with_mode : Mode → Options → Option Mode → Option Options
+with_mode mode options None = Some (record options { mode = Some mode })
+with_mode mode options (Some other) = None
+
 abbrev pub with_choice : Choice → Options → Option Options
 with_choice choice.Summary options = with_summary options options.summary
 with_choice (choice.Generate number) options = with_number number options options.generate
 with_choice (choice.Profile profile) options = with_profile profile options options.profile
+with_choice (choice.Mode mode) options = with_mode mode options options.mode
 
--- some options and further choices, where no option is chosen twice
+-- some options and further choices, where no option is chosen twice, and no two modes are
 unfoldable pub with_choices : Options → List Choice → Option Options
 with_choices options [] = Some options
 with_choices options (choice ∷ choices) = option_and_then (λ more. with_choices more choices) (with_choice choice options)
 
 abbrev pub no_options : Options
-no_options = record { summary = false; generate = None; profile = None }
+no_options = record { summary = false; generate = None; profile = None; mode = None }
 
--- what the words ask for. They are in form where there is such an answer: each is a part of an option, and no
--- option stands twice.
+-- what the words choose, one option after another
+abbrev pub gathered : List (List ℕ) → Option Options
+gathered words = option_and_then (with_choices no_options) (choices_of words)
+
+-- with a mode neither a summary nor a generated file is asked for
+abbrev pub go_together : Options → Bool
+go_together options = not (is_some options.mode) || (not options.summary && not (is_some options.generate))
+
+abbrev pub if_together : Options → Option Options
+if_together options = if go_together options then Some options else None
+
+-- what the words ask for. They are in form where there is such an answer: each is a part of an option, no option
+-- stands twice and no two modes do, and a mode stands beside a profile alone.
 abbrev pub options_of : List (List ℕ) → Option Options
-options_of words = option_and_then (with_choices no_options) (choices_of words)
+options_of words = option_and_then if_together (gathered words)
 
 -- the bytes of each word
 abbrev pub texts_of : List (String Global) → List (List ℕ)

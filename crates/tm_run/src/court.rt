@@ -1,101 +1,103 @@
-ghost use Rattle.std.specs.Prelude.{◌≡◌, IfOk, IfSome, slice_get};
+ghost use Rattle.std.specs.Prelude.{◌≡◌, ◌<◌, IfOk};
 ghost use Rattle.tm_base.specs.Answers.{IsAnswer};
 ghost use Rattle.tm_base.specs.Worlds.{IsTypeOver, tables_of};
-ghost use Rattle.tm_run.specs.Courts.{IsCourt, IsTableFor};
+ghost use Rattle.tm_layout.specs.Made.{IsMadeFor};
 
+use crate::kinds::is_yes;
+use crate::solved::place_for;
 use std::alloc::Global;
-use std::sync::ledger::Ledger;
-use tm_base::{Answer, Ask, Assume, Memory, Steps, World};
+use std::marker::Model;
+use std::sync::ledger::{Blank, Ledger};
+use tm_base::{Answer, Ask, AskYes, Memory, Steps, World};
 use tm_judge::judge;
 use tm_layout::Layouts;
 use tm_refs::Compat;
 use tm_region::Order;
 
-/// All that the questions of a world are judged by.
+/// All that the questions of a world are judged by. Contracts see it as the world's tables.
 #[derive(Drop)]
-pub struct Court<'a> {
+pub struct Court<'a, L: Ledger> {
     world: &'a World,
-    layouts: Layouts,
+    layouts: &'a Layouts,
     order: Order,
     /// Tables of the world's references, each made when it was first asked for.
-    tables: Vec<Compat>,
+    solved: Vec<Compat>,
+    steps: Steps<L>,
 }
 
-impl<'a> Court<'a> {
-    /// The court of a world.
-    pub fn new(alloc: Global, world: &'a World) -> Result<Court<'a>, Memory>
-        ensures court { IfOk result (λ court. IsCourt court) }
-        ensures world { IfOk result (λ court. court.world.now ≡ world.now) }
+impl<'a, L: Ledger> Model for Court<'a, L> {
+    ghost use Rattle.std.specs.Coded.{codes};
+    ghost use Rattle.tm_base.specs.contracts.ground.Ground as ground;
+    ghost use Rattle.tm_base.specs.Tables.{Tables};
+    ghost use Rattle.tm_base.specs.Worlds.{tables_of};
+    ghost use Rattle.tm_run.specs.Courts.{IsCourt};
+
+    ghost Value = { Tables };
+
+    ghost coded = { Prim.hlevel (codes, ground.the_row.coded) };
+
+    ghost view = { λ court. tables_of court.world.now };
+
+    ghost invariant = { λ court. IsCourt (tables_of court.world.now) court.layouts.now court.order
+        court.solved.items };
+}
+
+impl<'a, L: Ledger> Court<'a, L> {
+    /// The court of a world, whose steps are counted from a blank.
+    pub fn new(
+        alloc: Global,
+        world: &'a World,
+        layouts: &'a Layouts,
+        blank: Blank,
+    ) -> Result<Court<'a, L>, Memory>
+        requires made { IsMadeFor (tables_of world.now) layouts.now }
+        requires name { blank.name ≡ L.name }
+        requires parts { blank.parts ≡ L.parts }
+        requires some { 0 < L.parts }
+        ensures { IfOk result (λ court. court ≡ tables_of world.now) }
     {
         Ok(Court {
             world,
-            layouts: Layouts::new(alloc, world)?,
+            layouts,
             order: Order::new(alloc, world)?,
-            tables: Vec::new(alloc),
+            solved: Vec::new(alloc),
+            steps: Steps::new(blank),
         })
     }
 
     /// The answer to a question.
-    pub fn answer<L: Ledger>(
-        &mut self,
-        alloc: Global,
-        ask: &Ask,
-        steps: &mut Steps<L>,
-    ) -> Result<Answer, Memory>
-        requires court { IsCourt self.old }
-        requires source { IsTypeOver (tables_of self.old.world.now) ask.now.src }
-        requires target { IsTypeOver (tables_of self.old.world.now) ask.now.dst }
-        ensures answer { IfOk result (IsAnswer (tables_of self.old.world.now) ask.now) }
-        ensures court { IsCourt self.new }
-        ensures world { self.new.world.now ≡ self.old.world.now }
+    pub fn answer(&mut self, alloc: Global, ask: &Ask) -> Result<Answer, Memory>
+        requires source { IsTypeOver self.old ask.now.src }
+        requires target { IsTypeOver self.old ask.now.dst }
+        ensures answer { IfOk result (IsAnswer self.old ask.now) }
+        ensures world { self.new ≡ self.old }
     {
-        let place = self.table_for(alloc, ask.assume, steps)?;
-        let compat = &self.tables[place];
+        let place = place_for(
+            alloc,
+            self.world,
+            self.layouts,
+            &self.order,
+            &mut self.solved,
+            ask.assume,
+            &mut self.steps,
+        )?;
         judge(
             alloc,
             self.world,
-            &self.layouts,
+            self.layouts,
             &self.order,
-            compat,
+            &self.solved[place],
             ask,
-            steps,
+            &mut self.steps,
         )
     }
+}
 
-    /// Where the table for some assumptions stands, if it is made.
-    fn place_of(&self, assume: Assume) -> Option<usize>
-        requires { IsCourt self.now }
-        ensures { IfSome result (λ place.
-            IsTableFor (tables_of self.now.world.now) assume (slice_get self.now.tables.items place)) }
-    {
-        for (place, table) in self.tables.iter().enumerate() {
-            if table.assume() == assume {
-                return Some(place);
-            }
-        }
-        None
-    }
+impl<'a, L: Ledger> AskYes for Court<'a, L> {
+    ghost told = { λ court. court };
 
-    /// Where the table for some assumptions stands, which is made if there is none yet.
-    fn table_for<L: Ledger>(
-        &mut self,
-        alloc: Global,
-        assume: Assume,
-        steps: &mut Steps<L>,
-    ) -> Result<usize, Memory>
-        requires court { IsCourt self.old }
-        ensures place { IfOk result (λ place.
-            IsTableFor (tables_of self.old.world.now) assume (slice_get self.new.tables.items place)) }
-        ensures court { IsCourt self.new }
-        ensures world { self.new.world.now ≡ self.old.world.now }
-    {
-        match self.place_of(assume) {
-            Some(place) => return Ok(place),
-            None => {}
-        }
-        let table = Compat::solve(alloc, self.world, &self.layouts, &self.order, assume, steps)?;
-        let place = self.tables.len();
-        self.tables.push(table)?;
-        Ok(place)
+    fn yes(&mut self, alloc: Global, ask: &Ask) -> Result<bool, Memory> {
+        let answer = self.answer(alloc, ask)?;
+        Ok(is_yes(&answer))
     }
 }

@@ -1,31 +1,24 @@
-ghost use Rattle.std.specs.Prelude.{◌≡◌, ◌<◌, IfOk};
+ghost use Rattle.std.specs.Prelude.{◌≡◌, IfOk};
+ghost use Rattle.tm_base.specs.Worlds.{tables_of};
 ghost use Rattle.tm_run.specs.Answers.{AreAnswered};
 
 use crate::court::Court;
 use std::alloc::Global;
-use std::marker::Brand;
-use std::sync::ledger::{Blank, Ledger};
-use tm_base::{Answer, Memory, Steps, World};
+use std::sync::ledger::Ledger;
+use tm_base::{Answer, Memory, World};
 
 /// The answers to a world's questions, in order.
-pub fn answers(alloc: Global, world: &World) -> Result<Vec<Answer>, Memory>
+pub fn answers<L: Ledger>(
+    alloc: Global,
+    world: &World,
+    court: &mut Court<L>,
+) -> Result<Vec<Answer>, Memory>
+    requires { court.old ≡ tables_of world.now }
     ensures { IfOk result (λ answers. AreAnswered world.now world.now.questions answers.items) }
 {
-    answers_by::<Brand>(alloc, world, Blank::new(1))
-}
-
-/// The same, where steps are counted from a blank.
-fn answers_by<L: Ledger>(alloc: Global, world: &World, blank: Blank) -> Result<Vec<Answer>, Memory>
-    requires name { blank.name ≡ L.name }
-    requires parts { blank.parts ≡ L.parts }
-    requires some { 0 < L.parts }
-    ensures { IfOk result (λ answers. AreAnswered world.now world.now.questions answers.items) }
-{
-    let mut steps: Steps<L> = Steps::new(blank);
-    let mut court = Court::new(alloc, world)?;
     let mut answers = Vec::new(alloc);
     for ask in world.questions.as_slice() {
-        let answer = court.answer(alloc, ask, &mut steps)?;
+        let answer = court.answer(alloc, ask)?;
         answers.push(answer)?;
     }
     Ok(answers)

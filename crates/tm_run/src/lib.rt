@@ -4,10 +4,16 @@
 mod court;
 mod examining;
 mod judging;
+mod kinds;
+mod need;
+mod need_lines;
+mod needing;
 mod options;
 mod places;
 mod report;
+mod reported;
 mod running;
+mod solved;
 mod status;
 mod stop;
 

@@ -2,9 +2,16 @@ ghost use Rattle.std.specs.Prelude.{◌≡◌, ◌+◌, ◌≤◌, ◌∷◌, le
 ghost use Rattle.std.specs.Char.{is_ascii_digit};
 ghost use Rattle.std.specs.List.{list_all};
 ghost use Rattle.tm_run.specs.Reading.{IsFirstChoice, IsNextWord};
-ghost use Rattle.tm_run.specs.Words.{asked, choice_of, choice_with, no_options, number_of, profile_for, profile_of, texts_of, with_choice};
+ghost use Rattle.tm_run.specs.Words.{asked, choice_of, choice_with, gathered, go_together, no_options, number_of, profile_for, profile_of, texts_of, with_choice};
 
 use tm_base::Profile;
+
+/// What is asked of a file in place of the report on its questions.
+#[derive(Clone, Copy, PartialEq, Eq, Debug)]
+pub enum Mode {
+    /// The least assumptions under which each question is answered yes.
+    Needs,
+}
 
 /// What the words of a run ask for.
 #[derive(Clone, Copy, PartialEq, Eq, Debug)]
@@ -15,6 +22,8 @@ pub struct Options {
     pub generate: Option<u64>,
     /// The profile that is named, if one is.
     pub profile: Option<Profile>,
+    /// The mode, if one is named.
+    pub mode: Option<Mode>,
 }
 
 /// What one option asks for.
@@ -23,6 +32,7 @@ pub enum Choice {
     Summary,
     Generate(u64),
     Profile(Profile),
+    Mode(Mode),
 }
 
 impl Options {
@@ -34,10 +44,11 @@ impl Options {
             summary: false,
             generate: None,
             profile: None,
+            mode: None,
         }
     }
 
-    /// With one choice more, or `None` where its option is chosen already.
+    /// With one choice more, or `None` where its option, or another mode, is chosen already.
     fn with(self, choice: Choice) -> Option<Options>
         ensures { result ≡ with_choice choice self }
     {
@@ -54,8 +65,19 @@ impl Options {
                 profile: Some(profile),
                 ..self
             }),
+            Choice::Mode(mode) if self.mode.is_none() => Some(Options {
+                mode: Some(mode),
+                ..self
+            }),
             _ => None,
         }
+    }
+
+    /// Whether a mode, if there is one, stands with neither a summary nor a generated file.
+    fn go_together(self) -> bool
+        ensures { result ≡ go_together self }
+    {
+        self.mode.is_none() || (!self.summary && self.generate.is_none())
     }
 
     /// The profile for which files are answered: `le64` where none is named.
@@ -141,16 +163,19 @@ fn choice_with(name: &str, value: &str) -> Option<Choice>
 fn choice_of(word: &str) -> Option<Choice>
     ensures { result ≡ choice_of word.now }
 {
-    if word == "--summary" {
-        return Some(Choice::Summary);
+    match word {
+        "--summary" => Some(Choice::Summary),
+        "--needs" => Some(Choice::Mode(Mode::Needs)),
+        _ => {
+            let (name, value) = word.split_once('=')?;
+            choice_with(name, value)
+        }
     }
-    let (name, value) = word.split_once('=')?;
-    choice_with(name, value)
 }
 
-/// What the words ask for, or `None` where they aren't in form.
-pub fn chosen(words: &[String]) -> Option<Options>
-    ensures { result ≡ asked words.now }
+/// What the words choose, or `None` where one is no part of an option or an option stands twice.
+fn gathered(words: &[String]) -> Option<Options>
+    ensures { result ≡ gathered (texts_of words.now) }
 {
     let mut words = Words { rest: words };
     let mut options = Options::none();
@@ -158,4 +183,16 @@ pub fn chosen(words: &[String]) -> Option<Options>
         options = options.with(words.choice(word)?)?;
     }
     Some(options)
+}
+
+/// What the words ask for, or `None` where they aren't in form.
+pub fn chosen(words: &[String]) -> Option<Options>
+    ensures { result ≡ asked words.now }
+{
+    let options = gathered(words)?;
+    if options.go_together() {
+        Some(options)
+    } else {
+        None
+    }
 }

@@ -4,31 +4,14 @@ ghost use Rattle.tm_base.specs.Profiles.{pointer_size};
 ghost use Rattle.tm_base.specs.Worlds.{tables_of};
 ghost use Rattle.tm_laws.specs.AnswerKinds.{is_no, is_refusal, is_yes};
 ghost use Rattle.tm_report.specs.AnswerLines.{HasWholeWord};
-ghost use Rattle.tm_run.specs.Report.{answer_lines, generated_line, reference_lines, report_for, report_of, status_of, summary_of};
+ghost use Rattle.tm_run.specs.Report.{answer_lines, generated_line, reference_lines, report_for, report_of, status_of, status_when, summary_of};
 
+use crate::kinds::{is_no, is_refusal, is_yes};
 use crate::options::Options;
 use crate::status::Status;
 use std::alloc::Global;
 use tm_base::{Answer, Memory, RefId, Text, World};
 use tm_report::{line, ref_line, summary};
-
-fn is_yes(answer: &Answer) -> bool
-    ensures { result ≡ is_yes answer.now }
-{
-    matches!(answer, Answer::Yes | Answer::YesBecause(_))
-}
-
-fn is_no(answer: &Answer) -> bool
-    ensures { result ≡ is_no answer.now }
-{
-    matches!(answer, Answer::No(_) | Answer::NoAt(_, _, _, _))
-}
-
-fn is_refusal(answer: &Answer) -> bool
-    ensures { result ≡ is_refusal answer.now }
-{
-    matches!(answer, Answer::Refused(_, _, _))
-}
 
 /// Adds the line of each reference type of a world.
 fn add_reference_lines(alloc: Global, text: &mut Text, world: &World) -> Result<(), Memory>
@@ -158,13 +141,16 @@ fn all_yes(answers: &[Answer]) -> bool
     answers.iter().all(|answer| is_yes(answer))
 }
 
+/// The status of a run, by whether all of what was written is as wished.
+pub fn status_when(all: bool) -> Status
+    ensures { result ≡ status_when all }
+{
+    if all { Status::AllYes } else { Status::Mixed }
+}
+
 /// The status of a run whose answers were written.
 pub fn status(answers: &[Answer]) -> Status
     ensures { result ≡ status_of answers.now }
 {
-    if all_yes(answers) {
-        Status::AllYes
-    } else {
-        Status::Mixed
-    }
+    status_when(all_yes(answers))
 }

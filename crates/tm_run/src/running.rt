@@ -2,7 +2,7 @@ ghost use Rattle.std.specs.Prelude.{◌≡◌, ◌≢◌, ℕ, ◌+◌, ◌<◌,
 ghost use Rattle.tm_gen.specs.Generated.{generated_file};
 ghost use Rattle.tm_io.specs.Faults.{Rose};
 ghost use Rattle.tm_io.specs.Told.{AddsAll};
-ghost use Rattle.tm_run.specs.Answers.{EachHolds, SomeDoesNot};
+ghost use Rattle.tm_run.specs.Held.{EachHolds, SomeDoesNot};
 ghost use Rattle.tm_run.specs.Examined.{IsStop};
 ghost use Rattle.tm_run.specs.Faults.{HasFault, IsFaulty};
 ghost use Rattle.tm_run.specs.Files.{file_bytes, IsAccepted};
@@ -12,9 +12,8 @@ ghost use Rattle.tm_run.specs.Words.{asked, is_read, profile_for};
 ghost use Rattle.tm_run.specs.declared.options.Options.{Options};
 
 use crate::examining::examine;
-use crate::judging::answers;
 use crate::options::{Options, chosen};
-use crate::report::{report, status};
+use crate::reported::reported;
 use crate::status::{Status, fault_status};
 use crate::stop::Stop;
 use std::alloc::Global;
@@ -23,7 +22,8 @@ use tm_gen::generate;
 use tm_io::{ReadErr, Sink, SinkErr, Source, read_all, write_all};
 use tm_report::{FileFault, fault_line};
 
-const USAGE_LINE: &str = "usage: transmute_report [--summary] [--generate N] [--profile NAME]\n";
+const USAGE_LINE: &str =
+    "usage: transmute_report [--profile NAME] [--summary] [--generate N] [MODE]\n";
 
 /// What is wrong with an input that has too many bytes.
 const TOO_LONG: FileFault = FileFault::Passed(LimitKind::FileBytes, None);
@@ -38,7 +38,8 @@ pub fn run<S: Source, K: Sink>(alloc: Global, words: &[String], src: &mut S, out
     // The headline: the report on an accepted file is written, in which each question is refused exactly
     // where a type that it reaches is at fault, and else is answered yes exactly where each value of its
     // source, or with `validity` some, fitted, is a value of its target; and what a no shows is true.
-    // `IsReport` says it, of the file that was read or generated and of the profile that is asked for.
+    // `IsReport` says it, of the file that was read or generated and of the profile that is asked for. With a
+    // mode the text is what the mode says of the file's questions, and the clauses below speak of that.
     ensures headline { (options : Options) (file : List ℕ)
         → IsRunOn (asked words.now) (S.left src.old) options file result
         → IsAccepted (profile_for options) file
@@ -63,13 +64,14 @@ pub fn run<S: Source, K: Sink>(alloc: Global, words: &[String], src: &mut S, out
         → (fault : FileFault) → HasFault (profile_for options) file fault
         → WritesFault fault result (K.written out.old) (K.written out.new) }
 
-    // The cause of each status. A file that `EachHolds` or `SomeDoesNot` speaks of is accepted.
+    // The cause of each status. A file that `EachHolds` or `SomeDoesNot` speaks of is accepted; what is to hold
+    // of its questions is told by `HoldsFor`, for the mode.
     ensures all_yes { (options : Options) (file : List ℕ)
         → IsRunOn (asked words.now) (S.left src.old) options file result
-        → (result ≡ Status.AllYes ↔ EachHolds (profile_for options) file) }
+        → (result ≡ Status.AllYes ↔ EachHolds options file) }
     ensures mixed { (options : Options) (file : List ℕ)
         → IsRunOn (asked words.now) (S.left src.old) options file result
-        → (result ≡ Status.Mixed ↔ SomeDoesNot (profile_for options) file) }
+        → (result ≡ Status.Mixed ↔ SomeDoesNot options file) }
     ensures usage { IsSettled result → (result ≡ Status.Usage ↔ asked words.now ≡ None) }
     ensures bad_text { (options : Options) (file : List ℕ)
         → IsRunOn (asked words.now) (S.left src.old) options file result
@@ -164,9 +166,8 @@ fn judged(alloc: Global, options: Options, file: &[u8]) -> Result<(Status, Text)
     ensures stop { IfErr result (IsStop (profile_for options) file.now) }
 {
     let world = examine(alloc, options.target(), file)?;
-    let answers = answers(alloc, &world)?;
-    let text = report(alloc, options, file, &world, &answers)?;
-    Ok((status(&answers), text))
+    let outcome = reported(alloc, options, file, &world)?;
+    Ok(outcome)
 }
 
 /// Writes the line of a fault.

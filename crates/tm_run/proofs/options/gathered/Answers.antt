@@ -1,7 +1,7 @@
 use Rattle.std.proofs.Common.{◌∙◌, ◌∷◌, List, ℕ, ap, option_and_then, sym}
 use Rattle.tm_run.specs.Words.{choices_of, texts_of, with_choices}
 use Rattle.tm_run.proofs.WordLemmas.{choice-last, choice-made, choice-refused}
-use Rattle.tm_run.proofs.options.chosen.Goals as goal
+use Rattle.tm_run.proofs.options.gathered.Goals as goal
 
 pub returns : goal.returns
 returns c = sym (choice-last c.loop-word.options _ c.in_default.ensures.word) ∙ c.loop-word.invariant

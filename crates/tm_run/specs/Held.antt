@@ -1,0 +1,31 @@
+-- What is to hold of a file's questions, so that a run ends with the status of all: what is asked for decides it.
+use Rattle.std.specs.Prelude.{ℕ, Option, Some, None, List}
+use Rattle.std.specs.List.{All, Any}
+use Rattle.tm_base.specs.declared.ask.Ask.{Ask}
+use Rattle.tm_base.specs.declared.world.World.{World}
+use Rattle.tm_base.specs.Asked.{HoldsOf}
+use Rattle.tm_base.specs.Tables.{Tables}
+use Rattle.tm_base.specs.Worlds.{tables_of}
+use Rattle.tm_run.specs.Files.{IsWorldOf}
+use Rattle.tm_run.specs.Needs.{HoldsUnderSome}
+use Rattle.tm_run.specs.Words.{profile_for}
+use Rattle.tm_run.specs.declared.options.Mode.{Mode}
+use Rattle.tm_run.specs.declared.options.Mode.TheVariants.{Needs}
+use Rattle.tm_run.specs.declared.options.Options.{Options}
+
+-- Without a mode, that a question is to be answered yes; with `--needs`, that it is under some assumptions.
+abbrev pub HoldsFor : Option Mode → Tables → Ask → Type 0
+HoldsFor None = HoldsOf
+HoldsFor (Some Needs) = HoldsUnderSome
+
+-- the file is accepted, and that holds of each of its questions
+pub record EachHolds (options : Options) (file : List ℕ) : Type 0 where
+  pub world : World
+  pub of_file : IsWorldOf (profile_for options) file world
+  pub each : All (HoldsFor options.mode (tables_of world)) world.questions
+
+-- the file is accepted, and of some question it doesn't hold
+pub record SomeDoesNot (options : Options) (file : List ℕ) : Type 0 where
+  pub world : World
+  pub of_file : IsWorldOf (profile_for options) file world
+  pub some : Any (λ ask. ¬ HoldsFor options.mode (tables_of world) ask) world.questions
