@@ -43,10 +43,10 @@ field-laws : Laws field
 field-laws = mark_laws a_field (to_laws _ (seq_laws (optional_laws visibility-laws refl) (seq_laws name_laws (seq_laws (the_laws c.Colon) (type_laws 0) refl) refl) refl)) refl
 
 behind-pub-laws : Laws behind_pub
-behind-pub-laws = or_laws (to_laws _ (mark_laws (a_type 0) (plain_laws type_first (SpellsType 1) (read_type 1 32) refl refl refl refl (type_laws 1)) refl))
+behind-pub-laws = or_laws (to_laws _ (mark_laws (a_type 0) (plain_laws type_first (SpellsType 1) (read_type 1 31) refl refl refl refl (type_laws 1)) refl))
     (to_laws _ (seq_laws (the_laws c.OpenParen) (or_laws
     (to_laws _ (seq_laws narrower-laws (seq_laws (the_laws c.CloseParen) (type_laws 0) refl) refl))
-    (to_laws _ (mark_laws (a_type 0) (behind_laws type_first (SpellsType 1) (read_type 1 32) refl refl refl refl (type_laws 1)) refl)) refl refl) refl)) refl refl
+    (to_laws _ (mark_laws (a_type 0) (behind_laws type_first (SpellsType 1) (read_type 1 31) refl refl refl refl (type_laws 1)) refl)) refl refl) refl)) refl refl
 
 place-laws : Laws place
 place-laws = mark_laws a_field (or_laws (to_laws _ (type_laws 0)) (to_laws _ (seq_laws (the_laws c.Pub) behind-pub-laws refl)) refl refl) refl

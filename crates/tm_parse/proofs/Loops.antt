@@ -1,11 +1,12 @@
 -- Repetitions, turn by turn, against what was found before.
-use Rattle.std.proofs.Common.{◌≡◌, ℕ, zero, suc, ◌+◌, ◌-◌, ◌<◌, refl, sym, ap, ◌∙◌, Bool, true, false, List, [], ◌∷◌, ◌++◌, append_assoc, append-nil, arith}
-use Rattle.tm_parse.specs.Combinators.{starts, pick, mapped, put_first, and_again, read_most}
+use Rattle.std.proofs.Common.{◌≡◌, ℕ, zero, suc, ◌+◌, ◌-◌, ◌<◌, refl, sym, ap, ◌∙◌, subst, Bool, true, false, Option, List, [], ◌∷◌, ◌++◌, Err, append_assoc, append-nil, arith}
+use Rattle.tm_parse.specs.Combinators.{starts, pick, mapped, paired, followed, put_first, and_again, read_most, to}
 use Rattle.tm_parse.specs.Classes.{joined}
 use Rattle.tm_parse.specs.Parts.{Outcome, Done, Stuck, Passed, Reader, Part}
-use Rattle.tm_parse.specs.Read.{Stops}
-use Rattle.tm_parse.specs.Shapes.{with_comma}
+use Rattle.tm_parse.specs.Reads.{Comes}
+use Rattle.tm_parse.specs.Shapes.{is_there, optional, the, with_comma}
 use Rattle.tm_parse.specs.declared.class.Class.TheVariants as class_is
+use Rattle.tm_parse.specs.declared.reader.Reader.{Reader as Place}
 use Rattle.tm_parse.specs.declared.stop.Stop.{Stop}
 use Rattle.tm_parse.specs.declared.stop.Stop.TheVariants as stop
 use Rattle.tm_parse.specs.declared.class.Class.{Class}
@@ -55,11 +56,15 @@ turn_as : {V : Type 0} (first : List Class) (part : Reader (V × Bool)) (all : O
     → Goes first part all vs k n ts → 0 < k → starts first ts ≡ true → part n ts ≡ o → all ≡ put_before vs (and_again (read_most (k - 1) first part) o)
 turn_as first part all vs k n ts o i l h s = sym i ∙ ap (put_before vs) (most_turn k first part n ts l h ∙ ap (and_again (read_most (k - 1) first part)) s)
 
-pub turn_stops : {V : Type 0} (first : List Class) (part : Reader (V × Bool)) (all : Outcome (List V)) (vs : List V) (k : ℕ) (n : Counts) (ts : List Terminal) (e : Stop)
-    → Goes first part all vs k n ts → 0 < k → starts first ts ≡ true → Stops e (part n ts) → Stops e all
-turn_stops first part all vs k n ts stop.Memory i l h s = tt
-turn_stops first part all vs k n ts (stop.Stuck rest) i l h s = turn_as first part all vs k n ts (Stuck rest.now) i l h s
-turn_stops first part all vs k n ts (stop.Passed kind rest) i l h s = turn_as first part all vs k n ts (Passed kind rest.now) i l h s
+-- it stopped, where the reader stands now
+abbrev pub Stops : {V : Type 0} → Outcome V → Place → Stop → Type 0
+Stops o after e = Comes o after (Err e)
+
+pub turn_stops : {V : Type 0} (first : List Class) (part : Reader (V × Bool)) (all : Outcome (List V)) (vs : List V) (k : ℕ) (n : Counts) (ts : List Terminal) (after : Place) (e : Stop)
+    → Goes first part all vs k n ts → 0 < k → starts first ts ≡ true → Stops (part n ts) after e → Stops all after e
+turn_stops first part all vs k n ts after stop.Memory i l h s = tt
+turn_stops first part all vs k n ts after stop.Stuck i l h s = turn_as first part all vs k n ts (Stuck after.rest.now) i l h s
+turn_stops first part all vs k n ts after (stop.Passed kind) i l h s = turn_as first part all vs k n ts (Passed kind after.rest.now) i l h s
 
 pub turn_last : {V : Type 0} (first : List Class) (part : Reader (V × Bool)) (all : Outcome (List V)) (vs us : List V) (v : V) (k : ℕ) (n after : Counts) (ts rest : List Terminal)
     → Goes first part all vs k n ts → 0 < k → starts first ts ≡ true → part n ts ≡ Done (v, false) after rest → us ≡ vs ++ v ∷ [] → all ≡ Done us after rest
@@ -74,11 +79,43 @@ turn_next first part all vs us v k j n after ts rest i l h s x =
     ∙ sym (put_before-put_first vs v (read_most (k - 1) first part after rest))
     ∙ sym (turn_as first part all vs k n ts (Done (v, true) after rest) i pos h s)
 
--- where what is read stands for another value
-pub mapped_stops : {A B : Type 0} (f : A → B) (o : Outcome A) (e : Stop) → Stops e o → Stops e (mapped f o)
-mapped_stops f o stop.Memory s = tt
-mapped_stops f o (stop.Stuck rest) s = ap (mapped f) s
-mapped_stops f o (stop.Passed kind rest) s = ap (mapped f) s
+-- where what is read stands for another value, or another part follows
+pub mapped_stops : {A B : Type 0} (f : A → B) (o : Outcome A) (after : Place) (e : Stop) → Stops o after e → Stops (mapped f o) after e
+mapped_stops f o after stop.Memory s = tt
+mapped_stops f o after stop.Stuck s = ap (mapped f) s
+mapped_stops f o after (stop.Passed kind) s = ap (mapped f) s
+
+followed_stops : {A B : Type 0} (second : Reader B) (o : Outcome A) (after : Place) (e : Stop) → Stops o after e → Stops (followed second o) after e
+followed_stops second o after stop.Memory s = tt
+followed_stops second o after stop.Stuck s = ap (followed second) s
+followed_stops second o after (stop.Passed kind) s = ap (followed second) s
+
+-- one of a list with commas is read, or stops, and then the comma
+abbrev comma : Part (Option Terminal)
+comma = optional (the class_is.Comma)
+
+abbrev and_comma : {V : Type 0} → V × Option Terminal → V × Bool
+and_comma v = (v.0, is_there v.1)
+
+both : {V : Type 0} (v : V) (o : Outcome (Option Terminal)) → mapped and_comma (paired v o) ≡ mapped (λ b. (v, b)) (mapped is_there o)
+both v (Done w after rest) = refl
+both v (Stuck rest) = refl
+both v (Passed kind rest) = refl
+
+comma_next : {V : Type 0} (p : Part V) (n after : Counts) (ts rest : List Terminal) (v : V) → p.read n ts ≡ Done v after rest
+    → (with_comma p).read n ts ≡ mapped (λ b. (v, b)) ((to is_there comma).read after rest)
+comma_next p n after ts rest v h = ap (λ o. mapped and_comma (followed comma.read o)) h ∙ both v (comma.read after rest)
+
+pub item_stops : {V : Type 0} (p : Part V) (n : Counts) (ts : List Terminal) (after : Place) (e : Stop) → Stops (p.read n ts) after e → Stops ((with_comma p).read n ts) after e
+item_stops p n ts after e s = mapped_stops and_comma (followed comma.read (p.read n ts)) after e (followed_stops comma.read (p.read n ts) after e s)
+
+pub comma_read : {V : Type 0} (p : Part V) (n after later : Counts) (ts rest left : List Terminal) (v : V) (b : Bool) → p.read n ts ≡ Done v after rest
+    → (to is_there comma).read after rest ≡ Done b later left → (with_comma p).read n ts ≡ Done (v, b) later left
+comma_read p n after later ts rest left v b h g = comma_next p n after ts rest v h ∙ ap (mapped (λ b. (v, b))) g
+
+pub comma_stops : {V : Type 0} (p : Part V) (n m : Counts) (ts rest : List Terminal) (v : V) (after : Place) (e : Stop) → p.read n ts ≡ Done v m rest
+    → Stops ((to is_there comma).read m rest) after e → Stops ((with_comma p).read n ts) after e
+comma_stops p n m ts rest v after e h s = subst (λ o. Stops o after e) (sym (comma_next p n m ts rest v h)) (mapped_stops (λ b. (v, b)) ((to is_there comma).read m rest) after e s)
 
 -- a part that isn't empty begins a list with commas as it begins itself
 pub comma_first : {V : Type 0} (p : Part V) (ts : List Terminal) → p.empty ≡ false → starts (with_comma p).first ts ≡ starts p.first ts

@@ -9,6 +9,7 @@ use Rattle.tm_parse.specs.Files.{file}
 use Rattle.tm_parse.specs.Limits.{none_yet}
 use Rattle.tm_parse.specs.Parsing.{SpellsFile, StopsAt, PassesLimitAt, HasCause, returned, IsAnswered}
 use Rattle.tm_parse.specs.Parts.{Outcome, Done, Stuck, Passed}
+use Rattle.tm_parse.specs.declared.counts.Counts.{Counts}
 use Rattle.tm_parse.specs.declared.parsed.Parsed.{Parsed}
 use Rattle.tm_parse.specs.declared.parsing.ParseErr.{ParseErr}
 use Rattle.tm_parse.specs.declared.parsing.ParseErr.TheVariants.{At, Limit, Memory}
@@ -70,8 +71,10 @@ left (Passed kind rest) = rest
 shorter : (ts front rest : List Terminal) → ts ≡ front ++ rest → length rest ≤ length ts
 shorter ts front rest h = let whole : length ts ≡ length front + length rest = ap length h ∙ length-append front rest in omega (arith, whole)
 
-pub left_within : (ts : List Terminal) (count : ℕ) (o : Outcome Parsed) → count ≡ length ts → read ts ≡ o → length (left o) ≤ count
-left_within ts count o counts told = subst (λ n. length (left o) ≤ n) (sym counts) (within o (subst (IsRight file none_yet ts) told (is_right ts)))
+pub left_within : (ts us : List Terminal) (n : Counts) (count : ℕ) (o : Outcome Parsed) → n ≡ none_yet → us ≡ ts → count ≡ length ts → (file 0).read n us ≡ o → length (left o) ≤ count
+left_within ts us n count o first same counts told =
+    let here : read ts ≡ o = sym (ap (λ m. (file 0).read m us) first ∙ ap (λ us. (file 0).read none_yet us) same) ∙ told in
+    subst (λ n. length (left o) ≤ n) (sym counts) (within o (subst (IsRight file none_yet ts) here (is_right ts)))
   where
     within : (o : Outcome Parsed) → IsRight file none_yet ts o → length (left o) ≤ length ts
     within (Done v after rest) g = shorter ts (terminals g.events) rest g.text

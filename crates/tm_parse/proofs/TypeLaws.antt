@@ -1,17 +1,18 @@
 -- The laws of types at every depth.
-use Rattle.std.proofs.Common.{◌≡◌, ℕ, zero, suc, ◌+◌, ◌≤◌, refl, sym, ap, ◌∙◌, subst, Bool, true, false, ◌||◌, if◌then◌else◌, List, [], ◌∷◌, ◌++◌, inl, inr, arith, lt-ltb}
+use Rattle.std.proofs.Common.{◌≡◌, ℕ, zero, suc, ◌+◌, ◌-◌, ◌≤◌, refl, sym, ap, ◌∙◌, subst, Bool, true, false, ◌||◌, List, [], ◌∷◌, ◌++◌, inl, inr, arith}
 use Rattle.tm_parse.proofs.Widening.{widened}
 use Rattle.tm_parse.proofs.Choices.{to_laws}
 use Rattle.tm_parse.proofs.Forms.{mark_form}
 use Rattle.tm_parse.proofs.Fronts.{starts-same, starts-front}
 use Rattle.tm_parse.proofs.Lawful.{Clear, Front, Same, Form, Spelling, Begun, IsRight, Laws}
+use Rattle.tm_parse.proofs.Levels.{at_limit}
 use Rattle.tm_parse.proofs.Marks.{mark_laws}
 use Rattle.tm_parse.proofs.ShapeLaws.{any_laws}
 use Rattle.tm_parse.proofs.TypeForms.{level_form, level_laws}
 use Rattle.tm_parse.specs.Classes.{among, alike}
 use Rattle.tm_parse.specs.Combinators.{starts, counts_as}
 use Rattle.tm_parse.specs.Events.{a_type, mark, Event, terminals}
-use Rattle.tm_parse.specs.Limits.{Fine, Passes, step, and_then, nodes_before, within, Beyond, counted, count}
+use Rattle.tm_parse.specs.Limits.{Beyond, counted, count}
 use Rattle.tm_parse.specs.Parts.{Reader, Part, finish}
 use Rattle.tm_parse.specs.Types.{integer, scalar, type_first, primitive_type, one_level, type_part, read_none, SpellsType, too_deep, read_type, type_at}
 use Rattle.tm_parse.specs.declared.class.Class.TheVariants as c
@@ -105,15 +106,10 @@ type-some read depth = (type-begins read depth (record { class = integer; place 
 
 -- nested too deep
 
-at-limit : (c : Counts) (depth : ℕ) → 32 ≤ depth → step c (mark (a_type depth)) ≡ Passes limit.Nesting
-unfolding step
-at-limit c depth l = ap (λ b. and_then (if b then Passes limit.Nesting else Fine c) (within limit.TypeNodes (nodes_before depth c + 1) (record c { nodes = nodes_before depth c + 1 })))
-    (lt-ltb 32 (depth + 1) (omega arith))
-
 passed : (c : Counts) (depth : ℕ) → 32 ≤ depth → (n : ℕ) (v : Expr) (e : List Event) → SpellsType depth n v e → count c e ≡ Beyond limit.Nesting e
 unfolding SpellsType
 passed c depth l zero v e h = absurd h
-passed c depth l (suc n) v e h = subst (λ e. count c e ≡ Beyond limit.Nesting e) (sym h.2) (ap (λ s. counted s (mark (a_type depth) ∷ h.0) (λ x. count x h.0)) (at-limit c depth l))
+passed c depth l (suc n) v e h = subst (λ e. count c e ≡ Beyond limit.Nesting e) (sym h.2) (ap (λ s. counted s (mark (a_type depth) ∷ h.0) (λ x. count x h.0)) (at_limit c depth l))
 
 -- with no level left a type that begins here is too deep
 module _ (depth : ℕ) (l : 32 ≤ depth) where
@@ -183,4 +179,4 @@ levels-laws (suc g) depth l = widened (λ n. counts_as (a_type depth) (one_level
     (λ n v e h. (suc n, h)) (λ n v e h. (n, type-grow n depth v e h)) (λ c ts. refl) (λ t h. h) (λ z h. clear-twice z h) refl
 
 pub type_laws : (depth : ℕ) → Laws (λ n. type_at depth n)
-type_laws depth = levels-laws 32 depth (omega arith)
+type_laws depth = levels-laws (32 - depth) depth (omega arith)

@@ -8,6 +8,7 @@ use Rattle.tm_parse.specs.Limits.{number_of}
 use Rattle.tm_parse.specs.Parts.{Part}
 use Rattle.tm_parse.specs.Shapes.{any, the, optional, is_there, many, listed, listed1, between}
 use Rattle.tm_parse.specs.Types.{integer, number, names, definition_names, primitive_of, places, or_none, plain_type, behind_paren, type_at}
+use Rattle.tm_parse.specs.declared.class.Class.{Class}
 use Rattle.tm_parse.specs.declared.class.Class.TheVariants as c
 use Rattle.tm_parse.specs.declared.parsed.Decl.{Decl}
 use Rattle.tm_parse.specs.declared.parsed.DeclField.{DeclField}
@@ -155,6 +156,17 @@ defined what v reprs = record { kind = what; name = v.1.place; reprs = reprs; pa
 
 abbrev pub headed : Kind → Part Terminal → Part (List DeclVariant) → Part (List DeclRepr → Decl)
 headed what word body = counts_as a_definition (to (λ v. defined what (v.0, v.1.0, v.1.1.0, v.1.1.1)) (word >> any definition_names >> parameters >> body))
+
+-- the word and the body of each kind of definition
+abbrev pub word_of : Kind → Class
+word_of kind.Struct = c.Struct
+word_of kind.Union = c.Union
+word_of kind.Enum = c.Enum
+
+abbrev pub body_of : Kind → ℕ → Part (List DeclVariant)
+body_of kind.Struct levels = struct_body levels
+body_of kind.Union levels = union_body levels
+body_of kind.Enum levels = enum_body levels
 
 -- each kind of definition, without its attributes and its visibility
 abbrev pub headed_struct : ℕ → Part (List DeclRepr → Decl)

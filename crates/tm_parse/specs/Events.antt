@@ -1,17 +1,10 @@
 -- What a list of terminals is made of when limits are counted: the terminals, and a mark wherever
 -- something begins that is counted.
-use Rattle.std.specs.Prelude.{ℕ, List, [], ◌∷◌}
+use Rattle.std.specs.Prelude.{List, [], ◌∷◌}
 use Rattle.tm_parse.specs.declared.terminal.Terminal.{Terminal}
-
 -- what begins; a type has so many types around it
-pub data Mark : Type 0 where
-  a_definition : Mark
-  a_question : Mark
-  a_lifetime : Mark
-  a_parameter : Mark
-  a_field : Mark
-  a_variant : Mark
-  a_type : ℕ → Mark
+pub use Rattle.tm_parse.specs.declared.mark.Mark.{Mark}
+pub use Rattle.tm_parse.specs.declared.mark.Mark.TheVariants.{Definition as a_definition, Question as a_question, Lifetime as a_lifetime, Parameter as a_parameter, Field as a_field, Variant as a_variant, TypeWithin as a_type}
 
 -- what a terminal stands for: the length of an array, or anything else
 pub data Role : Type 0 where

@@ -14,5 +14,5 @@ pub mod Written
 pub mod Bounds
 pub mod Places
 pub mod NameClasses
-pub mod Read
+pub mod Reads
 pub mod Parsing

@@ -1,5 +1,5 @@
 -- The grammar of types.
-use Rattle.std.specs.Prelude.{ℕ, zero, suc, Bool, true, false, Option, Some, None, List, [], ◌∷◌, map}
+use Rattle.std.specs.Prelude.{ℕ, zero, suc, ◌-◌, Bool, true, false, Option, Some, None, List, [], ◌∷◌, map}
 use Rattle.tm_base.specs.declared.ground.Primitive.{Primitive}
 use Rattle.tm_base.specs.declared.ground.Primitive.TheVariants as primitive
 use Rattle.tm_base.specs.declared.ground.Wrapper.{Wrapper}
@@ -142,8 +142,4 @@ read_type depth zero n ts = too_deep (starts type_first ts) ts
 read_type depth (suc levels) n ts = (counts_as (a_type depth) (one_level (type_part type_first (SpellsType depth zero) (read_type (suc depth) levels)))).read n ts
 
 abbrev pub type_at : ℕ → ℕ → Part Expr
-type_at depth levels = record { spells = SpellsType depth levels; read = read_type depth 32; first = type_first; bars = c.Less ∷ []; empty = false }
-
--- the same with so many levels to read
-abbrev pub type_read : ℕ → ℕ → Part Expr
-type_read depth levels = type_part type_first (SpellsType depth levels) (read_type depth levels)
+type_at depth levels = type_part type_first (SpellsType depth levels) (read_type depth (32 - depth))

@@ -1,5 +1,5 @@
 ghost use Rattle.std.specs.Prelude.{◌≡◌, not};
-ghost use Rattle.tm_parse.specs.Classes.{alike, code};
+ghost use Rattle.tm_parse.specs.Classes.{alike, among, code};
 ghost use Rattle.tm_parse.specs.Limits.{is_number_or_sign};
 
 use tm_base::{Primitive, Wrapper};
@@ -94,6 +94,17 @@ pub enum Class {
 }
 
 impl Class {
+    /// Any number.
+    pub const NUMBER: Class = Class::Number(0);
+    /// The name of any integer type.
+    pub const INTEGER: Class = Class::Integer(Primitive::U8);
+    /// `bool`, `char`, `f32` or `f64`.
+    pub const SCALAR: Class = Class::Scalar(Primitive::Bool);
+    /// A name such as `NonZeroU8`, of any integer type.
+    pub const ALIAS: Class = Class::Alias(Primitive::U8);
+    /// A name such as `Option`, of any wrapper.
+    pub const GENERIC: Class = Class::Generic(Wrapper::Option);
+
     /// A number for each class, whatever the class carries.
     fn code(self) -> u8
         ensures { result ≡ code self }
@@ -156,6 +167,16 @@ impl Class {
         ensures { result ≡ alike self other }
     {
         self.code() == other.code()
+    }
+
+    /// Whether one of the classes is alike.
+    pub fn is_among(self, classes: &[Class]) -> bool
+        ensures { result ≡ among classes.now self }
+    {
+        match classes {
+            [] => false,
+            [first, rest @ ..] => first.is_alike(self) || self.is_among(rest),
+        }
     }
 
     /// Whether this is a word or a lifetime, and neither a sign nor a number.

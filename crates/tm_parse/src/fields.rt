@@ -1,5 +1,4 @@
 ghost use Rattle.std.specs.Prelude.{◌≡◌, refl};
-ghost use Rattle.tm_parse.specs.Combinators.{starts};
 ghost use Rattle.tm_parse.specs.Definitions.{
   bare as bare_rule,
   behind_pub as behind_pub_rule,
@@ -7,344 +6,170 @@ ghost use Rattle.tm_parse.specs.Definitions.{
   narrowed as narrowed_rule,
   opened as opened_rule,
   place as place_rule,
+  unnamed as unnamed_of,
   variant_field as variant_field_rule,
   variant_place as variant_place_rule,
 };
-ghost use Rattle.tm_parse.specs.Read.{Gives};
+ghost use Rattle.tm_parse.specs.Reads.{Reads};
 
 use crate::class::Class;
-use crate::counting;
-use crate::counts::Counts;
-use crate::names::{is_name_next, name};
-use crate::parsed::DeclField;
-use crate::reading::{is_next, take};
+use crate::mark::Mark;
+use crate::names::{NARROWER, is_public};
+use crate::parsed::{DeclField, Expr};
+use crate::reader::Reader;
 use crate::rule::Rule;
 use crate::stop::Stop;
-use crate::terminal::Terminal;
-use crate::types::{behind_paren, is_plain_next, is_type_next, outermost, plain};
-use crate::words::{is_any_next, is_public, optional_visibility, take_any};
-use std::alloc::Global;
-
-/// Whether a terminal comes next that begins a field with a name.
-fn is_field_next(terminals: &[Terminal]) -> bool
-    ensures { result ≡ starts (field_rule 0).first terminals.now }
-{
-    is_name_next(terminals) || is_next(Class::Pub, terminals)
-}
 
 /// A field with a name.
-fn field<'a>(
-    alloc: Global,
-    counts: Counts,
-    terminals: &'a [Terminal],
-) -> Result<(DeclField, Counts, &'a [Terminal]), Stop<'a>>
-    ensures { Gives (λ x. (x.0, x.1, x.2.now)) result ((field_rule 0).read counts terminals.now) }
-{
-    if !is_field_next(terminals) {
-        return Err(Stop::Stuck(terminals));
-    }
-    let counts = match counting::field(counts) {
-        Ok(counts) => counts,
-        Err(kind) => return Err(Stop::Passed(kind, terminals)),
-    };
-    let (visibility, counts, terminals) = optional_visibility(counts, terminals)?;
-    let (name, counts, terminals) = name(counts, terminals)?;
-    let (_, counts, terminals) = take(Class::Colon, counts, terminals)?;
-    let (ty, counts, terminals) = outermost(alloc, counts, terminals)?;
-    let name = Some(name.place);
-    let public = is_public(visibility);
-    Ok((DeclField { name, public, ty }, counts, terminals))
-}
+pub struct Field;
 
-/// A field with a name.
-pub struct FieldRule;
-
-impl Rule for FieldRule {
+impl Rule for Field {
     type Value = DeclField;
 
-    ghost rule = { field_rule 0 };
+    ghost rule = { λ _. field_rule 0 };
 
-    ghost begun = { refl };
+    ghost begun = { λ _. refl };
 
-    fn begins(&self, terminals: &[Terminal]) -> bool {
-        is_field_next(terminals)
+    fn begins(&self, reader: &Reader) -> bool {
+        reader.is_name_next() || reader.is_next(Class::Pub)
     }
 
-    fn read<'a>(
-        &self,
-        alloc: Global,
-        counts: Counts,
-        terminals: &'a [Terminal],
-    ) -> Result<(DeclField, Counts, &'a [Terminal]), Stop<'a>> {
-        field(alloc, counts, terminals)
+    fn read(&self, reader: &mut Reader) -> Result<DeclField, Stop> {
+        let begins = self.begins(reader);
+        reader.begin(begins, Mark::Field)?;
+        let visibility = reader.optional_visibility()?;
+        let name = Some(reader.name()?.place);
+        reader.take(Class::Colon)?;
+        let ty = reader.outermost()?;
+        let public = is_public(visibility);
+        Ok(DeclField { name, public, ty })
     }
-}
-
-/// Whether a terminal comes next that begins a field without a name.
-fn is_place_next(terminals: &[Terminal]) -> bool
-    ensures { result ≡ starts (place_rule 0).first terminals.now }
-{
-    is_type_next(terminals) || is_next(Class::Pub, terminals)
-}
-
-/// What stands behind `pub (` where the `(` belongs to `pub`.
-fn behind_narrower<'a>(
-    alloc: Global,
-    counts: Counts,
-    terminals: &'a [Terminal],
-) -> Result<(DeclField, Counts, &'a [Terminal]), Stop<'a>>
-    ensures { Gives (λ x. (x.0, x.1, x.2.now)) result ((narrowed_rule 0).read counts terminals.now) }
-{
-    let narrower = [Class::Crate, Class::Super, Class::Myself];
-    let (_, counts, terminals) = take_any(&narrower, counts, terminals)?;
-    let (_, counts, terminals) = take(Class::CloseParen, counts, terminals)?;
-    let (ty, counts, terminals) = outermost(alloc, counts, terminals)?;
-    Ok((
-        DeclField {
-            name: None,
-            public: false,
-            ty,
-        },
-        counts,
-        terminals,
-    ))
-}
-
-/// Whether a terminal comes next that goes on with a type behind its `(`.
-fn is_rest_next(terminals: &[Terminal]) -> bool
-    ensures { result ≡ starts (opened_rule 0).first terminals.now }
-{
-    is_next(Class::CloseParen, terminals) || is_type_next(terminals)
-}
-
-/// What stands behind `pub (` where the `(` belongs to the type.
-fn opened<'a>(
-    alloc: Global,
-    counts: Counts,
-    terminals: &'a [Terminal],
-) -> Result<(DeclField, Counts, &'a [Terminal]), Stop<'a>>
-    ensures { Gives (λ x. (x.0, x.1, x.2.now)) result ((opened_rule 0).read counts terminals.now) }
-{
-    if !is_rest_next(terminals) {
-        return Err(Stop::Stuck(terminals));
-    }
-    let counts = match counting::a_type_within(0, counts) {
-        Ok(counts) => counts,
-        Err(kind) => return Err(Stop::Passed(kind, terminals)),
-    };
-    let (ty, counts, terminals) = behind_paren(alloc, 1, 32, counts, terminals)?;
-    Ok((
-        DeclField {
-            name: None,
-            public: true,
-            ty,
-        },
-        counts,
-        terminals,
-    ))
-}
-
-/// A type behind `pub` that doesn't begin with `(`.
-fn bare<'a>(
-    alloc: Global,
-    counts: Counts,
-    terminals: &'a [Terminal],
-) -> Result<(DeclField, Counts, &'a [Terminal]), Stop<'a>>
-    ensures { Gives (λ x. (x.0, x.1, x.2.now)) result ((bare_rule 0).read counts terminals.now) }
-{
-    if !is_plain_next(terminals) {
-        return Err(Stop::Stuck(terminals));
-    }
-    let counts = match counting::a_type_within(0, counts) {
-        Ok(counts) => counts,
-        Err(kind) => return Err(Stop::Passed(kind, terminals)),
-    };
-    let (ty, counts, terminals) = plain(alloc, 1, 32, counts, terminals)?;
-    Ok((
-        DeclField {
-            name: None,
-            public: true,
-            ty,
-        },
-        counts,
-        terminals,
-    ))
-}
-
-/// What stands behind `pub` in a field without a name.
-fn behind_pub<'a>(
-    alloc: Global,
-    counts: Counts,
-    terminals: &'a [Terminal],
-) -> Result<(DeclField, Counts, &'a [Terminal]), Stop<'a>>
-    ensures { Gives (λ x. (x.0, x.1, x.2.now)) result ((behind_pub_rule 0).read counts terminals.now) }
-{
-    if is_plain_next(terminals) {
-        return bare(alloc, counts, terminals);
-    }
-    let (_, counts, terminals) = take(Class::OpenParen, counts, terminals)?;
-    if is_any_next(&[Class::Crate, Class::Super, Class::Myself], terminals) {
-        return behind_narrower(alloc, counts, terminals);
-    }
-    opened(alloc, counts, terminals)
 }
 
 /// A field without a name.
-fn place<'a>(
-    alloc: Global,
-    counts: Counts,
-    terminals: &'a [Terminal],
-) -> Result<(DeclField, Counts, &'a [Terminal]), Stop<'a>>
-    ensures { Gives (λ x. (x.0, x.1, x.2.now)) result ((place_rule 0).read counts terminals.now) }
-{
-    if !is_place_next(terminals) {
-        return Err(Stop::Stuck(terminals));
-    }
-    let counts = match counting::field(counts) {
-        Ok(counts) => counts,
-        Err(kind) => return Err(Stop::Passed(kind, terminals)),
-    };
-    if is_type_next(terminals) {
-        let (ty, counts, terminals) = outermost(alloc, counts, terminals)?;
-        return Ok((
-            DeclField {
-                name: None,
-                public: false,
-                ty,
-            },
-            counts,
-            terminals,
-        ));
-    }
-    let (_, counts, terminals) = take(Class::Pub, counts, terminals)?;
-    behind_pub(alloc, counts, terminals)
-}
+pub struct Place;
 
-/// A field without a name.
-pub struct PlaceRule;
-
-impl Rule for PlaceRule {
+impl Rule for Place {
     type Value = DeclField;
 
-    ghost rule = { place_rule 0 };
+    ghost rule = { λ _. place_rule 0 };
 
-    ghost begun = { refl };
+    ghost begun = { λ _. refl };
 
-    fn begins(&self, terminals: &[Terminal]) -> bool {
-        is_place_next(terminals)
+    fn begins(&self, reader: &Reader) -> bool {
+        reader.is_type_next() || reader.is_next(Class::Pub)
     }
 
-    fn read<'a>(
-        &self,
-        alloc: Global,
-        counts: Counts,
-        terminals: &'a [Terminal],
-    ) -> Result<(DeclField, Counts, &'a [Terminal]), Stop<'a>> {
-        place(alloc, counts, terminals)
+    fn read(&self, reader: &mut Reader) -> Result<DeclField, Stop> {
+        let begins = self.begins(reader);
+        reader.begin(begins, Mark::Field)?;
+        if reader.is_type_next() {
+            return Ok(unnamed(false, reader.outermost()?));
+        }
+        reader.take(Class::Pub)?;
+        reader.behind_pub()
     }
 }
 
 /// A field of a variant, with a name.
-fn variant_field<'a>(
-    alloc: Global,
-    counts: Counts,
-    terminals: &'a [Terminal],
-) -> Result<(DeclField, Counts, &'a [Terminal]), Stop<'a>>
-    ensures { Gives (λ x. (x.0, x.1, x.2.now)) result ((variant_field_rule 0).read counts terminals.now) }
-{
-    if !is_name_next(terminals) {
-        return Err(Stop::Stuck(terminals));
+pub struct VariantField;
+
+impl Rule for VariantField {
+    type Value = DeclField;
+
+    ghost rule = { λ _. variant_field_rule 0 };
+
+    ghost begun = { λ _. refl };
+
+    fn begins(&self, reader: &Reader) -> bool {
+        reader.is_name_next()
     }
-    let counts = match counting::field(counts) {
-        Ok(counts) => counts,
-        Err(kind) => return Err(Stop::Passed(kind, terminals)),
-    };
-    let (name, counts, terminals) = name(counts, terminals)?;
-    let (_, counts, terminals) = take(Class::Colon, counts, terminals)?;
-    let (ty, counts, terminals) = outermost(alloc, counts, terminals)?;
-    let name = Some(name.place);
-    Ok((
-        DeclField {
+
+    fn read(&self, reader: &mut Reader) -> Result<DeclField, Stop> {
+        let begins = self.begins(reader);
+        reader.begin(begins, Mark::Field)?;
+        let name = Some(reader.name()?.place);
+        reader.take(Class::Colon)?;
+        let ty = reader.outermost()?;
+        Ok(DeclField {
             name,
             public: false,
             ty,
-        },
-        counts,
-        terminals,
-    ))
-}
-
-/// A field of a variant, with a name.
-pub struct VariantFieldRule;
-
-impl Rule for VariantFieldRule {
-    type Value = DeclField;
-
-    ghost rule = { variant_field_rule 0 };
-
-    ghost begun = { refl };
-
-    fn begins(&self, terminals: &[Terminal]) -> bool {
-        is_name_next(terminals)
-    }
-
-    fn read<'a>(
-        &self,
-        alloc: Global,
-        counts: Counts,
-        terminals: &'a [Terminal],
-    ) -> Result<(DeclField, Counts, &'a [Terminal]), Stop<'a>> {
-        variant_field(alloc, counts, terminals)
+        })
     }
 }
 
 /// A field of a variant, without a name.
-fn variant_place<'a>(
-    alloc: Global,
-    counts: Counts,
-    terminals: &'a [Terminal],
-) -> Result<(DeclField, Counts, &'a [Terminal]), Stop<'a>>
-    ensures { Gives (λ x. (x.0, x.1, x.2.now)) result ((variant_place_rule 0).read counts terminals.now) }
+pub struct VariantPlace;
+
+impl Rule for VariantPlace {
+    type Value = DeclField;
+
+    ghost rule = { λ _. variant_place_rule 0 };
+
+    ghost begun = { λ _. refl };
+
+    fn begins(&self, reader: &Reader) -> bool {
+        reader.is_type_next()
+    }
+
+    fn read(&self, reader: &mut Reader) -> Result<DeclField, Stop> {
+        let begins = self.begins(reader);
+        reader.begin(begins, Mark::Field)?;
+        Ok(unnamed(false, reader.outermost()?))
+    }
+}
+
+/// A field without a name, of this type.
+fn unnamed(public: bool, ty: Expr) -> DeclField
+    ensures { result ≡ unnamed_of public ty }
 {
-    if !is_type_next(terminals) {
-        return Err(Stop::Stuck(terminals));
+    DeclField {
+        name: None,
+        public,
+        ty,
     }
-    let counts = match counting::field(counts) {
-        Ok(counts) => counts,
-        Err(kind) => return Err(Stop::Passed(kind, terminals)),
-    };
-    let (ty, counts, terminals) = outermost(alloc, counts, terminals)?;
-    Ok((
-        DeclField {
-            name: None,
-            public: false,
-            ty,
-        },
-        counts,
-        terminals,
-    ))
 }
 
-/// A field of a variant, without a name.
-pub struct VariantPlaceRule;
-
-impl Rule for VariantPlaceRule {
-    type Value = DeclField;
-
-    ghost rule = { variant_place_rule 0 };
-
-    ghost begun = { refl };
-
-    fn begins(&self, terminals: &[Terminal]) -> bool {
-        is_type_next(terminals)
+impl<'a> Reader<'a> {
+    /// What stands behind `pub` in a field without a name.
+    fn behind_pub(&mut self) -> Result<DeclField, Stop>
+        ensures { Reads (behind_pub_rule 0) self.old self.new result }
+    {
+        if self.is_plain_next() {
+            return self.bare();
+        }
+        self.take(Class::OpenParen)?;
+        if self.is_any_next(&NARROWER) {
+            return self.narrowed();
+        }
+        self.opened()
     }
 
-    fn read<'a>(
-        &self,
-        alloc: Global,
-        counts: Counts,
-        terminals: &'a [Terminal],
-    ) -> Result<(DeclField, Counts, &'a [Terminal]), Stop<'a>> {
-        variant_place(alloc, counts, terminals)
+    /// A type behind `pub` that doesn't begin with `(`.
+    fn bare(&mut self) -> Result<DeclField, Stop>
+        ensures { Reads (bare_rule 0) self.old self.new result }
+    {
+        let begins = self.is_plain_next();
+        self.begin(begins, Mark::TypeWithin(0))?;
+        Ok(unnamed(true, self.plain(1)?))
+    }
+
+    /// What stands behind `pub (` where the `(` belongs to `pub`.
+    fn narrowed(&mut self) -> Result<DeclField, Stop>
+        ensures { Reads (narrowed_rule 0) self.old self.new result }
+    {
+        self.take_any(&NARROWER)?;
+        self.take(Class::CloseParen)?;
+        Ok(unnamed(false, self.outermost()?))
+    }
+
+    /// What stands behind `pub (` where the `(` belongs to the type.
+    fn opened(&mut self) -> Result<DeclField, Stop>
+        ensures { Reads (opened_rule 0) self.old self.new result }
+    {
+        let begins = self.is_next(Class::CloseParen) || self.is_type_next();
+        self.begin(begins, Mark::TypeWithin(0))?;
+        Ok(unnamed(true, self.behind_paren(1)?))
     }
 }

@@ -5,26 +5,25 @@
 mod attributes;
 mod class;
 mod classify;
-mod counting;
 mod counts;
 mod definitions;
 mod fields;
 mod items;
 mod laws;
 mod lifetimes;
+mod mark;
 mod names;
 mod numbers;
 mod parsed;
 mod parsing;
 mod questions;
-mod reading;
+mod reader;
 mod rule;
 mod stop;
 mod terminal;
 mod types;
 mod variants;
 mod vocabulary;
-mod words;
 
 pub use class::Class;
 pub use classify::terminals;

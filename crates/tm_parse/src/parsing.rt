@@ -8,8 +8,8 @@ ghost use Rattle.tm_base.specs.declared.limit.LimitKind.{LimitKind as Kind};
 ghost use Rattle.tm_parse.specs.declared.parsed.Parsed.{Parsed as File};
 
 use crate::classify::terminals;
-use crate::items::file;
 use crate::parsed::Parsed;
+use crate::reader::Reader;
 use crate::stop::Stop;
 use crate::terminal::Terminal;
 use std::alloc::Global;
@@ -62,11 +62,12 @@ fn whole_file(alloc: Global, count: u32, terminals: &[Terminal]) -> Result<Parse
     requires { count ≡ length terminals.now }
     ensures { IsAnswered terminals.now result }
 {
-    match file(alloc, terminals) {
-        Ok((file, _, [])) => Ok(file),
-        Ok((_, _, rest)) => Err(ParseErr::At(place(count, rest))),
-        Err(Stop::Stuck(rest)) => Err(ParseErr::At(place(count, rest))),
-        Err(Stop::Passed(kind, rest)) => Err(ParseErr::Limit(kind, place(count, rest))),
+    let mut reader = Reader::new(alloc, terminals);
+    match reader.file() {
+        Ok(file) if reader.rest.is_empty() => Ok(file),
+        Ok(_) => Err(ParseErr::At(place(count, reader.rest))),
+        Err(Stop::Stuck) => Err(ParseErr::At(place(count, reader.rest))),
+        Err(Stop::Passed(kind)) => Err(ParseErr::Limit(kind, place(count, reader.rest))),
         Err(Stop::Memory) => Err(ParseErr::Memory),
     }
 }

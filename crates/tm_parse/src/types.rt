@@ -1,9 +1,9 @@
-ghost use Rattle.std.specs.Prelude.{◌≡◌, ◌++◌, ◌∷◌, [], ◌+◌, ◌≤◌};
-ghost use Rattle.tm_parse.specs.Combinators.{mapped, read_one, starts, to};
+ghost use Rattle.std.specs.Prelude.{◌≡◌, ◌++◌, ◌∷◌, [], ◌≤◌};
+ghost use Rattle.tm_parse.specs.Combinators.{one, starts, to};
 ghost use Rattle.tm_parse.specs.Events.{array_length};
 ghost use Rattle.tm_parse.specs.Limits.{number_of};
-ghost use Rattle.tm_parse.specs.Read.{Gives};
-ghost use Rattle.tm_parse.specs.Shapes.{is_there, listed as listed_rule, optional, the, with_comma as with_comma_rule};
+ghost use Rattle.tm_parse.specs.Reads.{Reads};
+ghost use Rattle.tm_parse.specs.Shapes.{listed as listed_rule};
 ghost use Rattle.tm_parse.specs.Types.{
   array_type,
   behind_paren as behind_paren_rule,
@@ -12,380 +12,233 @@ ghost use Rattle.tm_parse.specs.Types.{
   number as a_number,
   one_level as one_level_rule,
   plain_type,
-  read_type,
   reference_type,
   type_at,
   type_first,
-  type_read,
   wrapped_type,
-  wrapper_of,
 };
-ghost use Rattle.tm_parse.specs.declared.class.Class.TheVariants as class_is;
 
-use crate::attributes::primitive;
 use crate::class::Class;
-use crate::counting;
-use crate::counts::Counts;
-use crate::lifetimes::lifetimes;
-use crate::names::{definition_name, is_definition_name_next};
-use crate::numbers::number;
+use crate::mark::Mark;
 use crate::parsed::Expr;
-use crate::reading::{is_next, take};
-use crate::rule::add;
+use crate::reader::Reader;
 use crate::stop::Stop;
-use crate::terminal::Terminal;
-use crate::words::{is_any_next, take_any};
-use std::alloc::Global;
-use tm_base::{Boxed, LimitKind, List, Primitive, Wrapper};
+use tm_base::{Boxed, LimitKind, List};
 
-/// The wrapper that a terminal carries, else `Option`.
-fn wrapper(terminal: Terminal) -> Wrapper
-    ensures { result ≡ wrapper_of terminal }
-{
-    match terminal.class {
-        Class::Generic(wrapper) => wrapper,
-        _ => Wrapper::Option,
-    }
-}
-
-/// The length of an array.
-#[tactic(auto, unfolding(crate::specs::Limits::step))]
-fn length<'a>(
-    counts: Counts,
-    terminals: &'a [Terminal],
-) -> Result<(u32, Counts, &'a [Terminal]), Stop<'a>>
-    ensures { Gives (λ x. (x.0, x.1, x.2.now)) result (mapped number_of (read_one array_length (a_number ∷ []) counts terminals.now)) }
-{
-    match terminals {
-        [] => Err(Stop::Stuck(terminals)),
-        [terminal, rest @ ..] => {
-            if !Class::Number(0).is_alike(terminal.class) {
-                return Err(Stop::Stuck(terminals));
+impl<'a> Reader<'a> {
+    /// The length of an array.
+    #[tactic(auto, unfolding(crate::specs::Limits::step))]
+    fn length(&mut self) -> Result<u32, Stop>
+        ensures { Reads (to number_of (one array_length (a_number ∷ []))) self.old self.new result }
+    {
+        match self.rest {
+            [] => Err(Stop::Stuck),
+            [terminal, rest @ ..] => {
+                if !Class::NUMBER.is_alike(terminal.class) {
+                    return Err(Stop::Stuck);
+                }
+                let value = terminal.number();
+                if value > 4294967295 {
+                    return Err(Stop::Passed(LimitKind::ArrayLength));
+                }
+                if terminal.is_name_too_long() {
+                    return Err(Stop::Passed(LimitKind::NameBytes));
+                }
+                self.rest = rest;
+                Ok(value as u32)
             }
-            let value = number(*terminal);
-            if value > 4294967295 {
-                return Err(Stop::Passed(LimitKind::ArrayLength, terminals));
-            }
-            if terminal.is_name_too_long() {
-                return Err(Stop::Passed(LimitKind::NameBytes, terminals));
-            }
-            Ok((value as u32, counts, rest))
         }
     }
-}
 
-/// Whether a terminal comes next that begins a type other than one in parentheses.
-pub fn is_plain_next(terminals: &[Terminal]) -> bool
-    ensures { result ≡ starts (plain_type (type_read 0 0)).first terminals.now }
-{
-    let signs = [
-        Class::Integer(Primitive::U8),
-        Class::Scalar(Primitive::Bool),
-        Class::Bang,
-        Class::OpenBracket,
-        Class::Ampersand,
-        Class::NonZero,
-        Class::Alias(Primitive::U8),
-        Class::Generic(Wrapper::Option),
-    ];
-    is_any_next(&signs, terminals) || is_definition_name_next(terminals)
-}
-
-/// Whether a terminal that begins a type comes next.
-pub fn is_type_next(terminals: &[Terminal]) -> bool
-    ensures { result ≡ starts type_first terminals.now }
-{
-    is_next(Class::OpenParen, terminals) || is_plain_next(terminals)
-}
-
-/// An outermost type.
-pub fn outermost<'a>(
-    alloc: Global,
-    counts: Counts,
-    terminals: &'a [Terminal],
-) -> Result<(Expr, Counts, &'a [Terminal]), Stop<'a>>
-    ensures { Gives (λ x. (x.0, x.1, x.2.now)) result ((type_at 0 0).read counts terminals.now) }
-{
-    ty(alloc, 0, 32, counts, terminals)
-}
-
-/// A type with so many types around it, and at most so many levels.
-#[cycle(ty)]
-#[tactic(auto, using(crate::proofs::Levels::type_none, crate::proofs::Levels::type_deep, crate::proofs::Levels::type_more))]
-pub fn ty<'a>(
-    alloc: Global,
-    depth: u32,
-    levels: u32,
-    counts: Counts,
-    terminals: &'a [Terminal],
-) -> Result<(Expr, Counts, &'a [Terminal]), Stop<'a>>
-    requires { depth + levels ≤ 64 }
-    ensures { Gives (λ x. (x.0, x.1, x.2.now)) result (read_type depth levels counts terminals.now) }
-{
-    if !is_type_next(terminals) {
-        return Err(Stop::Stuck(terminals));
+    /// Whether a terminal comes next that begins a type other than one in parentheses.
+    pub fn is_plain_next(&self) -> bool
+        ensures { result ≡ starts (plain_type (type_at 0 0)).first self.now.rest.now }
+    {
+        let signs = [
+            Class::INTEGER,
+            Class::SCALAR,
+            Class::Bang,
+            Class::OpenBracket,
+            Class::Ampersand,
+            Class::NonZero,
+            Class::ALIAS,
+            Class::GENERIC,
+        ];
+        self.is_any_next(&signs) || self.is_definition_name_next()
     }
-    if levels == 0 {
-        return Err(Stop::Passed(LimitKind::Nesting, terminals));
-    }
-    match counting::a_type_within(depth, counts) {
-        Ok(counts) => one_level(alloc, depth + 1, levels - 1, counts, terminals),
-        Err(kind) => Err(Stop::Passed(kind, terminals)),
-    }
-}
 
-/// What stands at one level, over the types in it.
-#[cycle(ty)]
-fn one_level<'a>(
-    alloc: Global,
-    depth: u32,
-    levels: u32,
-    counts: Counts,
-    terminals: &'a [Terminal],
-) -> Result<(Expr, Counts, &'a [Terminal]), Stop<'a>>
-    requires { depth + levels ≤ 64 }
-    ensures { Gives (λ x. (x.0, x.1, x.2.now)) result ((one_level_rule (type_read depth levels)).read counts terminals.now) }
-{
-    if !is_next(Class::OpenParen, terminals) {
-        return plain(alloc, depth, levels, counts, terminals);
+    /// Whether a terminal that begins a type comes next.
+    pub fn is_type_next(&self) -> bool
+        ensures { result ≡ starts type_first self.now.rest.now }
+    {
+        self.is_next(Class::OpenParen) || self.is_plain_next()
     }
-    let (_, counts, terminals) = take(Class::OpenParen, counts, terminals)?;
-    behind_paren(alloc, depth, levels, counts, terminals)
-}
 
-/// What stands behind `(`.
-#[cycle(ty)]
-pub fn behind_paren<'a>(
-    alloc: Global,
-    depth: u32,
-    levels: u32,
-    counts: Counts,
-    terminals: &'a [Terminal],
-) -> Result<(Expr, Counts, &'a [Terminal]), Stop<'a>>
-    requires { depth + levels ≤ 64 }
-    ensures { Gives (λ x. (x.0, x.1, x.2.now)) result ((behind_paren_rule (type_read depth levels)).read counts terminals.now) }
-{
-    if is_next(Class::CloseParen, terminals) {
-        let (_, counts, terminals) = take(Class::CloseParen, counts, terminals)?;
-        return Ok((Expr::Tuple(List::new(alloc)), counts, terminals));
+    /// An outermost type.
+    pub fn outermost(&mut self) -> Result<Expr, Stop>
+        ensures { Reads (type_at 0 0) self.old self.new result }
+    {
+        self.ty(0)
     }
-    let (first, counts, terminals) = ty(alloc, depth, levels, counts, terminals)?;
-    if !is_next(Class::Comma, terminals) {
-        let (_, counts, terminals) = take(Class::CloseParen, counts, terminals)?;
-        return Ok((first, counts, terminals));
-    }
-    let (_, counts, terminals) = take(Class::Comma, counts, terminals)?;
-    let mut found = List::new(alloc);
-    add(&mut found, first)?;
-    let (items, counts, terminals) = types(found, alloc, depth, levels, counts, terminals)?;
-    let (_, counts, terminals) = take(Class::CloseParen, counts, terminals)?;
-    Ok((Expr::Tuple(items), counts, terminals))
-}
 
-/// One type of a list with commas, and whether a comma stands behind it.
-#[cycle(ty)]
-fn with_comma<'a>(
-    alloc: Global,
-    depth: u32,
-    levels: u32,
-    counts: Counts,
-    terminals: &'a [Terminal],
-) -> Result<((Expr, bool), Counts, &'a [Terminal]), Stop<'a>>
-    requires { depth + levels ≤ 64 }
-    ensures { Gives (λ x. ((x.0.0, x.0.1), x.1, x.2.now)) result ((with_comma_rule (type_read depth levels)).read counts terminals.now) }
-{
-    let (value, counts, terminals) = ty(alloc, depth, levels, counts, terminals)?;
-    if !is_next(Class::Comma, terminals) {
-        return Ok(((value, false), counts, terminals));
+    /// A type with so many types around it.
+    #[cycle(ty)]
+    #[tactic(auto, using(crate::proofs::Levels::type_none, crate::proofs::Levels::type_here, crate::proofs::Levels::type_fine))]
+    fn ty(&mut self, depth: u32) -> Result<Expr, Stop>
+        requires { depth ≤ 32 }
+        ensures { Reads (type_at depth 0) self.old self.new result }
+    {
+        let begins = self.is_type_next();
+        self.begin(begins, Mark::TypeWithin(depth))?;
+        self.one_level(depth + 1)
     }
-    let (_, counts, terminals) = take(Class::Comma, counts, terminals)?;
-    Ok(((value, true), counts, terminals))
-}
 
-/// None, one or several types with commas, put behind what was found before.
-#[cycle(ty)]
-fn types<'a>(
-    found: List<Expr>,
-    alloc: Global,
-    depth: u32,
-    levels: u32,
-    counts: Counts,
-    terminals: &'a [Terminal],
-) -> Result<(List<Expr>, Counts, &'a [Terminal]), Stop<'a>>
-    requires { depth + levels ≤ 64 }
-    ensures { Gives (λ x. (x.0, x.1, x.2.now)) result ((to (λ vs. found ++ vs) (listed_rule (type_read depth levels))).read counts terminals.now) }
-{
-    let mut found = found;
-    let mut counts = counts;
-    let mut rest = terminals;
-    for turn in 0..terminals.len() {
-        let _turn = turn;
-        if !is_type_next(rest) {
-            return Ok((found, counts, rest));
+    /// What stands at one level, over the types in it.
+    #[cycle(ty)]
+    fn one_level(&mut self, depth: u32) -> Result<Expr, Stop>
+        requires { depth ≤ 32 }
+        ensures { Reads (one_level_rule (type_at depth 0)) self.old self.new result }
+    {
+        if !self.is_next(Class::OpenParen) {
+            return self.plain(depth);
         }
-        let (value, after, behind) = match with_comma(alloc, depth, levels, counts, rest) {
-            Ok(read) => read,
-            Err(stop) => return Err(stop),
-        };
-        let (value, goes_on) = value;
-        add(&mut found, value)?;
-        if !goes_on {
-            return Ok((found, after, behind));
+        self.take(Class::OpenParen)?;
+        self.behind_paren(depth)
+    }
+
+    /// What stands behind `(`.
+    #[cycle(ty)]
+    pub fn behind_paren(&mut self, depth: u32) -> Result<Expr, Stop>
+        requires { depth ≤ 32 }
+        ensures { Reads (behind_paren_rule (type_at depth 0)) self.old self.new result }
+    {
+        if self.is_next(Class::CloseParen) {
+            self.take(Class::CloseParen)?;
+            return Ok(Expr::Tuple(List::new(self.alloc)));
         }
-        counts = after;
-        rest = behind;
+        let first = self.ty(depth)?;
+        if !self.is_next(Class::Comma) {
+            self.take(Class::CloseParen)?;
+            return Ok(first);
+        }
+        self.take(Class::Comma)?;
+        let mut found = List::new(self.alloc);
+        found.add(first)?;
+        let items = self.types(found, depth)?;
+        self.take(Class::CloseParen)?;
+        Ok(Expr::Tuple(items))
     }
-    Ok((found, counts, rest))
-}
 
-/// A type that doesn't begin with `(`.
-#[cycle(ty)]
-pub fn plain<'a>(
-    alloc: Global,
-    depth: u32,
-    levels: u32,
-    counts: Counts,
-    terminals: &'a [Terminal],
-) -> Result<(Expr, Counts, &'a [Terminal]), Stop<'a>>
-    requires { depth + levels ≤ 64 }
-    ensures { Gives (λ x. (x.0, x.1, x.2.now)) result ((plain_type (type_read depth levels)).read counts terminals.now) }
-{
-    let primitives = [
-        Class::Integer(Primitive::U8),
-        Class::Scalar(Primitive::Bool),
-    ];
-    if is_any_next(&primitives, terminals) {
-        let (word, counts, terminals) = take_any(&primitives, counts, terminals)?;
-        return Ok((Expr::Prim(primitive(word)), counts, terminals));
+    /// None, one or several types with commas, put behind what was found before.
+    #[cycle(ty)]
+    fn types(&mut self, found: List<Expr>, depth: u32) -> Result<List<Expr>, Stop>
+        requires { depth ≤ 32 }
+        ensures { Reads (to (λ vs. found ++ vs) (listed_rule (type_at depth 0))) self.old self.new result }
+    {
+        let mut found = found;
+        for _ in 0..self.rest.len() {
+            if !self.is_type_next() {
+                return Ok(found);
+            }
+            found.add(self.ty(depth)?)?;
+            if !self.accept(Class::Comma)? {
+                return Ok(found);
+            }
+        }
+        Ok(found)
     }
-    if is_next(Class::Bang, terminals) {
-        let (_, counts, terminals) = take(Class::Bang, counts, terminals)?;
-        return Ok((Expr::Never, counts, terminals));
-    }
-    if is_next(Class::OpenBracket, terminals) {
-        return array(alloc, depth, levels, counts, terminals);
-    }
-    if is_next(Class::Ampersand, terminals) {
-        return reference(alloc, depth, levels, counts, terminals);
-    }
-    if is_next(Class::NonZero, terminals) {
-        return nonzero(counts, terminals);
-    }
-    if is_next(Class::Alias(Primitive::U8), terminals) {
-        let (word, counts, terminals) = take(Class::Alias(Primitive::U8), counts, terminals)?;
-        return Ok((Expr::NonZero(primitive(word)), counts, terminals));
-    }
-    if is_next(Class::Generic(Wrapper::Option), terminals) {
-        return wrapped(alloc, depth, levels, counts, terminals);
-    }
-    named(alloc, counts, terminals)
-}
 
-/// `[T; 3]`.
-#[cycle(ty)]
-fn array<'a>(
-    alloc: Global,
-    depth: u32,
-    levels: u32,
-    counts: Counts,
-    terminals: &'a [Terminal],
-) -> Result<(Expr, Counts, &'a [Terminal]), Stop<'a>>
-    requires { depth + levels ≤ 64 }
-    ensures { Gives (λ x. (x.0, x.1, x.2.now)) result ((array_type (type_read depth levels)).read counts terminals.now) }
-{
-    let (_, counts, terminals) = take(Class::OpenBracket, counts, terminals)?;
-    let (element, counts, terminals) = ty(alloc, depth, levels, counts, terminals)?;
-    let (_, counts, terminals) = take(Class::Semicolon, counts, terminals)?;
-    let (length, counts, terminals) = length(counts, terminals)?;
-    let (_, counts, terminals) = take(Class::CloseBracket, counts, terminals)?;
-    let element = Boxed::new(alloc, element)?;
-    Ok((Expr::Array(element, length), counts, terminals))
-}
-
-/// `&'a T` or `&'a mut T`.
-#[cycle(ty)]
-fn reference<'a>(
-    alloc: Global,
-    depth: u32,
-    levels: u32,
-    counts: Counts,
-    terminals: &'a [Terminal],
-) -> Result<(Expr, Counts, &'a [Terminal]), Stop<'a>>
-    requires { depth + levels ≤ 64 }
-    ensures { Gives (λ x. (x.0, x.1, x.2.now)) result ((reference_type (type_read depth levels)).read counts terminals.now) }
-{
-    let (_, counts, terminals) = take(Class::Ampersand, counts, terminals)?;
-    let (lifetime, counts, terminals) = take(Class::Lifetime, counts, terminals)?;
-    let (mutable, counts, terminals) = mutability(counts, terminals)?;
-    let (pointee, counts, terminals) = ty(alloc, depth, levels, counts, terminals)?;
-    let pointee = Boxed::new(alloc, pointee)?;
-    Ok((
-        Expr::Ref(lifetime.place, mutable, pointee),
-        counts,
-        terminals,
-    ))
-}
-
-/// `mut`, which may be left out: whether it is there.
-fn mutability<'a>(
-    counts: Counts,
-    terminals: &'a [Terminal],
-) -> Result<(bool, Counts, &'a [Terminal]), Stop<'a>>
-    ensures { Gives (λ x. (x.0, x.1, x.2.now)) result ((to is_there (optional (the class_is.Mut))).read counts terminals.now) }
-{
-    if !is_next(Class::Mut, terminals) {
-        return Ok((false, counts, terminals));
+    /// A type that doesn't begin with `(`.
+    #[cycle(ty)]
+    pub fn plain(&mut self, depth: u32) -> Result<Expr, Stop>
+        requires { depth ≤ 32 }
+        ensures { Reads (plain_type (type_at depth 0)) self.old self.new result }
+    {
+        let primitives = [Class::INTEGER, Class::SCALAR];
+        if self.is_any_next(&primitives) {
+            return Ok(Expr::Prim(self.take_any(&primitives)?.primitive()));
+        }
+        if self.is_next(Class::Bang) {
+            self.take(Class::Bang)?;
+            return Ok(Expr::Never);
+        }
+        if self.is_next(Class::OpenBracket) {
+            return self.array(depth);
+        }
+        if self.is_next(Class::Ampersand) {
+            return self.reference(depth);
+        }
+        if self.is_next(Class::NonZero) {
+            return self.nonzero();
+        }
+        if self.is_next(Class::ALIAS) {
+            return Ok(Expr::NonZero(self.take(Class::ALIAS)?.primitive()));
+        }
+        if self.is_next(Class::GENERIC) {
+            return self.wrapped(depth);
+        }
+        self.named()
     }
-    let (_, counts, terminals) = take(Class::Mut, counts, terminals)?;
-    Ok((true, counts, terminals))
-}
 
-/// `NonZero<u8>`.
-fn nonzero<'a>(
-    counts: Counts,
-    terminals: &'a [Terminal],
-) -> Result<(Expr, Counts, &'a [Terminal]), Stop<'a>>
-    ensures { Gives (λ x. (x.0, x.1, x.2.now)) result ((nonzero_type (type_read 0 0)).read counts terminals.now) }
-{
-    let (_, counts, terminals) = take(Class::NonZero, counts, terminals)?;
-    let (_, counts, terminals) = take(Class::Less, counts, terminals)?;
-    let (word, counts, terminals) = take(Class::Integer(Primitive::U8), counts, terminals)?;
-    let (_, counts, terminals) = take(Class::Greater, counts, terminals)?;
-    Ok((Expr::NonZero(primitive(word)), counts, terminals))
-}
-
-/// `Option<T>` and the like.
-#[cycle(ty)]
-fn wrapped<'a>(
-    alloc: Global,
-    depth: u32,
-    levels: u32,
-    counts: Counts,
-    terminals: &'a [Terminal],
-) -> Result<(Expr, Counts, &'a [Terminal]), Stop<'a>>
-    requires { depth + levels ≤ 64 }
-    ensures { Gives (λ x. (x.0, x.1, x.2.now)) result ((wrapped_type (type_read depth levels)).read counts terminals.now) }
-{
-    let (word, counts, terminals) = take(Class::Generic(Wrapper::Option), counts, terminals)?;
-    let (_, counts, terminals) = take(Class::Less, counts, terminals)?;
-    let (inner, counts, terminals) = ty(alloc, depth, levels, counts, terminals)?;
-    let (_, counts, terminals) = take(Class::Greater, counts, terminals)?;
-    let inner = Boxed::new(alloc, inner)?;
-    Ok((Expr::Wrap(wrapper(word), inner), counts, terminals))
-}
-
-/// A definition's name, with the lifetimes that are given to it.
-fn named<'a>(
-    alloc: Global,
-    counts: Counts,
-    terminals: &'a [Terminal],
-) -> Result<(Expr, Counts, &'a [Terminal]), Stop<'a>>
-    ensures { Gives (λ x. (x.0, x.1, x.2.now)) result ((named_type (type_read 0 0)).read counts terminals.now) }
-{
-    let (name, counts, terminals) = definition_name(counts, terminals)?;
-    if !is_next(Class::Less, terminals) {
-        return Ok((Expr::Named(name.place, List::new(alloc)), counts, terminals));
+    /// `[T; 3]`.
+    #[cycle(ty)]
+    fn array(&mut self, depth: u32) -> Result<Expr, Stop>
+        requires { depth ≤ 32 }
+        ensures { Reads (array_type (type_at depth 0)) self.old self.new result }
+    {
+        self.take(Class::OpenBracket)?;
+        let element = self.ty(depth)?;
+        self.take(Class::Semicolon)?;
+        let length = self.length()?;
+        self.take(Class::CloseBracket)?;
+        Ok(Expr::Array(Boxed::new(self.alloc, element)?, length))
     }
-    let (given, counts, terminals) = lifetimes(alloc, counts, terminals)?;
-    Ok((Expr::Named(name.place, given), counts, terminals))
+
+    /// `&'a T` or `&'a mut T`.
+    #[cycle(ty)]
+    fn reference(&mut self, depth: u32) -> Result<Expr, Stop>
+        requires { depth ≤ 32 }
+        ensures { Reads (reference_type (type_at depth 0)) self.old self.new result }
+    {
+        self.take(Class::Ampersand)?;
+        let lifetime = self.take(Class::Lifetime)?;
+        let mutable = self.accept(Class::Mut)?;
+        let pointee = Boxed::new(self.alloc, self.ty(depth)?)?;
+        Ok(Expr::Ref(lifetime.place, mutable, pointee))
+    }
+
+    /// `NonZero<u8>`.
+    fn nonzero(&mut self) -> Result<Expr, Stop>
+        ensures { Reads (nonzero_type (type_at 0 0)) self.old self.new result }
+    {
+        self.take(Class::NonZero)?;
+        self.take(Class::Less)?;
+        let word = self.take(Class::INTEGER)?;
+        self.take(Class::Greater)?;
+        Ok(Expr::NonZero(word.primitive()))
+    }
+
+    /// `Option<T>` and the like.
+    #[cycle(ty)]
+    fn wrapped(&mut self, depth: u32) -> Result<Expr, Stop>
+        requires { depth ≤ 32 }
+        ensures { Reads (wrapped_type (type_at depth 0)) self.old self.new result }
+    {
+        let word = self.take(Class::GENERIC)?;
+        self.take(Class::Less)?;
+        let inner = self.ty(depth)?;
+        self.take(Class::Greater)?;
+        Ok(Expr::Wrap(word.wrapper(), Boxed::new(self.alloc, inner)?))
+    }
+
+    /// A definition's name, with the lifetimes that are given to it.
+    fn named(&mut self) -> Result<Expr, Stop>
+        ensures { Reads (named_type (type_at 0 0)) self.old self.new result }
+    {
+        let name = self.definition_name()?.place;
+        if !self.is_next(Class::Less) {
+            return Ok(Expr::Named(name, List::new(self.alloc)));
+        }
+        Ok(Expr::Named(name, self.lifetimes()?))
+    }
 }

@@ -1,5 +1,4 @@
 ghost use Rattle.std.specs.Prelude.{◌≡◌, IfOk, refl};
-ghost use Rattle.tm_parse.specs.Combinators.{starts, to};
 ghost use Rattle.tm_parse.specs.Definitions.{
   enum_body as enum_body_rule,
   single as single_of,
@@ -8,116 +7,64 @@ ghost use Rattle.tm_parse.specs.Definitions.{
   variant as variant_rule,
   variant_fields as variant_fields_rule,
 };
-ghost use Rattle.tm_parse.specs.Read.{Gives};
+ghost use Rattle.tm_parse.specs.Reads.{Reads};
 ghost use Rattle.tm_parse.specs.Shapes.{optional};
-ghost use Rattle.tm_parse.specs.Types.{or_none};
+ghost use Rattle.tm_parse.specs.Types.{or_none as or_none_of};
 
 use crate::class::Class;
-use crate::counting;
-use crate::counts::Counts;
-use crate::fields::{FieldRule, PlaceRule, VariantFieldRule, VariantPlaceRule};
-use crate::names::{is_name_next, name};
-use crate::numbers::discriminant;
+use crate::fields::{Field, Place, VariantField, VariantPlace};
+use crate::mark::Mark;
 use crate::parsed::{DeclField, DeclVariant};
-use crate::reading::{is_next, take};
-use crate::rule::{Rule, add, listed, listed1};
+use crate::reader::Reader;
+use crate::rule::Rule;
 use crate::stop::Stop;
-use crate::terminal::Terminal;
 use std::alloc::Global;
 use tm_base::{List, Memory};
 
-/// The fields of a variant.
-fn variant_fields<'a>(
-    alloc: Global,
-    counts: Counts,
-    terminals: &'a [Terminal],
-) -> Result<(List<DeclField>, Counts, &'a [Terminal]), Stop<'a>>
-    ensures { Gives (λ x. (x.0, x.1, x.2.now)) result ((variant_fields_rule 0).read counts terminals.now) }
-{
-    if is_next(Class::OpenBrace, terminals) {
-        let (_, counts, terminals) = take(Class::OpenBrace, counts, terminals)?;
-        let (fields, counts, terminals) = listed(&VariantFieldRule, alloc, counts, terminals)?;
-        let (_, counts, terminals) = take(Class::CloseBrace, counts, terminals)?;
-        return Ok((fields, counts, terminals));
-    }
-    let (_, counts, terminals) = take(Class::OpenParen, counts, terminals)?;
-    let (fields, counts, terminals) = listed(&VariantPlaceRule, alloc, counts, terminals)?;
-    let (_, counts, terminals) = take(Class::CloseParen, counts, terminals)?;
-    Ok((fields, counts, terminals))
-}
-
-/// The fields of a variant, which may be left out.
-fn fields_or_none<'a>(
-    alloc: Global,
-    counts: Counts,
-    terminals: &'a [Terminal],
-) -> Result<(List<DeclField>, Counts, &'a [Terminal]), Stop<'a>>
-    ensures { Gives (λ x. (x.0, x.1, x.2.now)) result ((to or_none (optional (variant_fields_rule 0))).read counts terminals.now) }
-{
-    if is_next(Class::OpenBrace, terminals) || is_next(Class::OpenParen, terminals) {
-        return variant_fields(alloc, counts, terminals);
-    }
-    Ok((List::new(alloc), counts, terminals))
-}
-
 /// A variant of an enum.
-fn variant<'a>(
-    alloc: Global,
-    counts: Counts,
-    terminals: &'a [Terminal],
-) -> Result<(DeclVariant, Counts, &'a [Terminal]), Stop<'a>>
-    ensures { Gives (λ x. (x.0, x.1, x.2.now)) result ((variant_rule 0).read counts terminals.now) }
-{
-    if !is_name_next(terminals) {
-        return Err(Stop::Stuck(terminals));
-    }
-    let counts = match counting::variant(counts) {
-        Ok(counts) => counts,
-        Err(kind) => return Err(Stop::Passed(kind, terminals)),
-    };
-    let (name, counts, terminals) = name(counts, terminals)?;
-    let name = Some(name.place);
-    let (fields, counts, terminals) = fields_or_none(alloc, counts, terminals)?;
-    if !is_next(Class::Equals, terminals) {
-        let variant = DeclVariant {
-            name,
-            negative: false,
-            value: None,
-            fields,
-        };
-        return Ok((variant, counts, terminals));
-    }
-    let ((negative, value), counts, terminals) = discriminant(counts, terminals)?;
-    let variant = DeclVariant {
-        name,
-        negative,
-        value: Some(value),
-        fields,
-    };
-    Ok((variant, counts, terminals))
-}
+struct Variant;
 
-/// A variant of an enum.
-struct VariantRule;
-
-impl Rule for VariantRule {
+impl Rule for Variant {
     type Value = DeclVariant;
 
-    ghost rule = { variant_rule 0 };
+    ghost rule = { λ _. variant_rule 0 };
 
-    ghost begun = { refl };
+    ghost begun = { λ _. refl };
 
-    fn begins(&self, terminals: &[Terminal]) -> bool {
-        is_name_next(terminals)
+    fn begins(&self, reader: &Reader) -> bool {
+        reader.is_name_next()
     }
 
-    fn read<'a>(
-        &self,
-        alloc: Global,
-        counts: Counts,
-        terminals: &'a [Terminal],
-    ) -> Result<(DeclVariant, Counts, &'a [Terminal]), Stop<'a>> {
-        variant(alloc, counts, terminals)
+    fn read(&self, reader: &mut Reader) -> Result<DeclVariant, Stop> {
+        let begins = self.begins(reader);
+        reader.begin(begins, Mark::Variant)?;
+        let name = Some(reader.name()?.place);
+        let fields = or_none(reader.alloc, reader.optional_fields()?);
+        if !reader.is_next(Class::Equals) {
+            return Ok(DeclVariant {
+                name,
+                negative: false,
+                value: None,
+                fields,
+            });
+        }
+        let (negative, value) = reader.discriminant()?;
+        Ok(DeclVariant {
+            name,
+            negative,
+            value: Some(value),
+            fields,
+        })
+    }
+}
+
+/// The fields, or none where they are left out.
+fn or_none(alloc: Global, fields: Option<List<DeclField>>) -> List<DeclField>
+    ensures { result ≡ or_none_of fields }
+{
+    match fields {
+        Some(fields) => fields,
+        None => List::new(alloc),
     }
 }
 
@@ -125,70 +72,81 @@ impl Rule for VariantRule {
 fn single(alloc: Global, fields: List<DeclField>) -> Result<List<DeclVariant>, Memory>
     ensures { IfOk result (λ found. found ≡ single_of fields) }
 {
-    let variant = DeclVariant {
+    let mut found = List::new(alloc);
+    found.add(DeclVariant {
         name: None,
         negative: false,
         value: None,
         fields,
-    };
-    let mut found = List::new(alloc);
-    add(&mut found, variant)?;
+    })?;
     Ok(found)
 }
 
-/// What stands behind the head of a struct.
-pub fn struct_body<'a>(
-    alloc: Global,
-    counts: Counts,
-    terminals: &'a [Terminal],
-) -> Result<(List<DeclVariant>, Counts, &'a [Terminal]), Stop<'a>>
-    ensures { Gives (λ x. (x.0, x.1, x.2.now)) result ((struct_body_rule 0).read counts terminals.now) }
-{
-    if is_next(Class::Semicolon, terminals) {
-        let (_, counts, terminals) = take(Class::Semicolon, counts, terminals)?;
-        let variants = single(alloc, List::new(alloc))?;
-        return Ok((variants, counts, terminals));
+impl<'a> Reader<'a> {
+    /// The fields of a variant.
+    fn variant_fields(&mut self) -> Result<List<DeclField>, Stop>
+        ensures { Reads (variant_fields_rule 0) self.old self.new result }
+    {
+        if self.is_next(Class::OpenBrace) {
+            self.take(Class::OpenBrace)?;
+            let fields = self.listed(&VariantField)?;
+            self.take(Class::CloseBrace)?;
+            return Ok(fields);
+        }
+        self.take(Class::OpenParen)?;
+        let fields = self.listed(&VariantPlace)?;
+        self.take(Class::CloseParen)?;
+        Ok(fields)
     }
-    if is_next(Class::OpenBrace, terminals) {
-        let (_, counts, terminals) = take(Class::OpenBrace, counts, terminals)?;
-        let (fields, counts, terminals) = listed(&FieldRule, alloc, counts, terminals)?;
-        let (_, counts, terminals) = take(Class::CloseBrace, counts, terminals)?;
-        let variants = single(alloc, fields)?;
-        return Ok((variants, counts, terminals));
+
+    /// The fields of a variant, which may be left out.
+    fn optional_fields(&mut self) -> Result<Option<List<DeclField>>, Stop>
+        ensures { Reads (optional (variant_fields_rule 0)) self.old self.new result }
+    {
+        if !self.is_any_next(&[Class::OpenBrace, Class::OpenParen]) {
+            return Ok(None);
+        }
+        Ok(Some(self.variant_fields()?))
     }
-    let (_, counts, terminals) = take(Class::OpenParen, counts, terminals)?;
-    let (fields, counts, terminals) = listed(&PlaceRule, alloc, counts, terminals)?;
-    let (_, counts, terminals) = take(Class::CloseParen, counts, terminals)?;
-    let (_, counts, terminals) = take(Class::Semicolon, counts, terminals)?;
-    let variants = single(alloc, fields)?;
-    Ok((variants, counts, terminals))
-}
 
-/// What stands behind the head of a union.
-pub fn union_body<'a>(
-    alloc: Global,
-    counts: Counts,
-    terminals: &'a [Terminal],
-) -> Result<(List<DeclVariant>, Counts, &'a [Terminal]), Stop<'a>>
-    ensures { Gives (λ x. (x.0, x.1, x.2.now)) result ((union_body_rule 0).read counts terminals.now) }
-{
-    let (_, counts, terminals) = take(Class::OpenBrace, counts, terminals)?;
-    let (fields, counts, terminals) = listed1(&FieldRule, alloc, counts, terminals)?;
-    let (_, counts, terminals) = take(Class::CloseBrace, counts, terminals)?;
-    let variants = single(alloc, fields)?;
-    Ok((variants, counts, terminals))
-}
+    /// What stands behind the head of a struct.
+    pub fn struct_body(&mut self) -> Result<List<DeclVariant>, Stop>
+        ensures { Reads (struct_body_rule 0) self.old self.new result }
+    {
+        if self.is_next(Class::Semicolon) {
+            self.take(Class::Semicolon)?;
+            return Ok(single(self.alloc, List::new(self.alloc))?);
+        }
+        if self.is_next(Class::OpenBrace) {
+            self.take(Class::OpenBrace)?;
+            let fields = self.listed(&Field)?;
+            self.take(Class::CloseBrace)?;
+            return Ok(single(self.alloc, fields)?);
+        }
+        self.take(Class::OpenParen)?;
+        let fields = self.listed(&Place)?;
+        self.take(Class::CloseParen)?;
+        self.take(Class::Semicolon)?;
+        Ok(single(self.alloc, fields)?)
+    }
 
-/// What stands behind the head of an enum.
-pub fn enum_body<'a>(
-    alloc: Global,
-    counts: Counts,
-    terminals: &'a [Terminal],
-) -> Result<(List<DeclVariant>, Counts, &'a [Terminal]), Stop<'a>>
-    ensures { Gives (λ x. (x.0, x.1, x.2.now)) result ((enum_body_rule 0).read counts terminals.now) }
-{
-    let (_, counts, terminals) = take(Class::OpenBrace, counts, terminals)?;
-    let (variants, counts, terminals) = listed(&VariantRule, alloc, counts, terminals)?;
-    let (_, counts, terminals) = take(Class::CloseBrace, counts, terminals)?;
-    Ok((variants, counts, terminals))
+    /// What stands behind the head of a union.
+    pub fn union_body(&mut self) -> Result<List<DeclVariant>, Stop>
+        ensures { Reads (union_body_rule 0) self.old self.new result }
+    {
+        self.take(Class::OpenBrace)?;
+        let fields = self.listed1(&Field)?;
+        self.take(Class::CloseBrace)?;
+        Ok(single(self.alloc, fields)?)
+    }
+
+    /// What stands behind the head of an enum.
+    pub fn enum_body(&mut self) -> Result<List<DeclVariant>, Stop>
+        ensures { Reads (enum_body_rule 0) self.old self.new result }
+    {
+        self.take(Class::OpenBrace)?;
+        let variants = self.listed(&Variant)?;
+        self.take(Class::CloseBrace)?;
+        Ok(variants)
+    }
 }

@@ -1,5 +1,5 @@
 use Rattle.std.proofs.Common.{length}
-use Rattle.tm_parse.proofs.words.+is_among.Given as goal
+use Rattle.tm_parse.proofs.class.Class.+is_among.Given as goal
 
 abbrev pub decreases-is_among : goal.decreases-is_among
 decreases-is_among l = length l.classes.now

@@ -1,0 +1,34 @@
+use Rattle.std.proofs.Common.{◌+◌, ◌*◌, ◌-◌, length}
+use Rattle.tm_parse.specs.Shapes.{listed, with_comma}
+use Rattle.tm_parse.specs.Types.{type_at}
+use Rattle.tm_parse.proofs.Loops.{put_before, Goes}
+use Rattle.tm_parse.proofs.reader.Reader.+ty.Given as goal
+
+abbrev pub decreases-ty : goal.decreases-ty
+decreases-ty l = 8 * (32 - l.depth)
+
+abbrev pub decreases-types : goal.decreases-types
+decreases-types l = 8 * (32 - l.depth) + 2
+
+abbrev pub decreases-behind_paren : goal.decreases-behind_paren
+decreases-behind_paren l = 8 * (32 - l.depth) + 3
+
+abbrev pub decreases-array : goal.decreases-array
+decreases-array l = 8 * (32 - l.depth) + 1
+
+abbrev pub decreases-reference : goal.decreases-reference
+decreases-reference l = 8 * (32 - l.depth) + 1
+
+abbrev pub decreases-wrapped : goal.decreases-wrapped
+decreases-wrapped l = 8 * (32 - l.depth) + 1
+
+abbrev pub decreases-plain : goal.decreases-plain
+decreases-plain l = 8 * (32 - l.depth) + 5
+
+abbrev pub decreases-one_level : goal.decreases-one_level
+decreases-one_level l = 8 * (32 - l.depth) + 6
+
+abbrev pub invariant-types-loop : goal.invariant-types-loop
+invariant-types-loop l =
+    let p = with_comma (type_at l.fn.depth 0) in
+    Goes p.first p.read (put_before l.fn.found ((listed (type_at l.fn.depth 0)).read l.fn.self.counts l.fn.self.rest.now)) l.found (length l.fn.self.rest.now - l.counter) l.self.counts l.self.rest.now
