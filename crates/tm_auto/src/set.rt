@@ -34,7 +34,7 @@ impl StateSet {
     }
 
     /// The empty set. It takes no memory.
-    pub(crate) fn new(alloc: Global) -> StateSet
+    pub fn new(alloc: Global) -> StateSet
         ensures { result ≡ [] }
     {
         StateSet {
@@ -43,7 +43,7 @@ impl StateSet {
     }
 
     /// The set of one state.
-    pub fn of_one(alloc: Global, state: u32) -> Result<StateSet, Memory>
+    pub(crate) fn of_one(alloc: Global, state: u32) -> Result<StateSet, Memory>
         ensures { IfOk result (λ set. set ≡ state ∷ []) }
     {
         let mut set = StateSet::new(alloc);
@@ -52,7 +52,7 @@ impl StateSet {
     }
 
     /// A set of the same states.
-    pub(crate) fn copy(&self, alloc: Global) -> Result<StateSet, Memory>
+    pub fn copy(&self, alloc: Global) -> Result<StateSet, Memory>
         ensures { IfOk result (λ set. set ≡ self.now) }
     {
         match SmallVec::from_slice(alloc, self.states.as_slice()) {
@@ -62,7 +62,7 @@ impl StateSet {
     }
 
     /// Puts a state in its place, unless it is there. Where memory is wanting, the set is as it was.
-    pub(crate) fn insert(&mut self, state: u32) -> Result<(), Memory>
+    pub fn insert(&mut self, state: u32) -> Result<(), Memory>
         ensures added { OnOk result (self.new ≡ with_state state self.old) }
         ensures kept { OnErr result (self.new ≡ self.old) }
     {
