@@ -53,6 +53,13 @@ module _ {X : Type 0} (P : X → Obligation → Type 0) where
       split y ys o x here p = inl p
       split y ys o x (there m) p = inr (x, m, p)
 
+  -- those of a list in two parts
+  pub added_parts : (xs ys : List X) (before between after : List Obligation) → AreAdded (OfSome xs) before between → AreAdded (OfSome ys) between after → AreAdded (OfSome (xs ++ ys)) before after
+  added_parts xs ys before between after a b = added_both (OfSome xs) (OfSome ys) (OfSome (xs ++ ys)) before between after
+      (λ o (x, m, p). (x, among_left ys m, p)) (λ o (x, m, p). (x, among_right xs m, p))
+      (λ o (x, m, p). elim (among_either xs ys m) [ inl n ↦ inl (x, n, p) | inr n ↦ inr (x, n, p) ])
+      a b
+
   pub among_at : (xs : List X) (i : ℕ) (d : X) → i < length xs → Among (get_or xs i d) xs
   among_at [] i d l = absurd (omega arith)
   among_at (x ∷ xs) zero d l = here

@@ -1,19 +1,19 @@
--- What follows from an obligation, by symbols and by cells.
+-- What follows from obligations of one target set, by symbols and by cells.
 use Rattle.std.proofs.Common.{◌≡◌, ℕ, ◌+◌, ◌<◌, ◌≤◌, inl, inr, Bool, true, false, List, [], length, drop, get_or, refl, sym, ap, ◌∙◌, subst, arith}
 use Rattle.tm_base.specs.declared.cell.Cell.{Cell}
 use Rattle.tm_base.specs.declared.cell.Cell.TheVariants as cell
 use Rattle.tm_auto.specs.declared.edge.Edge.{Edge}
 use Rattle.tm_auto.specs.declared.edge.Symbol.{Symbol}
 use Rattle.tm_auto.specs.declared.edge.Symbol.TheVariants as symbol
-use Rattle.tm_auto.specs.Automata.{Automaton, IsStep, equal}
+use Rattle.tm_auto.specs.Automata.{Automaton, equal}
 use Rattle.tm_auto.specs.Classes.{HasCell, IsFormed, AreClasses}
 use Rattle.tm_auto.specs.Paths.{Among}
-use Rattle.tm_auto.specs.Sets.{passes, symbol_of}
+use Rattle.tm_auto.specs.Sets.{next, passes, symbol_of}
 use Rattle.tm_auto.proofs.NextLemmas.{among_from, from_among}
 use Rattle.tm_auto.proofs.StepLemmas.{passes_takes}
 use Rattle.tm_walk.specs.declared.obligation.Obligation.{Obligation}
-use Rattle.tm_walk.specs.Obligations.{AreAdded, IsFirst, behind, FollowsEdge, FollowsSymbol, Follows}
-use Rattle.tm_walk.proofs.ExpandLemmas.{next_same, step_is}
+use Rattle.tm_walk.specs.Obligations.{AreAdded, IsFirst, FollowsEdge, FollowsGroup, FollowsSome, Stays}
+use Rattle.tm_walk.proofs.ExpandLemmas.{next_same}
 use Rattle.tm_walk.proofs.AddedLemmas.{OfSome, added_none, added_same, added_turn}
 
 -- a symbol has a cell
@@ -41,60 +41,74 @@ firsts_are src dst layer a = added_same _ _ [] layer
     (λ o f. (o.state, f.state, λ i. record { state = o.state; target = f.target i }))
     a
 
-module _ (A : ℕ → ℕ → Bool) (dst : Automaton) (o : Obligation) (x : Symbol) where
-  -- what a step makes is the obligation behind the symbol
-  pub behind_is : (s : ℕ) (target : List ℕ) → IsStep A dst o.target x target → ◌≡◌ {A = Obligation} (record { state = s; target = target }) (behind A dst o x s)
-  behind_is s target step = rw (step_is A dst o.target x target step) refl
+-- ---- loops over edges
 
-  -- one turn of a loop over edges
-  module _ (es : List Edge) (i : ℕ) (d : Edge) (l : i < length es) (before after : List Obligation) where
-    pub edge_taken : (between : List Obligation) (p : Obligation) → passes equal (get_or es i d).label x ≡ true → p ≡ behind A dst o x (get_or es i d).to
-        → AreAdded (λ q. q ≡ p) before between → AreAdded (OfSome (FollowsEdge A dst o x) (drop (i + 1) es)) between after → AreAdded (OfSome (FollowsEdge A dst o x) (drop i es)) before after
-    edge_taken between p h e added rest =
-        added_turn (FollowsEdge A dst o x) es i d l before between after
-        (added_same _ _ before between (λ q k. (h, k ∙ e)) (λ q k. k.1 ∙ sym e) added) rest
+module _ (x : Symbol) (target : List ℕ) (es : List Edge) (i : ℕ) (d : Edge) (l : i < length es) (before after : List Obligation) where
+  pub edge_taken : (between : List Obligation) (set : List ℕ) → passes equal (get_or es i d).label x ≡ true → set ≡ target
+      → AreAdded (λ q. q ≡ record { state = (get_or es i d).to; target = set }) before between → AreAdded (OfSome (FollowsEdge x target) (drop (i + 1) es)) between after → AreAdded (OfSome (FollowsEdge x target) (drop i es)) before after
+  edge_taken between set h e added rest =
+      let same : ◌≡◌ {A = Obligation} (record { state = (get_or es i d).to; target = set }) (record { state = (get_or es i d).to; target = target }) = rw e refl in
+      added_turn (FollowsEdge x target) es i d l before between after
+      (added_same _ _ before between (λ q k. (h, k ∙ same)) (λ q k. k.1 ∙ sym same) added) rest
 
-    pub edge_left : passes equal (get_or es i d).label x ≡ false → AreAdded (OfSome (FollowsEdge A dst o x) (drop (i + 1) es)) before after → AreAdded (OfSome (FollowsEdge A dst o x) (drop i es)) before after
-    edge_left h rest = added_turn (FollowsEdge A dst o x) es i d l before before after (added_none (FollowsEdge A dst o x (get_or es i d)) before (λ q k. (let z = k.0 in cc))) rest
+  pub edge_left : passes equal (get_or es i d).label x ≡ false → AreAdded (OfSome (FollowsEdge x target) (drop (i + 1) es)) before after → AreAdded (OfSome (FollowsEdge x target) (drop i es)) before after
+  edge_left h rest = added_turn (FollowsEdge x target) es i d l before before after (added_none (FollowsEdge x target (get_or es i d)) before (λ q k. (let z = k.0 in cc))) rest
 
-module _ (A : ℕ → ℕ → Bool) (src dst : Automaton) (place : ℕ) (o : Obligation) where
-  module _ (within : place < src.size) (from : List ℕ) (in_from : Among o.state from) (xs : List Symbol) (c : AreClasses src from dst o.target xs) where
-    here_too : (e : Edge) → e.from ≡ o.state → Among e.from from
-    here_too e f = subst (λ (s : ℕ). Among s from) (sym f) in_from
+-- ---- loops over obligations
 
-    same : (x : Symbol) (d : Cell) (s : ℕ) → Among x xs → HasCell x d → behind A dst o x s ≡ behind A dst o (symbol_of d) s
-    same x d s m h =
-        let b = next_same A dst.edges o.target x (symbol_of d) (λ e em ef. c.alike A x d e m h (inr (em, ef))) in
-        λ i. record { state = s; target = b i }
+-- one turn of one that keeps their states
+pub stay_turn : (target : List ℕ) (os : List Obligation) (i : ℕ) (o : Obligation) → i < length os → o ≡ get_or os i o → (before between after : List Obligation) (set : List ℕ) → set ≡ target
+    → AreAdded (λ q. q ≡ record { state = o.state; target = set }) before between → AreAdded (Stays target (drop (i + 1) os)) between after → AreAdded (Stays target (drop i os)) before after
+stay_turn target os i o l is before between after set e added rest =
+    let same : ◌≡◌ {A = Obligation} (record { state = o.state; target = set }) (record { state = (get_or os i o).state; target = target }) = λ j. record { state = (is j).state; target = e j } in
+    added_turn (λ (o : Obligation) (p : Obligation). p ≡ record { state = o.state; target = target }) os i o l before between after
+    (subst (λ (z : Obligation). AreAdded (λ q. q ≡ z) before between) same added) rest
 
-    by_symbol : (p : Obligation) → OfSome (FollowsSymbol A src dst o) xs p → Follows A src dst place o p
-    by_symbol p (x, m, (e, em, (ep, q))) =
+-- ---- obligations of one target set
+
+module _ (A : ℕ → ℕ → Bool) (src dst : Automaton) (place : ℕ) (os : List Obligation) (target : List ℕ) (one : (o : Obligation) → Among o os → o.target ≡ target) where
+  -- behind a symbol of a class, and behind each of its cells
+  abbrev behind : Symbol → List ℕ
+  behind x = next A dst.edges target x
+
+  behind_own : (o : Obligation) (c : Cell) → Among o os → next A dst.edges o.target (symbol_of c) ≡ behind (symbol_of c)
+  behind_own o c m = ap (λ (z : List ℕ). next A dst.edges z (symbol_of c)) (one o m)
+
+  module _ (within : place < src.size) (from : List ℕ) (has : (o : Obligation) → Among o os → Among o.state from) (xs : List Symbol) (c : AreClasses src from dst target xs) where
+    here_too : (o : Obligation) (e : Edge) → Among o os → e.from ≡ o.state → Among e.from from
+    here_too o e m f = subst (λ (s : ℕ). Among s from) (sym f) (has o m)
+
+    same : (x : Symbol) (d : Cell) → Among x xs → HasCell x d → behind x ≡ behind (symbol_of d)
+    same x d m h = next_same A dst.edges target x (symbol_of d) (λ e em ef. c.alike A x d e m h (inr (em, ef)))
+
+    by_symbol : (p : Obligation) → OfSome (λ x. FollowsGroup src x (behind x) os) xs p → FollowsSome A src dst place os p
+    by_symbol p (x, m, (o, mo, (e, em, (ep, q)))) =
         let (d, h) = some_cell x (c.formed x m) in
         let (ea, ef) = among_from o.state src.edges e em in
-        let alike = c.alike equal x d e m h (inl (ea, here_too e ef)) in
-        let to : p.state ≡ e.to = ap (λ (z : Obligation). z.state) q in (
-          d,
-          inl (within, (e, ea, ef, (passes_takes equal e.label d).0 (sym alike ∙ ep), sym to)),
-          q ∙ same x d e.to m h ∙ ap (behind A dst o (symbol_of d)) (sym to),
-        )
+        let alike = c.alike equal x d e m h (inl (ea, here_too o e mo ef)) in
+        let to : p.state ≡ e.to = ap (λ (z : Obligation). z.state) q in
+        (o, mo, (d, inl (within, (e, ea, ef, (passes_takes equal e.label d).0 (sym alike ∙ ep), sym to)), ap (λ (z : Obligation). z.target) q ∙ same x d m h ∙ sym (behind_own o d mo)))
 
-    by_cell : (p : Obligation) → Follows A src dst place o p → OfSome (FollowsSymbol A src dst o) xs p
-    by_cell p (d, inr (l, u, s), q) = absurd (omega arith)
-    by_cell p (d, inl (l, (e, ea, ef, t, to)), q) =
-        let (x, m, h) = (c.covers d).0 (e, (ea, here_too e ef), t) in
-        let alike = c.alike equal x d e m h (inl (ea, here_too e ef)) in
-        (x, m, (e, from_among o.state src.edges e ea ef, (alike ∙ (passes_takes equal e.label d).1 t, q ∙ sym (same x d p.state m h) ∙ ap (behind A dst o x) (sym to))))
+    by_cell : (p : Obligation) → FollowsSome A src dst place os p → OfSome (λ x. FollowsGroup src x (behind x) os) xs p
+    by_cell p (o, mo, (d, inr (l, u, s), q)) = absurd (omega arith)
+    by_cell p (o, mo, (d, inl (l, (e, ea, ef, t, to)), q)) =
+        let (x, m, h) = (c.covers d).0 (e, (ea, here_too o e mo ef), t) in
+        let alike = c.alike equal x d e m h (inl (ea, here_too o e mo ef)) in
+        let set : p.target ≡ behind x = q ∙ behind_own o d mo ∙ sym (same x d m h) in
+        (x, m, (o, mo, (e, from_among o.state src.edges e ea ef, (alike ∙ (passes_takes equal e.label d).1 t, λ i. record { state = sym to i; target = set i }))))
 
-    pub follows_within : (before after : List Obligation) → AreAdded (OfSome (FollowsSymbol A src dst o) xs) before after → AreAdded (Follows A src dst place o) before after
+    pub follows_within : (before after : List Obligation) → AreAdded (OfSome (λ x. FollowsGroup src x (behind x) os) xs) before after → AreAdded (FollowsSome A src dst place os) before after
     follows_within before after a = added_same _ _ before after by_symbol by_cell a
 
   -- behind the source's end
-  pub follows_behind : src.size ≤ place → (before after : List Obligation) → AreAdded (λ p. p ≡ behind A dst o symbol.Uninit o.state) before after → AreAdded (Follows A src dst place o) before after
+  pub follows_behind : src.size ≤ place → (before after : List Obligation) → AreAdded (Stays (behind symbol.Uninit) os) before after → AreAdded (FollowsSome A src dst place os) before after
   follows_behind l before after a = added_same _ _ before after
-      (λ p q. (cell.Uninit, inr (l, refl, ap (λ (z : Obligation). z.state) q), q ∙ ap (behind A dst o symbol.Uninit) (sym (ap (λ (z : Obligation). z.state) q))))
+      (λ p (o, m, q). (o, m, (cell.Uninit, inr (l, refl, ap (λ (z : Obligation). z.state) q), ap (λ (z : Obligation). z.target) q ∙ sym (behind_own o cell.Uninit m))))
       (λ p f. back p f)
       a
     where
-      back : (p : Obligation) → Follows A src dst place o p → p ≡ behind A dst o symbol.Uninit o.state
-      back p (d, inl (m, rest), q) = absurd (omega arith)
-      back p (d, inr (m, u, s), q) = q ∙ ap (λ (z : Cell). behind A dst o (symbol_of z) p.state) u ∙ ap (behind A dst o symbol.Uninit) s
+      back : (p : Obligation) → FollowsSome A src dst place os p → Stays (behind symbol.Uninit) os p
+      back p (o, mo, (d, inl (m, rest), q)) = absurd (omega arith)
+      back p (o, mo, (d, inr (m, u, s), q)) =
+          let set : p.target ≡ behind symbol.Uninit = q ∙ behind_own o d mo ∙ ap (λ (z : Cell). behind (symbol_of z)) u in
+          (o, mo, λ i. record { state = s i; target = set i })

@@ -16,7 +16,7 @@ use Rattle.tm_auto.proofs.StepLemmas.{next_to, to_next}
 use Rattle.tm_walk.specs.declared.obligation.Obligation.{Obligation}
 use Rattle.tm_walk.specs.Layers.{is_live}
 use Rattle.tm_walk.specs.Meanings.{EachWordFits}
-use Rattle.tm_walk.specs.Obligations.{is_refused, AreAdded, IsFirst, IsBetween, Follows, FollowsSome}
+use Rattle.tm_walk.specs.Obligations.{is_refused, AreAdded, IsFirst, Follows, FollowsSome}
 use Rattle.tm_walk.specs.Sought.{IsSourceWord}
 use Rattle.tm_walk.proofs.ChainLemmas.{reached_more}
 use Rattle.tm_walk.proofs.ImpliesLemmas.{any_to, none_of, implies_to}
@@ -94,9 +94,6 @@ module _ (A : ℕ → ℕ → Bool) (src dst : Automaton) (hs : IsAutomaton src)
         let (same, of) = implies_to r p imp in
         (r, m, record { rest = subst (λ (z : ℕ). Spells (holds equal) src.edges (drop (suc place) w) z) (sym same) more.rest; target = λ s k. more.target s (of s k) });
   })
-
-  pub layer_between : (place : ℕ) (layer : List Obligation) → Layer place layer → (o : Obligation) → Among o layer → IsBetween src dst o
-  layer_between place layer i o m = (i.sound o m).between
 
   -- ---- what is answered
 

@@ -18,6 +18,7 @@ pub mod RunLemmas
 pub mod WithinLemmas
 pub mod ImpliesLemmas
 pub mod AddedLemmas
+pub mod GroupLemmas
 pub mod FollowLemmas
 pub mod SoundLemmas
 pub mod InclusionLemmas

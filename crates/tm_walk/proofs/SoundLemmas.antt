@@ -56,7 +56,6 @@ module _ (A : ℕ → ℕ → Bool) (src dst : Automaton) (hs : IsAutomaton src)
 
   pub next_sound : (place : ℕ) (o p : Obligation) → Sound place o → Follows A src dst place o p → Sound (suc place) p
   next_sound place o p s (c, inl (l, (e, ea, ef, t, to)), q) =
-      let a : p.target ≡ next A dst.edges o.target (symbol_of c) = ap (λ (z : Obligation). z.target) q in
       let before = reached equal src (padded s.whole place) in
       let from : Among e.from before = subst (λ (z : ℕ). Among z before) (sym ef) (s.state (omega arith)) in
       let u = padded s.whole place ++ c ∷ [] in
@@ -66,21 +65,20 @@ module _ (A : ℕ → ℕ → Bool) (src dst : Automaton) (hs : IsAutomaton src)
       let front : padded (u ++ v) (suc place) ≡ u = subst (λ (n : ℕ). padded (u ++ v) n ≡ u) (longer s.whole place c) (padded_front u v) in
       let (down, up) = hs.down e ea in
       record {
-        between = record { state = omega arith; target = target_states o p c a };
+        between = record { state = omega arith; target = target_states o p c q };
         whole = u ++ v;
         word = word;
         state = λ k. subst (λ (z : Word). Among p.state (reached equal src z)) (sym front) m;
-        target = next_target place o p c s.whole (u ++ v) a s.target front;
+        target = next_target place o p c s.whole (u ++ v) q s.target front;
       }
   next_sound place o p s (c, inr (l, u, same), q) =
-      let a : p.target ≡ next A dst.edges o.target (symbol_of c) = ap (λ (z : Obligation). z.target) q in
       let size = hs.sized equal s.whole s.word in
       let past : cell_at s.whole place ≡ c = cell_past s.whole place (omega arith) ∙ sym u in
       let front : padded s.whole (suc place) ≡ padded s.whole place ++ c ∷ [] = padded_more s.whole place ∙ ap (λ (z : Cell). padded s.whole place ++ z ∷ []) past in
       record {
-        between = record { state = subst (λ (n : ℕ). n < src.states) (sym same) s.between.state; target = target_states o p c a };
+        between = record { state = subst (λ (n : ℕ). n < src.states) (sym same) s.between.state; target = target_states o p c q };
         whole = s.whole;
         word = s.word;
         state = λ k. absurd (omega arith);
-        target = next_target place o p c s.whole s.whole a s.target front;
+        target = next_target place o p c s.whole s.whole q s.target front;
       }

@@ -11,7 +11,7 @@ use Rattle.tm_auto.specs.declared.edge.Symbol.{Symbol}
 use Rattle.tm_auto.specs.Automata.{Automaton, AreStates, edges_from, equal}
 use Rattle.tm_auto.specs.Labels.{Takes}
 use Rattle.tm_auto.specs.Paths.{Among}
-use Rattle.tm_auto.specs.Sets.{has_state, next, passes, symbol_of}
+use Rattle.tm_auto.specs.Sets.{has_state, next, passes, symbol_of, with_state}
 use Rattle.tm_walk.specs.declared.obligation.Obligation.{Obligation}
 use Rattle.tm_walk.specs.Layers.{is_live}
 
@@ -35,6 +35,19 @@ abbrev pub IsAntichain : List Obligation → Type 0
 IsAntichain [] = Unit {0}
 IsAntichain (o ∷ os) = ((p : Obligation) → Among p os → (implies o p ≡ false) × (implies p o ≡ false)) × IsAntichain os
 
+-- they are of one set of the target's states
+abbrev pub HaveOneTarget : List Obligation → Type 0
+HaveOneTarget os = (o p : Obligation) → Among o os → Among p os → o.target ≡ p.target
+
+-- of the state of one of these, and of the set
+abbrev pub Stays : List ℕ → List Obligation → Obligation → Type 0
+Stays target os p = (o : Obligation) × Among o os × (p ≡ record { state = o.state; target = target })
+
+-- the set with the state of each
+abbrev pub with_states : List Obligation → List ℕ → List ℕ
+with_states [] set = set
+with_states (o ∷ os) set = with_states os (with_state o.state set)
+
 -- no state of the target is left to meet it
 abbrev pub is_refused : Obligation → Bool
 is_refused o = not (is_live o.target)
@@ -56,20 +69,20 @@ module _ (src dst : Automaton) where
     pub state : o.state < src.states
     pub target : AreStates dst o.target
 
-module _ (A : ℕ → ℕ → Bool) (dst : Automaton) where
-  -- the obligation of a state, behind a symbol
-  abbrev pub behind : Obligation → Symbol → ℕ → Obligation
-  behind o x s = record { state = s; target = next A dst.edges o.target x }
+-- the edge passes the symbol and leads to the state of an obligation, which is of the set
+abbrev pub FollowsEdge : Symbol → List ℕ → Edge → Obligation → Type 0
+FollowsEdge x target e p = (passes equal e.label x ≡ true) × (p ≡ record { state = e.to; target = target })
 
-  -- the edge passes the symbol and leads to the second
-  abbrev pub FollowsEdge : Obligation → Symbol → Edge → Obligation → Type 0
-  FollowsEdge o x e p = (passes equal e.label x ≡ true) × (p ≡ behind o x e.to)
+module _ (src : Automaton) where
+  -- an edge out of the state does
+  abbrev pub FollowsState : Symbol → List ℕ → ℕ → Obligation → Type 0
+  FollowsState x target s p = (e : Edge) × Among e (edges_from s src.edges) × FollowsEdge x target e p
+
+  -- an edge out of the state of one of these does
+  abbrev pub FollowsGroup : Symbol → List ℕ → List Obligation → Obligation → Type 0
+  FollowsGroup x target os p = (o : Obligation) × Among o os × FollowsState x target o.state p
 
 module _ (A : ℕ → ℕ → Bool) (src dst : Automaton) where
-  -- an edge out of its state does
-  abbrev pub FollowsSymbol : Obligation → Symbol → Obligation → Type 0
-  FollowsSymbol o x p = (e : Edge) × Among e (edges_from o.state src.edges) × FollowsEdge A dst o x e p
-
   -- A source word may have the cell at the place and lead from the one state to the other. Behind its end only uninitialised
   -- cells follow, and the end stays.
   abbrev pub Moves : ℕ → ℕ → Cell → ℕ → Type 0
@@ -79,7 +92,7 @@ module _ (A : ℕ → ℕ → Bool) (src dst : Automaton) where
 
   -- the second is what becomes of the first behind some cell
   abbrev pub Follows : ℕ → Obligation → Obligation → Type 0
-  Follows place o p = (c : Cell) × Moves place o.state c p.state × (p ≡ behind A dst o (symbol_of c) p.state)
+  Follows place o p = (c : Cell) × Moves place o.state c p.state × (p.target ≡ next A dst.edges o.target (symbol_of c))
 
   -- it follows from one of them
   abbrev pub FollowsSome : ℕ → List Obligation → Obligation → Type 0

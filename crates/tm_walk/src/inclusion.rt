@@ -1,12 +1,12 @@
 //! Inclusion: whether each source word fits, asked without sets of the source's words.
-ghost use Rattle.std.specs.Prelude.{◌≡◌, ◌<◌, ◌↔◌, [], IfOk, OnOk, IsTrue};
-ghost use Rattle.tm_auto.specs.Automata.{AreStates};
+ghost use Rattle.std.specs.Prelude.{◌<◌, ◌↔◌, [], IfOk, OnOk, IsTrue, length};
 ghost use Rattle.tm_auto.specs.Paths.{Among};
 ghost use Rattle.tm_walk.specs.declared.obligation.Obligation.{Obligation};
 ghost use Rattle.tm_walk.specs.Meanings.{EachWordFits};
-ghost use Rattle.tm_walk.specs.Obligations.{AreAdded, IsBetween, IsFirst, Follows, FollowsSome, FollowsSymbol, behind};
+ghost use Rattle.tm_walk.specs.Obligations.{AreAdded, IsBetween, IsFirst, FollowsGroup, FollowsSome, FollowsState, HaveOneTarget, Stays};
 
 use crate::antichain::Antichain;
+use crate::group::{group_length, states_of};
 use crate::obligation::Obligation;
 use std::alloc::Global;
 use tm_auto::{Auto, StateSet, Symbol, classes};
@@ -84,55 +84,100 @@ impl<'a, M: RefTest> Inclusion<'a, M> {
             place layer.now) [] next) }
     {
         let mut next = Antichain::new(self.alloc);
-        for obligation in layer.as_slice() {
-            self.expand(place, obligation, &mut next)?;
+        let mut rest = layer.as_slice();
+        while !rest.is_empty() {
+            let (group, others) = rest.split_at(group_length(rest));
+            self.expand(place, group, &mut next)?;
+            rest = others;
         }
         Ok(next)
     }
 
-    /// Adds what follows from one obligation. Behind the source's end its state stays.
-    fn expand(&self, place: u32, from: &Obligation, next: &mut Antichain) -> Result<(), Memory>
-        requires states { IsBetween self.now.src.now self.now.dst.now from.now }
+    /// Adds what follows from obligations of one target set, of which all is asked once for them together.
+    /// Behind the source's end their states stay.
+    fn expand(&self, place: u32, group: &[Obligation], next: &mut Antichain) -> Result<(), Memory>
+        requires some { 0 < length group.now }
+        requires states { (o : Obligation) → Among o group.now
+            → IsBetween self.now.src.now self.now.dst.now o }
+        requires one { HaveOneTarget group.now }
         ensures { OnOk result (AreAdded
-            (Follows (M.test self.now.refs.now) self.now.src.now self.now.dst.now place from.now)
-            next.old next.new) }
+            (FollowsSome (M.test self.now.refs.now) self.now.src.now self.now.dst.now
+            place group.now) next.old next.new) }
     {
+        let target = &group[0].target;
         if place >= self.src.size() {
-            return next.add(self.behind(from, Symbol::Uninit, from.state)?);
+            let behind = self
+                .dst
+                .step(self.alloc, self.refs, target, Symbol::Uninit)?;
+            return self.stay(group, &behind, next);
         }
-        let state = StateSet::of_one(self.alloc, from.state)?;
-        let symbols = classes(self.alloc, self.src, &state, self.dst, &from.target)?;
+        let states = states_of(self.alloc, group)?;
+        let symbols = classes(self.alloc, self.src, &states, self.dst, target)?;
         for symbol in symbols.as_slice() {
-            self.follow(from, *symbol, next)?;
+            let behind = self.dst.step(self.alloc, self.refs, target, *symbol)?;
+            self.follow(group, *symbol, &behind, next)?;
         }
         Ok(())
     }
 
-    /// Adds what follows by a symbol: an obligation for each edge out of the state that passes it.
-    fn follow(&self, from: &Obligation, symbol: Symbol, next: &mut Antichain) -> Result<(), Memory>
-        requires state { from.now.state < self.now.src.now.states }
-        requires target { AreStates self.now.dst.now from.now.target }
-        ensures { OnOk result (AreAdded
-            (FollowsSymbol (M.test self.now.refs.now) self.now.src.now self.now.dst.now
-            from.now symbol) next.old next.new) }
+    /// Adds the obligations' states, each with the set.
+    fn stay(
+        &self,
+        group: &[Obligation],
+        target: &StateSet,
+        next: &mut Antichain,
+    ) -> Result<(), Memory>
+        ensures { OnOk result (AreAdded (Stays target.now group.now) next.old next.new) }
     {
-        for edge in self.src.edges(from.state) {
+        for obligation in group {
+            next.add(Obligation {
+                state: obligation.state,
+                target: target.copy(self.alloc)?,
+            })?;
+        }
+        Ok(())
+    }
+
+    /// Adds the states to which edges lead that leave the obligations' states and pass the symbol, each with the
+    /// set.
+    fn follow(
+        &self,
+        group: &[Obligation],
+        symbol: Symbol,
+        target: &StateSet,
+        next: &mut Antichain,
+    ) -> Result<(), Memory>
+        requires states { (o : Obligation) → Among o group.now
+            → IsBetween self.now.src.now self.now.dst.now o }
+        ensures { OnOk result (AreAdded
+            (FollowsGroup self.now.src.now symbol target.now group.now) next.old next.new) }
+    {
+        for obligation in group {
+            self.follow_edges(obligation.state, symbol, target, next)?;
+        }
+        Ok(())
+    }
+
+    /// The same for one state.
+    fn follow_edges(
+        &self,
+        state: u32,
+        symbol: Symbol,
+        target: &StateSet,
+        next: &mut Antichain,
+    ) -> Result<(), Memory>
+        requires { state < self.now.src.now.states }
+        ensures { OnOk result (AreAdded
+            (FollowsState self.now.src.now symbol target.now state) next.old next.new) }
+    {
+        for edge in self.src.edges(state) {
             if edge.label.takes(&Equal, symbol) {
-                next.add(self.behind(from, symbol, edge.to)?)?;
+                next.add(Obligation {
+                    state: edge.to,
+                    target: target.copy(self.alloc)?,
+                })?;
             }
         }
         Ok(())
-    }
-
-    /// The obligation of a state, behind the symbol.
-    fn behind(&self, from: &Obligation, symbol: Symbol, state: u32) -> Result<Obligation, Memory>
-        requires target { AreStates self.now.dst.now from.now.target }
-        ensures { IfOk result (λ to. to
-            ≡ behind (M.test self.now.refs.now) self.now.dst.now from.now symbol state) }
-    {
-        Ok(Obligation {
-            state,
-            target: self.dst.step(self.alloc, self.refs, &from.target, symbol)?,
-        })
     }
 }

@@ -29,6 +29,7 @@
 mod advance;
 mod antichain;
 mod completion;
+mod group;
 mod history;
 mod inclusion;
 mod laws;

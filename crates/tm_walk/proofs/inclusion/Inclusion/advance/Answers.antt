@@ -1,30 +1,43 @@
-use Rattle.std.proofs.Common.{List, [], sym, subst}
+use Rattle.std.proofs.Common.{◌∙◌, List, length, sym, subst, arith}
+use Rattle.std.proofs.lemmas.Bool.{eqb-true}
 use Rattle.tm_auto.specs.Paths.{Among}
+use Rattle.tm_auto.proofs.AmongLemmas.{among_left, among_right}
 use Rattle.tm_walk.specs.declared.obligation.Obligation.{Obligation}
-use Rattle.tm_walk.specs.Obligations.{AreAdded, Follows}
-use Rattle.tm_walk.proofs.AddedLemmas.{OfSome, added_turn, added_end, among_at}
+use Rattle.tm_walk.specs.Obligations.{AreAdded, Follows, FollowsSome, HaveOneTarget}
+use Rattle.tm_walk.proofs.AddedLemmas.{added_parts, added_end}
 use Rattle.tm_walk.proofs.inclusion.Inclusion.advance.Goals as goal
+
+pub loop-rest-init : goal.loop-rest-init
+loop-rest-init g c =
+    let follows = FollowsSome (g.M.RefTest.test c.args.self.now.refs.now) c.args.self.now.src.now c.args.self.now.dst.now c.args.place in
+    record {
+      made = λ after h. subst (λ (z : List Obligation). AreAdded (follows c.args.layer.now) z after) c.new-next.ensures
+          (subst (λ (z : List Obligation). AreAdded (follows z) c.new-next.result after) c.as_slice-rest.ensures h);
+      states = λ o m. c.requires.states o (subst (λ (z : List Obligation). Among o z) c.as_slice-rest.ensures m);
+    }
 
 pub expand-requires : goal.expand-requires
 expand-requires g c =
-    let follows = Follows (g.M.RefTest.test c.args.self.now.refs.now) c.args.self.now.src.now c.args.self.now.dst.now c.args.place in
-    let xs = c.as_slice-obligation-items.result.now in
-    let o = c.obligation-item.result in
-    let at = subst (λ (z : Obligation). Among z xs) (sym c.obligation-item.is) (among_at follows xs c.loop-obligation.obligation-index o c.loop-obligation-test.true) in
-    record { states = c.requires.states o (subst (λ (z : List Obligation). Among o z) c.as_slice-obligation-items.ensures at) }
+    let parts = c.split_at.ensures in
+    record {
+      some = (let a = c.group_length.ensures.some in let b = parts.front_len in omega arith);
+      states = λ o m. c.loop-rest.invariant.states o (subst (λ (z : List Obligation). Among o z) (sym parts.by_index.0) (among_left c.split_at.result.1.now m));
+      one = subst HaveOneTarget (sym parts.front) c.group_length.ensures.one;
+    }
 
-pub loop-obligation-preserved : goal.loop-obligation-preserved
-loop-obligation-preserved g c =
+pub loop-rest-preserved : goal.loop-rest-preserved
+loop-rest-preserved g c =
+    let parts = c.split_at.ensures in
     let follows = Follows (g.M.RefTest.test c.args.self.now.refs.now) c.args.self.now.src.now c.args.self.now.dst.now c.args.place in
-    let xs = c.as_slice-obligation-items.result.now in
-    let o = c.obligation-item.result in
-    λ after h. c.loop-obligation.invariant after
-    (added_turn follows xs c.loop-obligation.obligation-index o c.loop-obligation-test.true c.loop-obligation.next c.expand.new.next after
-    (subst (λ (z : Obligation). AreAdded (follows z) c.loop-obligation.next c.expand.new.next) c.obligation-item.is c.in_ok-expand.ensures) h)
+    let some = FollowsSome (g.M.RefTest.test c.args.self.now.refs.now) c.args.self.now.src.now c.args.self.now.dst.now c.args.place in
+    record {
+      made = λ after h. c.loop-rest.invariant.made after (subst (λ (z : List Obligation). AreAdded (some z) c.loop-rest.next after) (sym parts.by_index.0)
+          (added_parts follows c.split_at.result.0.now c.split_at.result.1.now c.loop-rest.next c.expand.new.next after c.in_ok-expand.ensures h));
+      states = λ o m. c.loop-rest.invariant.states o (subst (λ (z : List Obligation). Among o z) (sym parts.by_index.0) (among_right c.split_at.result.0.now m));
+    }
 
 pub returns : goal.returns
 returns g c =
     let follows = Follows (g.M.RefTest.test c.args.self.now.refs.now) c.args.self.now.src.now c.args.self.now.dst.now c.args.place in
-    let xs = c.as_slice-obligation-items.result.now in
-    subst (λ (z : List Obligation). AreAdded (OfSome follows z) [] c.loop-obligation.next) c.as_slice-obligation-items.ensures
-    (c.loop-obligation.invariant c.loop-obligation.next (added_end follows xs c.loop-obligation.obligation-index c.loop-obligation-test.false c.loop-obligation.next))
+    let none = eqb-true (length c.loop-rest.rest.now) 0 (sym c.is_empty.ensures ∙ c.loop-rest-test.false) in
+    c.loop-rest.invariant.made c.loop-rest.next (added_end follows c.loop-rest.rest.now 0 (omega arith) c.loop-rest.next)

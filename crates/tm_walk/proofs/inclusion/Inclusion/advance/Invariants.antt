@@ -1,11 +1,18 @@
-use Rattle.std.proofs.Common.{List, [], drop}
+use Rattle.std.proofs.Common.{List, [], length}
+use Rattle.tm_auto.specs.Paths.{Among}
 use Rattle.tm_walk.specs.declared.obligation.Obligation.{Obligation}
-use Rattle.tm_walk.specs.Obligations.{AreAdded, Follows}
-use Rattle.tm_walk.proofs.AddedLemmas.{OfSome}
+use Rattle.tm_walk.specs.Obligations.{AreAdded, FollowsSome, IsBetween}
 use Rattle.tm_walk.proofs.inclusion.Inclusion.advance.Given as goal
 
 -- what the obligations that are left make of the next layer so far, all make of none
-abbrev pub invariant-loop-obligation : goal.invariant-loop-obligation
-invariant-loop-obligation g l = (after : List Obligation)
-    → AreAdded (OfSome (Follows (g.M.RefTest.test l.self.refs.now) l.self.src.now l.self.dst.now l.place) (drop l.obligation-index l.obligation-items)) l.next after
-    → AreAdded (OfSome (Follows (g.M.RefTest.test l.self.refs.now) l.self.src.now l.self.dst.now l.place) l.obligation-items) [] after
+abbrev pub invariant-loop-rest : goal.invariant-loop-rest
+invariant-loop-rest g l = record {
+  made : (after : List Obligation)
+      → AreAdded (FollowsSome (g.M.RefTest.test l.self.refs.now) l.self.src.now l.self.dst.now l.place l.rest) l.next after
+      → AreAdded (FollowsSome (g.M.RefTest.test l.self.refs.now) l.self.src.now l.self.dst.now l.place l.layer) [] after;
+  states : (o : Obligation) → Among o l.rest → IsBetween l.self.src.now l.self.dst.now o;
+}
+
+-- each turn takes one obligation at least
+abbrev pub decreases-loop-rest : goal.decreases-loop-rest
+decreases-loop-rest g l = length l.rest

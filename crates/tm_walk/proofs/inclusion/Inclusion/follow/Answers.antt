@@ -1,28 +1,28 @@
-use Rattle.std.proofs.Common.{◌+◌, ◌∙◌, List, drop, sym, subst}
-use Rattle.tm_auto.specs.declared.edge.Edge.{Edge}
+use Rattle.std.proofs.Common.{sym, subst}
+use Rattle.tm_auto.specs.Paths.{Among}
 use Rattle.tm_walk.specs.declared.obligation.Obligation.{Obligation}
-use Rattle.tm_walk.specs.Obligations.{AreAdded, FollowsEdge}
-use Rattle.tm_walk.proofs.AddedLemmas.{OfSome, added_end}
-use Rattle.tm_walk.proofs.FollowLemmas.{edge_taken, edge_left}
+use Rattle.tm_walk.specs.Obligations.{AreAdded, FollowsState}
+use Rattle.tm_walk.proofs.AddedLemmas.{added_turn, added_end, among_at}
 use Rattle.tm_walk.proofs.inclusion.Inclusion.follow.Goals as goal
-use Rattle.tm_walk.proofs.inclusion.Inclusion.follow.Goals.{then-takes+in_ok-behind+in_ok-add, else-takes}
 
-pub loop-edge-preserved : goal.loop-edge-preserved
-loop-edge-preserved g c =
-    let A = g.M.RefTest.test c.args.self.now.refs.now in
-    let dst = c.args.self.now.dst.now in
-    let es = c.edges-edge-items.result.now in
-    let i = c.loop-edge.edge-index in
-    let follows = FollowsEdge A dst c.args.from.now c.args.symbol in
-    λ after h. c.loop-edge.invariant after (elim c.if-takes.branch [
-      | then-takes+in_ok-behind+in_ok-add w ↦ edge_taken A dst c.args.from.now c.args.symbol es i _ c.loop-edge-test.true c.loop-edge.next after w.add.new.self _
-          (sym c.takes.ensures ∙ w.if-takes.true) w.in_ok-behind.ensures w.in_ok-add.ensures (subst (λ (z : List Obligation). AreAdded (OfSome follows (drop (i + 1) es)) z after) w.next-is h)
-      | else-takes w ↦ edge_left A dst c.args.from.now c.args.symbol es i _ c.loop-edge-test.true c.loop-edge.next after
-          (sym c.takes.ensures ∙ w.if-takes.false) (subst (λ (z : List Obligation). AreAdded (OfSome follows (drop (i + 1) es)) z after) w.next-is h)
-    ])
+pub follow_edges-requires : goal.follow_edges-requires
+follow_edges-requires g c =
+    let follows = λ (o : Obligation). FollowsState c.args.self.now.src.now c.args.symbol c.args.target.now o.state in
+    let os = c.args.group.now in
+    let o = c.obligation-item.result in
+    let at = subst (λ (z : Obligation). Among z os) (sym c.obligation-item.is) (among_at follows os c.loop-obligation.obligation-index o c.loop-obligation-test.true) in
+    (c.requires.states o at).state
+
+pub loop-obligation-preserved : goal.loop-obligation-preserved
+loop-obligation-preserved g c =
+    let follows = λ (o : Obligation). FollowsState c.args.self.now.src.now c.args.symbol c.args.target.now o.state in
+    let os = c.args.group.now in
+    let o = c.obligation-item.result in
+    λ after h. c.loop-obligation.invariant after
+    (added_turn follows os c.loop-obligation.obligation-index o c.loop-obligation-test.true c.loop-obligation.next c.follow_edges.new.next after
+    (subst (λ (z : Obligation). AreAdded (follows z) c.loop-obligation.next c.follow_edges.new.next) c.obligation-item.is c.in_ok-follow_edges.ensures) h)
 
 pub returns : goal.returns
 returns g c =
-    let follows = FollowsEdge (g.M.RefTest.test c.args.self.now.refs.now) c.args.self.now.dst.now c.args.from.now c.args.symbol in
-    subst (λ (z : List Edge). AreAdded (OfSome follows z) c.args.next.now c.loop-edge.next) c.edges-edge-items.ensures
-    (c.loop-edge.invariant c.loop-edge.next (added_end follows c.edges-edge-items.result.now c.loop-edge.edge-index c.loop-edge-test.false c.loop-edge.next))
+    let follows = λ (o : Obligation). FollowsState c.args.self.now.src.now c.args.symbol c.args.target.now o.state in
+    c.loop-obligation.invariant c.loop-obligation.next (added_end follows c.args.group.now c.loop-obligation.obligation-index c.loop-obligation-test.false c.loop-obligation.next)

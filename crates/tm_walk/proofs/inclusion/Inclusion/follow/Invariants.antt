@@ -1,11 +1,10 @@
 use Rattle.std.proofs.Common.{List, drop}
 use Rattle.tm_walk.specs.declared.obligation.Obligation.{Obligation}
-use Rattle.tm_walk.specs.Obligations.{AreAdded, FollowsEdge}
-use Rattle.tm_walk.proofs.AddedLemmas.{OfSome}
+use Rattle.tm_walk.specs.Obligations.{AreAdded, FollowsGroup}
 use Rattle.tm_walk.proofs.inclusion.Inclusion.follow.Given as goal
 
--- what the edges that are left make of the next layer so far, all make of what it was
-abbrev pub invariant-loop-edge : goal.invariant-loop-edge
-invariant-loop-edge g l = (after : List Obligation)
-    → AreAdded (OfSome (FollowsEdge (g.M.RefTest.test l.self.refs.now) l.self.dst.now l.from l.symbol) (drop l.edge-index l.edge-items)) l.next after
-    → AreAdded (OfSome (FollowsEdge (g.M.RefTest.test l.self.refs.now) l.self.dst.now l.from l.symbol) l.edge-items) l.initial.next after
+-- what the obligations that are left make of the next layer so far, all make of what it was
+abbrev pub invariant-loop-obligation : goal.invariant-loop-obligation
+invariant-loop-obligation g l = (after : List Obligation)
+    → AreAdded (FollowsGroup l.self.src.now l.symbol l.target (drop l.obligation-index l.group)) l.next after
+    → AreAdded (FollowsGroup l.self.src.now l.symbol l.target l.group) l.initial.next after
