@@ -6,11 +6,6 @@
 set -u
 . "$(dirname "${BASH_SOURCE[0]}")/program.sh"
 
-stack() {
-    valgrind --tool=massif --stacks=yes --heap=no --massif-out-file="$work/massif" "$program" <"$work/file" >/dev/null 2>&1
-    awk -F= '/^mem_stacks_B/ { if ($2 > most) most = $2 } END { print most }' "$work/massif"
-}
-
 repeated() { # PIECE BYTES
     yes "$1" | tr -d '\n' | head -c "$2"
 }
@@ -19,7 +14,7 @@ measure() { # NAME FRONT PIECE
     for bytes in 262144 524288 1048576; do
         { printf '%s' "$2"; repeated "$3" $((bytes - ${#2})); } >"$work/file"
         printf '%-24s %9d bytes %14d instructions %7d bytes of stack  %s\n' "$1" "$bytes" \
-            "$(instructions "$work/file")" "$(stack)" "$("$program" <"$work/file" | tail -n 1)"
+            "$(instructions "$work/file")" "$(stack_of "$work/file")" "$("$program" <"$work/file" | tail -n 1)"
     done
 }
 

@@ -24,3 +24,9 @@ cost_of() { # FILE WHAT
     printf '%s, %7d bytes: %12d instructions, %s s: %s\n' "$2" "$(wc -c <"$1")" "$(instructions "$1")" \
         "$(tail -n 1 "$work/seconds")" "$(tail -n 1 "$work/out")"
 }
+
+# The most bytes of stack that a run takes, by valgrind's massif.
+stack_of() { # FILE
+    valgrind --tool=massif --stacks=yes --heap=no --massif-out-file="$work/massif" "$program" <"$1" >/dev/null 2>&1
+    awk -F= '/^mem_stacks_B/ { if ($2 > most) most = $2 } END { print most }' "$work/massif"
+}

@@ -1,21 +1,6 @@
-use std::alloc::Global;
-use tm_base::{Ground, NamedId, Profile, Why, World};
-use tm_ground::ground;
+use crate::worlds::world;
+use tm_base::{Ground, NamedId, Why, World};
 use tm_layout::{Layout, Layouts};
-use tm_lex::lex;
-use tm_names::check;
-use tm_parse::parse;
-
-/// The world of a text, where that is a file within all limits.
-pub fn world(alloc: Global, text: &str) -> Option<World> {
-    if text.len() > 1_048_576 {
-        return None;
-    }
-    let tokens = lex(alloc, text).ok()?;
-    let parsed = parse(alloc, text, tokens.as_slice()).ok()?;
-    let resolved = check(alloc, text, tokens.as_slice(), &parsed, Profile::Le64).ok()?;
-    ground(alloc, &resolved).ok()
-}
 
 /// The layouts of the sides of a world's first question.
 fn sides(layouts: &Layouts, world: &World) -> Option<(Result<Layout, Why>, Result<Layout, Why>)> {

@@ -7,12 +7,18 @@ mod automata;
 #[cfg(test)]
 mod devices;
 #[cfg(test)]
+mod evidence;
+#[cfg(test)]
 mod layouts;
 #[cfg(test)]
 mod lines;
 #[cfg(test)]
 mod marks;
 #[cfg(test)]
+mod matches;
+#[cfg(test)]
 mod runs;
 #[cfg(test)]
 mod words;
+#[cfg(test)]
+mod worlds;

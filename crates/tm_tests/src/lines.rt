@@ -1,4 +1,4 @@
-use crate::layouts::world;
+use crate::worlds::world;
 use tm_base::{Answer, RefId, Rule, Text};
 use tm_report::{line, ref_line, summary};
 

@@ -1,32 +1,6 @@
 use std::test::Fail;
-use tm_io::{Failed, MemSink, MemSource, Source};
+use tm_io::{FlakySink, FlakySource, MemSink, MemSource};
 use tm_run::{Status, run};
-
-/// A source that gives the front of a file and then fails.
-#[derive(Drop)]
-struct BreaksOff {
-    given: bool,
-    faults: u64,
-}
-
-impl Source for BreaksOff {
-    ghost use Rattle.std.specs.Prelude.{None};
-
-    ghost left = { λ _. None };
-
-    ghost faults = { λ source. source.faults };
-
-    fn read(&mut self, buf: &mut [u8]) -> Result<usize, Failed> {
-        if self.given {
-            self.faults = self.faults.saturating_add(1);
-            return Err(Failed);
-        }
-        self.given = true;
-        let count = buf.len().min(8);
-        buf[..count].copy_from_slice(&b"ask u8 =>"[..count]);
-        Ok(count)
-    }
-}
 
 fn sink(rt: &HostRuntime, room: u32) -> Result<MemSink, Fail> {
     let sink = MemSink::with_room(rt.alloc(), room)
@@ -60,15 +34,86 @@ fn answers_with_ample_memory(rt: HostRuntime) -> Result<(), Fail> {
 }
 
 #[test]
-fn a_device_that_fails_ends_the_run(rt: HostRuntime) -> Result<(), Fail> {
+fn a_sink_without_room_ends_the_run(rt: HostRuntime) -> Result<(), Fail> {
     assert!(rt; ends(&rt, "", 3, Status::WriteFault, "0 y")?);
-    let mut src = BreaksOff {
-        given: false,
-        faults: 0,
-    };
-    let mut out = sink(&rt, 100)?;
-    assert_eq!(rt; run(rt.alloc(), &[], &mut src, &mut out), Status::ReadFault);
-    assert_eq!(rt; out.written(), b"".as_slice());
+    Ok(())
+}
+
+const FILE: &str = "ask u8 => bool;";
+
+const REPORT: &str = "1: no, byte-value at 0, bytes 02\n0 yes, 1 no, 0 refused\n";
+
+/// How a run on a file ends, of which each call reads a byte and one call fails, and whether it writes this.
+fn ends_where_a_read_fails(
+    rt: &HostRuntime,
+    file: &str,
+    call: u64,
+    written: &str,
+) -> Result<Option<Status>, Fail> {
+    let alloc = rt.alloc();
+    let bytes = Vec::from_slice(alloc, file.as_bytes())?;
+    let mut src = FlakySource::new(bytes, 1, Vec::from_slice(alloc, &[call])?);
+    let mut out = sink(rt, 100)?;
+    let ended = run(alloc, &[], &mut src, &mut out);
+    Ok(if out.written() == written.as_bytes() {
+        Some(ended)
+    } else {
+        None
+    })
+}
+
+/// The same of a run whose report is written a byte a call, and one call fails.
+fn ends_where_a_write_fails(
+    rt: &HostRuntime,
+    call: u64,
+    written: &str,
+) -> Result<Option<Status>, Fail> {
+    let alloc = rt.alloc();
+    let mut src = MemSource::new(Vec::from_slice(alloc, FILE.as_bytes())?);
+    let mut out = FlakySink::with_room(alloc, 100, 1, Vec::from_slice(alloc, &[call])?)
+        .ok()
+        .ok_or("no memory")?;
+    let ended = run(alloc, &[], &mut src, &mut out);
+    Ok(if out.written() == written.as_bytes() {
+        Some(ended)
+    } else {
+        None
+    })
+}
+
+#[test]
+fn a_read_that_fails_ends_the_run(rt: HostRuntime) -> Result<(), Fail> {
+    assert_eq!(rt;
+        ends_where_a_read_fails(&rt, "", 1, "")?,
+        Some(Status::ReadFault)
+    );
+    for call in 1..17 {
+        assert_eq!(rt;
+            ends_where_a_read_fails(&rt, FILE, call, "")?,
+            Some(Status::ReadFault)
+        );
+    }
+    assert_eq!(rt;
+        ends_where_a_read_fails(&rt, FILE, 17, REPORT)?,
+        Some(Status::Mixed)
+    );
+    Ok(())
+}
+
+#[test]
+fn a_write_that_fails_ends_the_run(rt: HostRuntime) -> Result<(), Fail> {
+    for (before, _) in REPORT.char_indices() {
+        let call = before as u64 + 1;
+        let front = REPORT.get(..before).ok_or("no front")?;
+        assert_eq!(rt;
+            ends_where_a_write_fails(&rt, call, front)?,
+            Some(Status::WriteFault)
+        );
+    }
+    assert_eq!(rt;
+        ends_where_a_write_fails(&rt, 57, REPORT)?,
+        Some(Status::Mixed)
+    );
     Ok(())
 }
 
