@@ -64,18 +64,7 @@ chain() { # LENGTH
 chain 30 >"$work/file"
 measure "a chain of thirty references"
 
-overlapping() { # ALTERNATIVES
-    local i j
-    for i in $(seq "$1"); do
-        echo "#[repr(C)] pub struct A$i {"
-        for j in $(seq "$1"); do [ "$i" = "$j" ] && echo "pub f$j: bool," || echo "pub f$j: u8,"; done
-        echo '}'
-    done
-    echo '#[repr(C)] pub union U {'
-    for i in $(seq "$1"); do echo "pub a$i: A$i,"; done
-    echo "} ask [u8; $1] => U;"
-}
 for n in 8 12 16; do
-    overlapping "$n" >"$work/file"
+    { overlapping "$n" bool && echo "ask [u8; $n] => U;"; } >"$work/file"
     measure "alternatives that overlap, $n"
 done

@@ -51,18 +51,7 @@ measure "the same under 16 sets of assumptions"
 measure "256 questions over a ring of 62 references"
 
 # Alternatives that overlap, none of which is left for a value to be.
-overlapping() { # ALTERNATIVES
-    local i j
-    for i in $(seq "$1"); do
-        echo "#[repr(C)] pub struct A$i {"
-        for j in $(seq "$1"); do [ "$i" = "$j" ] && echo "pub f$j: bool," || echo "pub f$j: u8,"; done
-        echo '}'
-    done
-    echo '#[repr(C)] pub union U {'
-    for i in $(seq "$1"); do echo "pub a$i: A$i,"; done
-    echo "} ask [u8; $1] => U;"
-}
 for n in 18 24 64; do
-    overlapping "$n" >"$work/file"
+    { overlapping "$n" bool && echo "ask [u8; $n] => U;"; } >"$work/file"
     measure "$n alternatives that overlap"
 done

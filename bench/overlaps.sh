@@ -7,18 +7,6 @@
 set -u
 . "$(dirname "${BASH_SOURCE[0]}")/program.sh"
 
-union() { # ALTERNATIVES TYPE-OF-THE-OWN-BYTE
-    local i j
-    for i in $(seq "$1"); do
-        echo "#[repr(C)] pub struct A$i {"
-        for j in $(seq "$1"); do [ "$i" = "$j" ] && echo "pub f$j: $2," || echo "pub f$j: u8,"; done
-        echo '}'
-    done
-    echo '#[repr(C)] pub union U {'
-    for i in $(seq "$1"); do echo "pub a$i: A$i,"; done
-    echo '}'
-}
-
 row() { # NAME
     /usr/bin/env time -f '%e' "$program" <"$work/file" >"$work/out" 2>"$work/seconds"
     printf '| %s | %s | %s | %s | %s |\n' "$1" "$(instructions "$work/file")" "$(tail -n 1 "$work/seconds")" \
@@ -29,11 +17,11 @@ echo '| File | Instructions | Seconds | Memory, kB | Last line |'
 echo '|---|---|---|---|---|'
 for k in 16 32 64; do
     for question in 'U => U' "&'static U => &'static U" "&'static mut U => &'static mut U"; do
-        { union "$k" bool && echo "ask $question;"; } >"$work/file"
+        { overlapping "$k" bool && echo "ask $question;"; } >"$work/file"
         row "$k structs, \`$question\`"
     done
 done
 for k in 16 64; do
-    { union "$k" u8 && echo 'ask U => U;'; } >"$work/file"
+    { overlapping "$k" u8 && echo 'ask U => U;'; } >"$work/file"
     row "$k structs that are alike, \`U => U\`"
 done

@@ -30,3 +30,17 @@ stack_of() { # FILE
     valgrind --tool=massif --stacks=yes --heap=no --massif-out-file="$work/massif" "$program" <"$1" >/dev/null 2>&1
     awk -F= '/^mem_stacks_B/ { if ($2 > most) most = $2 } END { print most }' "$work/massif"
 }
+
+# A union of so many structs of as many bytes, of which the i-th has a field of its own type as its i-th byte, and `u8`
+# elsewhere.
+overlapping() { # ALTERNATIVES TYPE-OF-THE-OWN-BYTE
+    local i j
+    for i in $(seq "$1"); do
+        echo "#[repr(C)] pub struct A$i {"
+        for j in $(seq "$1"); do [ "$i" = "$j" ] && echo "pub f$j: $2," || echo "pub f$j: u8,"; done
+        echo '}'
+    done
+    echo '#[repr(C)] pub union U {'
+    for i in $(seq "$1"); do echo "pub a$i: A$i,"; done
+    echo '}'
+}
