@@ -13,6 +13,8 @@ mod layouts;
 #[cfg(test)]
 mod lines;
 #[cfg(test)]
+mod long_values;
+#[cfg(test)]
 mod marks;
 #[cfg(test)]
 mod matches;

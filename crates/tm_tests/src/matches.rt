@@ -16,7 +16,7 @@ use tm_layout::Layouts;
 
 /// What cells are to a type.
 #[derive(Clone, Copy, PartialEq, Eq, Debug)]
-enum Match {
+pub enum Match {
     /// One of its values.
     Value,
     /// The front of one.
@@ -41,7 +41,7 @@ fn match_cells(world: &World, layouts: &Layouts, g: &Ground, cells: &[Cell]) -> 
 }
 
 /// What cells are to the source of a file's first question.
-fn matched(alloc: Global, profile: Profile, file: &str, cells: &[Cell]) -> Option<Match> {
+pub fn matched(alloc: Global, profile: Profile, file: &str, cells: &[Cell]) -> Option<Match> {
     let world = world_for(alloc, file, profile)?;
     let Ok(layouts) = Layouts::new(alloc, &world) else {
         return None;
