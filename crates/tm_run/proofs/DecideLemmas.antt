@@ -1,19 +1,17 @@
 -- What is decided of a file: the report on it, or its fault.
 use Rattle.std.proofs.Common.{◌≡◌, ◌≢◌, ◌∙◌, ℕ, ◌⊎◌, inl, inr, ◌↔◌, refl, sym, ap, subst, Option, List}
-use Rattle.tm_base.specs.declared.profile.Profile.{Profile}
 use Rattle.tm_base.specs.declared.world.World.{World}
 use Rattle.tm_base.specs.Worlds.{tables_of}
 use Rattle.tm_report.specs.FaultLines.{line_of}
 use Rattle.tm_report.specs.declared.fault.FileFault.{FileFault}
 use Rattle.tm_report.specs.declared.fault.FileFault.TheVariants.{NotUtf8, NoToken, BadNumber, OpenComment, Unexpected, EndOfFile, Passed, Names, BadRefutation, NoQuestion}
-use Rattle.tm_run.specs.Held.{EachHolds, HoldsFor, SomeDoesNot}
+use Rattle.tm_run.specs.Held.{EachHolds, HoldsFor, SomeDoesNot, questions_for}
 use Rattle.tm_run.specs.Examined.{IsExamined, IsOnlyFault}
 use Rattle.tm_run.specs.Faults.{IsFaulty, status_of_fault}
 use Rattle.tm_run.specs.Files.{IsAccepted, IsWorldOf}
 use Rattle.tm_run.specs.Outcomes.{IsFileOutcome, IsReport, IsSettled}
 use Rattle.tm_run.specs.Reported.{IsReported}
 use Rattle.tm_run.specs.Runs.{Answers, Decides, Declines}
-use Rattle.tm_run.specs.Words.{profile_for}
 use Rattle.tm_run.specs.declared.options.Options.{Options}
 use Rattle.tm_run.specs.declared.status.Status.{Status}
 use Rattle.tm_run.specs.declared.status.Status.TheVariants.{AllYes, Mixed, Usage, BadText, Limit, IllFormed}
@@ -43,7 +41,7 @@ settled_fault fault = by (fault_status fault)
 
 -- the status of a report is one of two
 module _ (options : Options) (file : List ℕ) (status : Status) (text : List ℕ) (report : IsReport options file status text) where
-  report-verdict : HasVerdict (HoldsFor options.mode (tables_of report.world)) report.world.questions status
+  report-verdict : HasVerdict (HoldsFor options.mode (tables_of report.world)) (questions_for options.mode (tables_of report.world) report.world.questions) status
   report-verdict = reported-verdict options.mode options file report.world status text report.reported
 
   settled_report : IsSettled status
@@ -70,30 +68,30 @@ not_of_fault fault status is = by (fault_status fault)
     by (inr (inl f)) = (λ e. cc, λ e. cc, λ e. cc)
     by (inr (inr f)) = (λ e. cc, λ e. cc, λ e. cc)
 
-accepted_of : (profile : Profile) (file : List ℕ) (world : World) → IsWorldOf profile file world → IsAccepted profile file
-accepted_of profile file world of_file = record { resolved = of_file.resolved; names = of_file.names; limits = of_file.limits }
+accepted_of : (options : Options) (file : List ℕ) (world : World) → IsWorldOf options file world → IsAccepted options file
+accepted_of options file world of_file = record { resolved = of_file.resolved; names = of_file.names; limits = of_file.limits; few = of_file.few }
 
 -- the only fault of a file decides it
-pub fault_decides : (options : Options) (file : List ℕ) (fault : FileFault) → IsOnlyFault (profile_for options) file fault → Decides options file (status_of_fault fault) (line_of fault)
+pub fault_decides : (options : Options) (file : List ℕ) (fault : FileFault) → IsOnlyFault options file fault → Decides options file (status_of_fault fault) (line_of fault)
 fault_decides options file fault one = record {
   settled = settled_fault fault;
   outcome = inr (record { fault = fault; has = one.has; status_is = refl; text_is = refl });
   accepted = λ a. absurd (one.refused a);
-  only = λ status text r. absurd (one.refused (accepted_of (profile_for options) file r.world r.of_file));
-  each_holds = λ e. absurd (one.refused (accepted_of (profile_for options) file e.world e.of_file));
-  some_does_not = λ s. absurd (one.refused (accepted_of (profile_for options) file s.world s.of_file));
+  only = λ status text r. absurd (one.refused (accepted_of options file r.world r.of_file));
+  each_holds = λ e. absurd (one.refused (accepted_of options file e.world e.of_file));
+  some_does_not = λ s. absurd (one.refused (accepted_of options file s.world s.of_file));
   faulted = λ other h. (sym (ap status_of_fault (one.only other h)), sym (ap line_of (one.only other h)));
 }
 
 -- a file with one fault is answered by its line
 pub fault-answers : (options : Options) (file : List ℕ) (fault : FileFault) (written written' : Option (List ℕ)) (faults faults' : ℕ) (result : Status)
-    → IsOnlyFault (profile_for options) file fault → Declines written written' faults faults' fault result → Answers written written' faults faults' options file result
+    → IsOnlyFault options file fault → Declines written written' faults faults' fault result → Answers written written' faults faults' options file result
 fault-answers options file fault written written' faults faults' result one (inl f) =
     inl (record { status = status_of_fault fault; text = line_of fault; decides = fault_decides options file fault one; finishes = f })
 fault-answers options file fault written written' faults faults' result one (inr wants) = inr wants
 
 -- what a file's world comes to decides it
-pub report_decides : (options : Options) (file : List ℕ) (world : World) (status : Status) (text : List ℕ) → IsExamined (profile_for options) file world
+pub report_decides : (options : Options) (file : List ℕ) (world : World) (status : Status) (text : List ℕ) → IsExamined options file world
     → IsReported options.mode options file world status text → Decides options file status text
 report_decides options file world status text w r = record {
   settled = settled_report options file status text report;
@@ -108,16 +106,16 @@ report_decides options file world status text w r = record {
     report : IsReport options file status text
     report = record { world = world; of_file = w.of_file; reported = r }
 
-    verdict : HasVerdict (HoldsFor options.mode (tables_of world)) world.questions status
+    verdict : HasVerdict (HoldsFor options.mode (tables_of world)) (questions_for options.mode (tables_of world) world.questions) status
     verdict = reported-verdict options.mode options file world status text r
 
 -- what is decided of a file
 module _ (options : Options) (file : List ℕ) (status : Status) (text : List ℕ) (d : Decides options file status text) where
   -- a status that no report has comes exactly where the file has a fault of that status
-  pub decides_faulty : (ends : Status) → ((s : Status) (t : List ℕ) → IsReport options file s t → s ≢ ends) → status ≡ ends ↔ IsFaulty (profile_for options) file ends
+  pub decides_faulty : (ends : Status) → ((s : Status) (t : List ℕ) → IsReport options file s t → s ≢ ends) → status ≡ ends ↔ IsFaulty options file ends
   decides_faulty ends other = (λ e. by e d.outcome, λ faulty. (d.faulted faulty.fault faulty.has).0 ∙ faulty.status_is)
     where
-      by : status ≡ ends → IsFileOutcome options file status text → IsFaulty (profile_for options) file ends
+      by : status ≡ ends → IsFileOutcome options file status text → IsFaulty options file ends
       by e (inl report) = absurd (other status text report e)
       by e (inr refusal) = record { fault = refusal.fault; has = refusal.has; status_is = sym refusal.status_is ∙ e }
 

@@ -4,7 +4,6 @@ use Rattle.std.proofs.lemmas.Str.{utf8_valid_len-IsValidUpTo}
 use Rattle.tm_base.specs.declared.limit.LimitKind.{LimitKind}
 use Rattle.tm_base.specs.declared.limit.LimitKind.TheVariants.{FileBytes}
 use Rattle.tm_base.specs.declared.limit.NameWhy.{NameWhy}
-use Rattle.tm_base.specs.declared.profile.Profile.{Profile}
 use Rattle.tm_lex.specs.Lexes.{IsFault, Tokenizes}
 use Rattle.tm_lex.specs.declared.fault.LexWhy.{LexWhy}
 use Rattle.tm_lex.specs.declared.fault.LexWhy.TheVariants as why
@@ -22,6 +21,8 @@ use Rattle.tm_run.specs.Examined.{AreTokensOf, IsOnlyFault, no_token_at}
 use Rattle.tm_run.specs.Faults.{BeginsAt, EndsTooSoon, HasFault, HasNameFaultAt, IsNotUtf8, LacksToken, PassesLimitAtToken, PassesLimitOnTypes, StopsAtToken, start_of}
 use Rattle.tm_run.specs.Files.{HasSoundNames, IsResolved, IsSpelled, file_bytes}
 use Rattle.tm_run.specs.Places.{at_byte}
+use Rattle.tm_run.specs.Words.{profile_for}
+use Rattle.tm_run.specs.declared.options.Options.{Options}
 
 -- an error that is passed on as it is
 pub passed_on : {A E : Type 0} (P : E → Type 0) (result : Result A E) (err : E) → IsErrAnd result (λ passed. passed ≡ err) → P err → IfErr result P
@@ -29,7 +30,7 @@ passed_on P (Ok a) err e h = tt
 passed_on P (Err passed) err e h = subst P (sym e) h
 
 -- what holds of the fault of each cause holds of each fault
-module _ (profile : Profile) (file : List ℕ) (P : FileFault → Type 0) where
+module _ (options : Options) (file : List ℕ) (P : FileFault → Type 0) where
   pub record ByCause : Type 0 where
     pub not_utf8 : (byte : ℕ) → IsNotUtf8 file byte → P (NotUtf8 (at_byte file byte))
     pub lacks : (byte : ℕ) (why : LexWhy) → LacksToken file byte why → P (no_token_at (at_byte file byte) why)
@@ -37,10 +38,10 @@ module _ (profile : Profile) (file : List ℕ) (P : FileFault → Type 0) where
     pub ends : EndsTooSoon file → P (EndOfFile (at_byte file (length file)))
     pub passes : (kind : LimitKind) (byte : ℕ) → PassesLimitAtToken file kind byte → P (Passed kind (Some (at_byte file byte)))
     pub long : file_bytes < length file → P (Passed FileBytes None)
-    pub names : (why : NameWhy) (byte : ℕ) → HasNameFaultAt profile file why byte → P (Names why (at_byte file byte))
-    pub limits : (kind : LimitKind) → PassesLimitOnTypes profile file kind → P (Passed kind None)
+    pub names : (why : NameWhy) (byte : ℕ) → HasNameFaultAt options file why byte → P (Names why (at_byte file byte))
+    pub limits : (kind : LimitKind) → PassesLimitOnTypes options file kind → P (Passed kind None)
 
-  pub by_cause : ByCause → (fault : FileFault) → HasFault profile file fault → P fault
+  pub by_cause : ByCause → (fault : FileFault) → HasFault options file fault → P fault
   by_cause by (NotUtf8 at) (place, h) = subst (λ (at : At). P (NotUtf8 at)) (sym place) (by.not_utf8 at.byte h)
   by_cause by (NoToken at) (place, h) = subst (λ (at : At). P (NoToken at)) (sym place) (by.lacks at.byte why.NoToken h)
   by_cause by (BadNumber at) (place, h) = subst (λ (at : At). P (BadNumber at)) (sym place) (by.lacks at.byte why.BadNumber h)
@@ -55,16 +56,16 @@ module _ (profile : Profile) (file : List ℕ) (P : FileFault → Type 0) where
   by_cause by (NoQuestion number) h = absurd h
 
 -- the fault of each cause is one that the file has
-pub has_lacks : (profile : Profile) (file : List ℕ) (byte : ℕ) (why : LexWhy) → LacksToken file byte why → HasFault profile file (no_token_at (at_byte file byte) why)
-has_lacks profile file byte why.NoToken h = (refl, h)
-has_lacks profile file byte why.BadNumber h = (refl, h)
-has_lacks profile file byte why.OpenComment h = (refl, h)
+pub has_lacks : (options : Options) (file : List ℕ) (byte : ℕ) (why : LexWhy) → LacksToken file byte why → HasFault options file (no_token_at (at_byte file byte) why)
+has_lacks options file byte why.NoToken h = (refl, h)
+has_lacks options file byte why.BadNumber h = (refl, h)
+has_lacks options file byte why.OpenComment h = (refl, h)
 
 -- too many bytes are the one fault
-pub long_only : (profile : Profile) (file : List ℕ) → file_bytes < length file → IsOnlyFault profile file (Passed FileBytes None)
-long_only profile file long = record {
+pub long_only : (options : Options) (file : List ℕ) → file_bytes < length file → IsOnlyFault options file (Passed FileBytes None)
+long_only options file long = record {
   has = inl (refl, long);
-  only = by_cause profile file (λ other. other ≡ Passed FileBytes None) (record {
+  only = by_cause options file (λ other. other ≡ Passed FileBytes None) (record {
     not_utf8 = λ byte h. absurd (omega arith);
     lacks = λ byte why h. absurd (omega arith);
     stops = λ byte h. let lexed = h.lexed in absurd (omega arith);
@@ -78,10 +79,10 @@ long_only profile file long = record {
 }
 
 -- bytes that aren't UTF-8 are the one fault
-pub broken_only : (profile : Profile) (file : List ℕ) (byte : ℕ) → IsNotUtf8 file byte → IsOnlyFault profile file (NotUtf8 (at_byte file byte))
-broken_only profile file byte broken = record {
+pub broken_only : (options : Options) (file : List ℕ) (byte : ℕ) → IsNotUtf8 file byte → IsOnlyFault options file (NotUtf8 (at_byte file byte))
+broken_only options file byte broken = record {
   has = (refl, broken);
-  only = by_cause profile file (λ other. other ≡ NotUtf8 (at_byte file byte)) (record {
+  only = by_cause options file (λ other. other ≡ NotUtf8 (at_byte file byte)) (record {
     not_utf8 = λ found h. ap (λ b. NotUtf8 (at_byte file b))
         (sym (utf8_valid_len-IsValidUpTo file found h.front) ∙ utf8_valid_len-IsValidUpTo file byte broken.front);
     lacks = λ byte why h. absurd (broken.broken h.utf8);
@@ -96,11 +97,11 @@ broken_only profile file byte broken = record {
 }
 
 -- a byte at which no token begins is the one fault
-pub lacks_only : (profile : Profile) (file : List ℕ) (byte : ℕ) (why : LexWhy) → LacksToken file byte why → ((tokens : List Token) → Tokenizes file tokens → ⊥)
-    → ((other : ℕ) (because : LexWhy) → IsFault file other because → (other ≡ byte) × (because ≡ why)) → IsOnlyFault profile file (no_token_at (at_byte file byte) why)
-lacks_only profile file byte why lacks no_tokens same = record {
-  has = has_lacks profile file byte why lacks;
-  only = by_cause profile file (λ other. other ≡ no_token_at (at_byte file byte) why) (record {
+pub lacks_only : (options : Options) (file : List ℕ) (byte : ℕ) (why : LexWhy) → LacksToken file byte why → ((tokens : List Token) → Tokenizes file tokens → ⊥)
+    → ((other : ℕ) (because : LexWhy) → IsFault file other because → (other ≡ byte) × (because ≡ why)) → IsOnlyFault options file (no_token_at (at_byte file byte) why)
+lacks_only options file byte why lacks no_tokens same = record {
+  has = has_lacks options file byte why lacks;
+  only = by_cause options file (λ other. other ≡ no_token_at (at_byte file byte) why) (record {
     not_utf8 = λ found h. absurd (h.broken lacks.utf8);
     lacks = λ found because h. let (b, w) = same found because h.fault in
         ap (λ b. no_token_at (at_byte file b) because) b ∙ ap (no_token_at (at_byte file byte)) w;
@@ -115,29 +116,29 @@ lacks_only profile file byte why lacks no_tokens same = record {
 }
 
 -- what a file spells, and that no name is at fault, is so by its tokens
-module _ (profile : Profile) (file : List ℕ) (tokens : List Token) (are : AreTokensOf file tokens) where
+module _ (options : Options) (file : List ℕ) (tokens : List Token) (are : AreTokensOf file tokens) where
   pub spelled_by : (parsed : Parsed) → IsSpelled file parsed → SpellsFile (terminals_of file tokens) parsed
   spelled_by parsed h = subst (λ (ts : List Token). SpellsFile (terminals_of file ts) parsed) (are.only h.tokens h.lexed.tokenizes) h.spelled
 
-  pub resolved_by : (resolved : Resolved) (h : IsResolved profile file resolved) → SpellsFile (terminals_of file tokens) h.parsed
+  pub resolved_by : (resolved : Resolved) (h : IsResolved options file resolved) → SpellsFile (terminals_of file tokens) h.parsed
   resolved_by resolved h = spelled_by h.parsed h.spelled
 
-  pub sound_by : (resolved : Resolved) (h : IsResolved profile file resolved) → HasSoundNames profile file tokens h.parsed
-  sound_by resolved h = subst (λ (ts : List Token). HasSoundNames profile file ts h.parsed) (are.only h.spelled.tokens h.spelled.lexed.tokenizes) h.sound
+  pub sound_by : (resolved : Resolved) (h : IsResolved options file resolved) → HasSoundNames options file tokens h.parsed
+  sound_by resolved h = subst (λ (ts : List Token). HasSoundNames options file ts h.parsed) (are.only h.spelled.tokens h.spelled.lexed.tokenizes) h.sound
 
 -- what holds of each fault of a file's tokens holds of each of its faults
-module _ (profile : Profile) (file : List ℕ) (tokens : List Token) (are : AreTokensOf file tokens) (P : FileFault → Type 0) where
+module _ (options : Options) (file : List ℕ) (tokens : List Token) (are : AreTokensOf file tokens) (P : FileFault → Type 0) where
   pub record ByTokens : Type 0 where
     pub stops : (byte place : ℕ) → BeginsAt tokens place byte → StopsAt (terminals_of file tokens) place → P (Unexpected (at_byte file byte))
     pub ends : StopsAt (terminals_of file tokens) (length tokens) → P (EndOfFile (at_byte file (length file)))
     pub passes : (kind : LimitKind) (byte place : ℕ) → BeginsAt tokens place byte → PassesLimitAt (terminals_of file tokens) kind place
         → P (Passed kind (Some (at_byte file byte)))
-    pub names : (why : NameWhy) (place : ℕ) (parsed : Parsed) → SpellsFile (terminals_of file tokens) parsed → IsFirstFault profile (name_at file tokens) parsed why place
+    pub names : (why : NameWhy) (place : ℕ) (parsed : Parsed) → SpellsFile (terminals_of file tokens) parsed → IsFirstFault (profile_for options) (name_at file tokens) parsed why place
         → P (Names why (at_byte file (start_of file (slice_get tokens place))))
-    pub limits : (kind : LimitKind) → PassesLimitOnTypes profile file kind → P (Passed kind None)
+    pub limits : (kind : LimitKind) → PassesLimitOnTypes options file kind → P (Passed kind None)
 
-  pub by_tokens : ByTokens → (fault : FileFault) → HasFault profile file fault → P fault
-  by_tokens by = by_cause profile file P (record {
+  pub by_tokens : ByTokens → (fault : FileFault) → HasFault options file fault → P fault
+  by_tokens by = by_cause options file P (record {
     not_utf8 = λ byte h. absurd (h.broken are.lexed.utf8);
     lacks = λ byte why h. absurd (are.faultless byte why h.fault);
     stops = λ byte h. let e = are.only h.tokens h.lexed.tokenizes in
@@ -151,7 +152,7 @@ module _ (profile : Profile) (file : List ℕ) (tokens : List Token) (are : AreT
     names = λ why byte h. let e = are.only h.spelled.tokens h.spelled.lexed.tokenizes in
         subst (λ (b : ℕ). P (Names why (at_byte file b))) h.begins
         (subst (λ (ts : List Token). P (Names why (at_byte file (start_of file (slice_get ts h.place))))) (sym e)
-        (by.names why h.place h.parsed (spelled_by profile file tokens are h.parsed h.spelled)
-        (subst (λ (ts : List Token). IsFirstFault profile (name_at file ts) h.parsed why h.place) e h.first)));
+        (by.names why h.place h.parsed (spelled_by options file tokens are h.parsed h.spelled)
+        (subst (λ (ts : List Token). IsFirstFault (profile_for options) (name_at file ts) h.parsed why h.place) e h.first)));
     limits = by.limits;
   })

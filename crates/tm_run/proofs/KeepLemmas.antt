@@ -8,7 +8,7 @@ use Rattle.tm_run.specs.Faults.{HasFault, IsFaulty}
 use Rattle.tm_run.specs.Files.{IsAccepted, file_bytes}
 use Rattle.tm_run.specs.Outcomes.{IsFileOf, IsInput, IsOutcome, IsReport, IsRunOn, IsSettled, WritesFault, WritesOutcome, WritesPrefix, WritesReport}
 use Rattle.tm_run.specs.Runs.{Decides, Finishes, IsSilent}
-use Rattle.tm_run.specs.Words.{is_read, profile_for}
+use Rattle.tm_run.specs.Words.{is_read}
 use Rattle.tm_run.specs.declared.options.Options.{Options}
 use Rattle.tm_run.specs.declared.status.Status.{Status}
 use Rattle.tm_run.specs.declared.status.Status.TheVariants.{AllYes, Mixed, Usage, BadText, Limit, ReadFault, WriteFault, Memory, IllFormed}
@@ -28,19 +28,19 @@ settled_status Memory h = absurd h
 module _ (asked : Option Options) (left left' : Option (List ℕ)) (reads reads' : ℕ) (written written' : Option (List ℕ)) (writes writes' : ℕ) where
   -- what a run keeps, by its status
   pub record Keeps (status : Status) : Type 0 where
-    pub headline : (options : Options) (file : List ℕ) → IsRunOn asked left options file status → IsAccepted (profile_for options) file → WritesReport options file status written written'
+    pub headline : (options : Options) (file : List ℕ) → IsRunOn asked left options file status → IsAccepted options file → WritesReport options file status written written'
     pub only_report : (options : Options) (file : List ℕ) → IsRunOn asked left options file status → (other : Status) (text : List ℕ) → IsReport options file other text → (other ≡ status) × AddsAll written written' text
     pub outcome : IsSettled status → WritesOutcome asked left status written written'
     pub part : status ≡ WriteFault → WritesPrefix asked left written written'
     pub silent_fault : status ≡ ReadFault → written' ≡ written
     pub silent_memory : status ≡ Memory → written' ≡ written
-    pub fault : (options : Options) (file : List ℕ) → IsRunOn asked left options file status → (fault : FileFault) → HasFault (profile_for options) file fault → WritesFault fault status written written'
+    pub fault : (options : Options) (file : List ℕ) → IsRunOn asked left options file status → (fault : FileFault) → HasFault options file fault → WritesFault fault status written written'
     pub all_yes : (options : Options) (file : List ℕ) → IsRunOn asked left options file status → (status ≡ AllYes ↔ EachHolds options file)
     pub mixed : (options : Options) (file : List ℕ) → IsRunOn asked left options file status → (status ≡ Mixed ↔ SomeDoesNot options file)
     pub usage : IsSettled status → (status ≡ Usage ↔ asked ≡ None)
-    pub bad_text : (options : Options) (file : List ℕ) → IsRunOn asked left options file status → (status ≡ BadText ↔ IsFaulty (profile_for options) file BadText)
-    pub limit : (options : Options) (file : List ℕ) → IsRunOn asked left options file status → (status ≡ Limit ↔ IsFaulty (profile_for options) file Limit)
-    pub ill_formed : (options : Options) (file : List ℕ) → IsRunOn asked left options file status → (status ≡ IllFormed ↔ IsFaulty (profile_for options) file IllFormed)
+    pub bad_text : (options : Options) (file : List ℕ) → IsRunOn asked left options file status → (status ≡ BadText ↔ IsFaulty options file BadText)
+    pub limit : (options : Options) (file : List ℕ) → IsRunOn asked left options file status → (status ≡ Limit ↔ IsFaulty options file Limit)
+    pub ill_formed : (options : Options) (file : List ℕ) → IsRunOn asked left options file status → (status ≡ IllFormed ↔ IsFaulty options file IllFormed)
     pub read_fault : status ≡ ReadFault → Rose reads reads'
     pub read_risen : reads < reads' → status ≡ ReadFault
     pub write_fault : status ≡ WriteFault → Rose writes writes'

@@ -1,7 +1,9 @@
 pub mod FaultLemmas
 pub mod TokenLemmas
+pub mod AskingLemmas
 pub mod ClosingLemmas
 pub mod VerdictLemmas
+pub mod MarkLemmas
 pub mod AnswerLemmas
 pub mod NeedLemmas
 pub mod NeedTextLemmas

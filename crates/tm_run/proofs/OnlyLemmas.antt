@@ -14,34 +14,40 @@ use Rattle.tm_ground.specs.OneWorld.{AreOneWorld}
 use Rattle.tm_ground.proofs.OneWorldLemmas.{one-world}
 use Rattle.tm_ground.proofs.SharedTexts.{no_shared_texts}
 use Rattle.tm_laws.specs.AnswerKinds.{is_yes}
+use Rattle.tm_matrix.specs.Matrix.{IsMatrix}
+use Rattle.tm_matrix.specs.declared.marks.Line.{Line}
 use Rattle.tm_names.specs.declared.resolved.Resolved.{Resolved}
 use Rattle.tm_run.specs.Answers.{AreAnswered, IsAnswered}
 use Rattle.tm_run.specs.Examined.{IsExamined}
 use Rattle.tm_run.specs.Files.{IsWorldOf}
-use Rattle.tm_run.specs.Held.{EachHolds, HoldsFor, SomeDoesNot}
+use Rattle.tm_run.specs.Held.{EachHolds, HoldsFor, SomeDoesNot, questions_for}
+use Rattle.tm_run.specs.Marks.{is_line_yes, matrix_lines, matrix_questions, types_of}
 use Rattle.tm_run.specs.Needs.{HoldsUnderSome, IsNeed, is_met, need_lines}
 use Rattle.tm_run.specs.Outcomes.{IsReport}
 use Rattle.tm_run.specs.Report.{generated_line, report_by, report_for, report_of, status_of, status_when, summary_of}
 use Rattle.tm_run.specs.Reported.{IsReported}
-use Rattle.tm_run.specs.Words.{profile_for}
 use Rattle.tm_run.specs.declared.need.Need.{Need}
 use Rattle.tm_run.specs.declared.options.Mode.{Mode}
-use Rattle.tm_run.specs.declared.options.Mode.TheVariants.{Needs}
+use Rattle.tm_run.specs.declared.options.Mode.TheVariants.{Needs, Matrix}
 use Rattle.tm_run.specs.declared.options.Options.{Options}
 use Rattle.tm_run.specs.declared.status.Status.{Status}
 use Rattle.tm_run.proofs.AnswerLemmas.{answer-means-holding}
+use Rattle.tm_run.proofs.MarkLemmas.{lines-same, matrix-verdict}
 use Rattle.tm_run.proofs.NeedLemmas.{need-means, need-same}
 use Rattle.tm_run.proofs.VerdictLemmas.{HasVerdict, verdict, zip-same, zip-weaker}
 
 -- the status says what holds of the questions
 pub reported-verdict : (mode : Option Mode) (options : Options) (file : List ℕ) (world : World) (status : Status) (text : List ℕ) → IsReported mode options file world status text
-    → HasVerdict (HoldsFor mode (tables_of world)) world.questions status
+    → HasVerdict (HoldsFor mode (tables_of world)) (questions_for mode (tables_of world) world.questions) status
 reported-verdict None options file world status text r =
     subst (HasVerdict (HoldsOf (tables_of world)) world.questions) (sym r.status_is)
     (verdict (IsAnswered world) (HoldsOf (tables_of world)) is_yes (λ ask a h. answer-means-holding (tables_of world) ask a h.least.is_true) world.questions r.answers r.answered)
 reported-verdict (Some Needs) options file world status text r =
     subst (HasVerdict (HoldsUnderSome (tables_of world)) world.questions) (sym r.status_is)
     (verdict (IsNeed (tables_of world)) (HoldsUnderSome (tables_of world)) is_met (need-means (tables_of world)) world.questions r.needs r.each)
+reported-verdict (Some Matrix) options file world status text r =
+    subst (HasVerdict (HoldsOf (tables_of world)) (matrix_questions (tables_of world) world.questions)) (sym r.status_is)
+    (matrix-verdict (tables_of world) (types_of world.questions) r.lines r.marked)
 
 -- two worlds that say and ask the same
 module _ (one other : World) (same : AreOneWorld other one) where
@@ -68,6 +74,11 @@ module _ (one other : World) (same : AreOneWorld other one) where
     needs-same : (ours theirs : List Need) → AllZip (IsNeed (tables_of one)) one.questions ours → AllZip (IsNeed (tables_of other)) other.questions theirs → theirs ≡ ours
     needs-same ours theirs h k = zip-same (IsNeed (tables_of one)) one.questions theirs ours (λ ask i. need-same (tables_of one) ask (apart ask i)) (moved IsNeed theirs k) h
 
+    marks-same : (ours theirs : List Line) → IsMatrix (tables_of one) (types_of one.questions) ours → IsMatrix (tables_of other) (types_of other.questions) theirs → theirs ≡ ours
+    marks-same ours theirs h k =
+        lines-same (tables_of one) (types_of one.questions) ours theirs h
+        (subst (λ (asks : List Ask). IsMatrix (tables_of one) (types_of asks) theirs) same.questions (subst (λ (t : Tables). IsMatrix t (types_of other.questions) theirs) same.tables k))
+
     -- come to one status and one text
     pub reported-same : (mode : Option Mode) (status status' : Status) (text text' : List ℕ) → IsReported mode options file one status text → IsReported mode options file other status' text'
         → (status' ≡ status) × (text' ≡ text)
@@ -81,10 +92,17 @@ module _ (one other : World) (same : AreOneWorld other one) where
           s.status_is ∙ ap (λ needs. status_when (list_all is_met needs)) e ∙ sym r.status_is,
           s.text_is ∙ ap (λ tables. need_lines tables 1 s.needs) same.tables ∙ ap (need_lines (tables_of one) 1) e ∙ sym r.text_is,
         )
+    reported-same (Some Matrix) status status' text text' r s =
+        let e = marks-same r.lines s.lines r.marked s.marked in (
+          s.status_is ∙ ap (λ lines. status_when (list_all is_line_yes lines)) e ∙ sym r.status_is,
+          s.text_is ∙ ap (λ tables. matrix_lines tables 0 (types_of other.questions) s.lines) same.tables
+              ∙ ap (λ asks. matrix_lines (tables_of one) 0 (types_of asks) s.lines) same.questions
+              ∙ ap (matrix_lines (tables_of one) 0 (types_of one.questions)) e ∙ sym r.text_is,
+        )
 
-module _ (options : Options) (file : List ℕ) (world : World) (w : IsExamined (profile_for options) file world) where
+module _ (options : Options) (file : List ℕ) (world : World) (w : IsExamined options file world) where
   -- each world of the file says the same and asks the same
-  same-world : (other : World) → IsWorldOf (profile_for options) file other → AreOneWorld other world
+  same-world : (other : World) → IsWorldOf options file other → AreOneWorld other world
   same-world other of_file =
       one-world w.of_file.resolved w.form w.apart other world
       (subst (λ (r : Resolved). BelongsToFile r other) (w.only of_file.resolved of_file.names) of_file.belongs) w.of_file.belongs
@@ -96,14 +114,16 @@ module _ (options : Options) (file : List ℕ) (world : World) (w : IsExamined (
         options.mode status other text line r s.reported
 
     -- what holds of the questions of some world of the file holds of those of this one
-    here : (F : (Ask → Type 0) → List Ask → Type 0) (other : World) → IsWorldOf (profile_for options) file other → F (HoldsFor options.mode (tables_of other)) other.questions
-        → F (HoldsFor options.mode (tables_of world)) world.questions
+    here : (F : (Ask → Type 0) → List Ask → Type 0) (other : World) → IsWorldOf options file other
+        → F (HoldsFor options.mode (tables_of other)) (questions_for options.mode (tables_of other) other.questions)
+        → F (HoldsFor options.mode (tables_of world)) (questions_for options.mode (tables_of world) world.questions)
     here F other of_file h =
         let same = same-world other of_file in
-        subst (λ asks. F (HoldsFor options.mode (tables_of world)) asks) same.questions (subst (λ tables. F (HoldsFor options.mode tables) other.questions) same.tables h)
+        subst (λ asks. F (HoldsFor options.mode (tables_of world)) (questions_for options.mode (tables_of world) asks)) same.questions
+        (subst (λ tables. F (HoldsFor options.mode tables) (questions_for options.mode tables other.questions)) same.tables h)
 
-    pub each-all_yes : EachHolds options file → All (HoldsFor options.mode (tables_of world)) world.questions
+    pub each-all_yes : EachHolds options file → All (HoldsFor options.mode (tables_of world)) (questions_for options.mode (tables_of world) world.questions)
     each-all_yes e = here All e.world e.of_file e.each
 
-    pub some-mixed : SomeDoesNot options file → Any (λ ask. ¬ HoldsFor options.mode (tables_of world) ask) world.questions
+    pub some-mixed : SomeDoesNot options file → Any (λ ask. ¬ HoldsFor options.mode (tables_of world) ask) (questions_for options.mode (tables_of world) world.questions)
     some-mixed s = here (λ P asks. Any (λ ask. ¬ P ask) asks) s.world s.of_file s.some

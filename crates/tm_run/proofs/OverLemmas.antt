@@ -1,7 +1,8 @@
 -- The types of a world's questions are over the world.
 use Rattle.std.proofs.Common.{◌≡◌, ◌∙◌, ℕ, zero, suc, ◌<◌, refl, sym, ap, subst, Bool, true, ◌&&◌, List, [], ◌∷◌, ◌++◌, map, length, get_or, Some, slice_get, arith}
-use Rattle.std.specs.List.{flat_map, list_all, range_with_len}
+use Rattle.std.specs.List.{All, flat_map, list_all, range_with_len}
 use Rattle.std.proofs.lemmas.Bool.{and_parts}
+use Rattle.std.proofs.lemmas.List.Elements.{All-cons, All-nil}
 use Rattle.std.proofs.lemmas.List.Folds.{list_all-append}
 use Rattle.tm_base.specs.declared.ask.Ask.{Ask}
 use Rattle.tm_base.specs.declared.ground.Ground.{Ground, out-Ground, roll-Ground, roll-out-Ground, Named, Tuple, Array, Wrap}
@@ -14,6 +15,7 @@ use Rattle.tm_base.specs.Whole.{are_types_in_form, is_head_in_form, is_type_in_f
 use Rattle.tm_base.specs.Worlds.{IsTypeOver, tables_of}
 use Rattle.tm_base.proofs.GroundLemmas.{written_types-Tuple, written_types-Array, written_types-Wrap}
 use Rattle.tm_base.proofs.WorldLemmas.{list_all-at, list_all-flat_map}
+use Rattle.tm_run.specs.Marks.{types_of}
 
 -- a type is written in itself
 module _ (passes : Ground → Bool) where
@@ -99,3 +101,14 @@ module _ (world : World) where
 
   pub asked-at : (k : ℕ) (ask : Ask) → k < length world.questions → ask ≡ get_or world.questions k ask → IsTypeOver (tables_of world) ask.src × IsTypeOver (tables_of world) ask.dst
   asked-at k ask less is = asked-over k ask (at-within world.questions k ask less is)
+
+  -- and so are the types that they go from
+  sources-pass : (asks : List Ask) → list_all written_pass (flat_map (λ ask. ask.src ∷ ask.dst ∷ []) asks) ≡ true → All (IsTypeOver (tables_of world)) (types_of asks)
+  sources-pass [] h = All-nil (IsTypeOver (tables_of world))
+  sources-pass (ask ∷ asks) h =
+      let (src, rest) = and_parts (written_pass ask.src) _ h in
+      let (dst, others) = and_parts (written_pass ask.dst) _ rest in
+      All-cons (IsTypeOver (tables_of world)) ask.src (types_of asks) (passing-over ask.src src) (sources-pass asks others)
+
+  pub sources-over : All (IsTypeOver (tables_of world)) (types_of world.questions)
+  sources-over = sources-pass world.questions sides-pass

@@ -8,7 +8,7 @@ use Rattle.tm_report.specs.declared.fault.FileFault.TheVariants.{Passed}
 use Rattle.tm_run.specs.Files.{file_bytes}
 use Rattle.tm_run.specs.Outcomes.{IsFileIfTold, IsFileOf, usage_line}
 use Rattle.tm_run.specs.Runs.{Answered, Decides, Did, FailedToRead, GetsFile, LackedMemory, Misused, Overflowed, misused, failed_to_read, lacked_memory, overflowed, answered}
-use Rattle.tm_run.specs.Words.{is_read, profile_for}
+use Rattle.tm_run.specs.Words.{is_read}
 use Rattle.tm_run.specs.declared.options.Options.{Options}
 use Rattle.tm_run.specs.declared.status.Status.{Status}
 use Rattle.tm_run.specs.declared.status.Status.TheVariants.{Usage, Limit, ReadFault, Memory}
@@ -132,7 +132,7 @@ module _ (left left' : Option (List ℕ)) (reads reads' : ℕ) (written written'
       at file told = subst (λ (l : Option (List ℕ)). TakesPast l left' file_bytes) told o.past
 
       decided : (file : List ℕ) → file_bytes < length file → Decides o.options file Limit (line_of (Passed FileBytes None))
-      decided file long = fault_decides o.options file (Passed FileBytes None) (long_only (profile_for o.options) file long)
+      decided file long = fault_decides o.options file (Passed FileBytes None) (long_only o.options file long)
 
       told-by : (options : Options) (file : List ℕ) → Some o.options ≡ Some options → IsFileOf options.generate left file → left ≡ Some file
       told-by options file same is = subst (λ (number : Option ℕ). IsFileOf number left file) o.to_read

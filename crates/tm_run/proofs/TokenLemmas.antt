@@ -5,7 +5,6 @@ use Rattle.std.proofs.lemmas.List.FromFn.{length-enumerate_from}
 use Rattle.std.proofs.lemmas.Option.{slice_get_cases, slice_get_past}
 use Rattle.tm_base.specs.declared.limit.LimitKind.{LimitKind}
 use Rattle.tm_base.specs.declared.limit.NameWhy.{NameWhy}
-use Rattle.tm_base.specs.declared.profile.Profile.{Profile}
 use Rattle.tm_lex.specs.Lexes.{IsFault, Tokenizes}
 use Rattle.tm_lex.specs.declared.fault.LexErr.TheVariants as lex_err
 use Rattle.tm_lex.specs.declared.fault.LexWhy.{LexWhy}
@@ -21,18 +20,21 @@ use Rattle.tm_parse.specs.declared.parsed.Parsed.{Parsed}
 use Rattle.tm_parse.specs.declared.parsing.ParseErr.TheVariants as parse_err
 use Rattle.tm_report.specs.declared.fault.At.{At}
 use Rattle.tm_report.specs.declared.fault.FileFault.TheVariants.{Unexpected, EndOfFile, Passed, Names}
+use Rattle.tm_run.specs.Asking.{with_questions}
 use Rattle.tm_run.specs.Examined.{AreTokensOf, IsLateFault, IsMeaningOf, IsOnlyFault, IsParsedOf, IsResolvedOf, fault_at, no_token_at}
 use Rattle.tm_run.specs.Faults.{BeginsAt, HasFault, LacksToken, start_of}
 use Rattle.tm_run.specs.Files.{HasSoundNames, IsResolved, IsSpelled}
 use Rattle.tm_run.specs.Places.{at_byte}
+use Rattle.tm_run.specs.Words.{profile_for}
+use Rattle.tm_run.specs.declared.options.Options.{Options}
 use Rattle.tm_run.proofs.FaultLemmas.{by_tokens, lacks_only, resolved_by, sound_by}
 
 -- the lexer's fault
-pub lexer_fault : (profile : Profile) (file : List ℕ) (byte : ℕ) (why : LexWhy) → LacksToken file byte why
+pub lexer_fault : (options : Options) (file : List ℕ) (byte : ℕ) (why : LexWhy) → LacksToken file byte why
     → ((tokens : List Token) → Tokenizes file tokens → lex_err.At byte why ≡ lex_err.Memory)
     → ((other : ℕ) (because : LexWhy) → IsFault file other because → (lex_err.At byte why ≡ lex_err.At other because) ⊎ (lex_err.At byte why ≡ lex_err.Memory))
-    → IsOnlyFault profile file (no_token_at (at_byte file byte) why)
-lexer_fault profile file byte why lacks tokens faults = lacks_only profile file byte why lacks
+    → IsOnlyFault options file (no_token_at (at_byte file byte) why)
+lexer_fault options file byte why lacks tokens faults = lacks_only options file byte why lacks
     (λ found h. let e = tokens found h in cc) (λ other because h. same other because (faults other because h))
   where
     same : (other : ℕ) (because : LexWhy) → (lex_err.At byte why ≡ lex_err.At other because) ⊎ (lex_err.At byte why ≡ lex_err.Memory) → (other ≡ byte) × (because ≡ why)
@@ -54,7 +56,7 @@ stopping_end file tokens place h past =
     let e = length-terminals_of file tokens in let s = ap length h.splits in let long = h.long in
     omega (arith, length-append h.front h.rest)
 
-module _ (profile : Profile) (file : List ℕ) (tokens : List Token) (are : AreTokensOf file tokens) where
+module _ (options : Options) (file : List ℕ) (tokens : List Token) (are : AreTokensOf file tokens) where
   -- the place where a token begins
   abbrev pub here : ℕ → At
   here place = at_byte file (start_of file (slice_get tokens place))
@@ -70,14 +72,14 @@ module _ (profile : Profile) (file : List ℕ) (tokens : List Token) (are : AreT
       by (inl (token, less, e, same)) = record { token = token; is = e; start = ap (start_of file) (sym e) }
       by (inr (past, e)) = absurd (omega arith)
 
-  has_stop : (place : ℕ) → StopsAt (terminals_of file tokens) place → HasFault profile file (fault_at file (slice_get tokens place))
+  has_stop : (place : ℕ) → StopsAt (terminals_of file tokens) place → HasFault options file (fault_at file (slice_get tokens place))
   has_stop place stops = by (slice_get_cases tokens place).1
     where
       by : ((token : Token) × (place < length tokens) × (slice_get tokens place ≡ Some token) × (get_or tokens place token ≡ token)) ⊎ ((length tokens ≤ place) × (slice_get tokens place ≡ None))
-          → HasFault profile file (fault_at file (slice_get tokens place))
-      by (inl (token, within, e, same)) = subst (λ (found : Option Token). HasFault profile file (fault_at file found)) (sym e)
+          → HasFault options file (fault_at file (slice_get tokens place))
+      by (inl (token, within, e, same)) = subst (λ (found : Option Token). HasFault options file (fault_at file found)) (sym e)
           (refl, record { tokens = tokens; lexed = are.lexed; place = place; begins = record { token = token; is = e; start = refl }; stops = stops })
-      by (inr (past, e)) = subst (λ (found : Option Token). HasFault profile file (fault_at file found)) (sym e)
+      by (inr (past, e)) = subst (λ (found : Option Token). HasFault options file (fault_at file found)) (sym e)
           (refl, record { tokens = tokens; lexed = are.lexed; stops = subst (λ (n : ℕ). StopsAt (terminals_of file tokens) n) (stopping_end file tokens place stops past) stops })
 
   -- the parser's fault at a token or at the end
@@ -85,17 +87,17 @@ module _ (profile : Profile) (file : List ℕ) (tokens : List Token) (are : AreT
       → ((v : Parsed) → SpellsFile (terminals_of file tokens) v → parse_err.At place ≡ parse_err.Memory)
       → ((p : ℕ) → StopsAt (terminals_of file tokens) p → (parse_err.At place ≡ parse_err.At p) ⊎ (parse_err.At place ≡ parse_err.Memory))
       → ((kind : LimitKind) (p : ℕ) → PassesLimitAt (terminals_of file tokens) kind p → (parse_err.At place ≡ parse_err.Limit kind p) ⊎ (parse_err.At place ≡ parse_err.Memory))
-      → IsOnlyFault profile file (fault_at file (slice_get tokens place))
+      → IsOnlyFault options file (fault_at file (slice_get tokens place))
   parser_fault place stops files faults limits = record {
     has = has_stop place stops;
-    only = by_tokens profile file tokens are (λ other. other ≡ fault_at file (slice_get tokens place)) (record {
+    only = by_tokens options file tokens are (λ other. other ≡ fault_at file (slice_get tokens place)) (record {
       stops = λ byte p begins h. at_token byte p begins (same p (faults p h));
       ends = λ h. at_end (same (length tokens) (faults (length tokens) h));
       passes = λ kind byte p begins h. absurd (neither kind p (limits kind p h));
       names = λ why p v h first. absurd (none v h);
-      limits = λ kind h. absurd (none h.names.parsed (resolved_by profile file tokens are h.resolved h.names));
+      limits = λ kind h. absurd (none h.names.parsed (resolved_by options file tokens are h.resolved h.names));
     });
-    refused = λ h. absurd (none h.names.parsed (resolved_by profile file tokens are h.resolved h.names));
+    refused = λ h. absurd (none h.names.parsed (resolved_by options file tokens are h.resolved h.names));
   }
     where
       none : (v : Parsed) → SpellsFile (terminals_of file tokens) v → ⊥
@@ -121,17 +123,17 @@ module _ (profile : Profile) (file : List ℕ) (tokens : List Token) (are : AreT
       → ((v : Parsed) → SpellsFile (terminals_of file tokens) v → parse_err.Limit kind place ≡ parse_err.Memory)
       → ((p : ℕ) → StopsAt (terminals_of file tokens) p → (parse_err.Limit kind place ≡ parse_err.At p) ⊎ (parse_err.Limit kind place ≡ parse_err.Memory))
       → ((k : LimitKind) (p : ℕ) → PassesLimitAt (terminals_of file tokens) k p → (parse_err.Limit kind place ≡ parse_err.Limit k p) ⊎ (parse_err.Limit kind place ≡ parse_err.Memory))
-      → IsOnlyFault profile file (Passed kind (Some (here place)))
+      → IsOnlyFault options file (Passed kind (Some (here place)))
   parser_limit kind place passes files faults limits = record {
     has = (refl, record { tokens = tokens; lexed = are.lexed; place = place; begins = begins_within place (passing_within file tokens kind place passes); passes = passes });
-    only = by_tokens profile file tokens are (λ other. other ≡ Passed kind (Some (here place))) (record {
+    only = by_tokens options file tokens are (λ other. other ≡ Passed kind (Some (here place))) (record {
       stops = λ byte p begins h. absurd (neither p (faults p h));
       ends = λ h. absurd (neither (length tokens) (faults (length tokens) h));
       passes = λ k byte p begins h. at_token k byte p begins (limits k p h);
       names = λ why p v h first. absurd (none v h);
-      limits = λ kind h. absurd (none h.names.parsed (resolved_by profile file tokens are h.resolved h.names));
+      limits = λ kind h. absurd (none h.names.parsed (resolved_by options file tokens are h.resolved h.names));
     });
-    refused = λ h. absurd (none h.names.parsed (resolved_by profile file tokens are h.resolved h.names));
+    refused = λ h. absurd (none h.names.parsed (resolved_by options file tokens are h.resolved h.names));
   }
     where
       none : (v : Parsed) → SpellsFile (terminals_of file tokens) v → ⊥
@@ -153,21 +155,21 @@ module _ (profile : Profile) (file : List ℕ) (tokens : List Token) (are : AreT
     spelled = record { tokens = tokens; lexed = are.lexed; spelled = is.spelled }
 
     -- the first name fault of what the tokens spell is that of this
-    first_in : (why : NameWhy) (place : ℕ) (v : Parsed) → SpellsFile (terminals_of file tokens) v → IsFirstFault profile (name_at file tokens) v why place
-        → IsFirstFault profile (name_at file tokens) parsed why place
-    first_in why place v h = subst (λ (v : Parsed). IsFirstFault profile (name_at file tokens) v why place) (is.only v h)
+    first_in : (why : NameWhy) (place : ℕ) (v : Parsed) → SpellsFile (terminals_of file tokens) v → IsFirstFault (profile_for options) (name_at file tokens) v why place
+        → IsFirstFault (profile_for options) (name_at file tokens) parsed why place
+    first_in why place v h = subst (λ (v : Parsed). IsFirstFault (profile_for options) (name_at file tokens) v why place) (is.only v h)
 
-    sound_in : (v : Parsed) → SpellsFile (terminals_of file tokens) v → HasSoundNames profile file tokens v → HasSoundNames profile file tokens parsed
-    sound_in v h = subst (λ (v : Parsed). HasSoundNames profile file tokens v) (is.only v h)
+    sound_in : (v : Parsed) → SpellsFile (terminals_of file tokens) v → HasSoundNames options file tokens v → HasSoundNames options file tokens parsed
+    sound_in v h = subst (λ (v : Parsed). HasSoundNames options file tokens v) (is.only v h)
 
     -- the first name fault is the one fault
-    pub name_fault : (why : NameWhy) (place : ℕ) → IsFirstFault profile (name_at file tokens) parsed why place
-        → ((other : NameWhy) (there : ℕ) → IsFirstFault profile (name_at file tokens) parsed other there
+    pub name_fault : (why : NameWhy) (place : ℕ) → IsFirstFault (profile_for options) (name_at file tokens) parsed why place
+        → ((other : NameWhy) (there : ℕ) → IsFirstFault (profile_for options) (name_at file tokens) parsed other there
         → (name_err.Fault why place ≡ name_err.Fault other there) ⊎ (name_err.Fault why place ≡ name_err.Memory))
-        → IsOnlyFault profile file (Names why (here place))
+        → IsOnlyFault options file (Names why (here place))
     name_fault why place first faults = record {
       has = (refl, record { parsed = parsed; spelled = spelled; place = place; first = first; begins = refl });
-      only = by_tokens profile file tokens are (λ other. other ≡ Names why (here place)) (record {
+      only = by_tokens options file tokens are (λ other. other ≡ Names why (here place)) (record {
         stops = λ byte p begins h. absurd (is.goes_on p h);
         ends = λ h. absurd (is.goes_on (length tokens) h);
         passes = λ kind byte p begins h. absurd (is.within kind p h);
@@ -177,8 +179,8 @@ module _ (profile : Profile) (file : List ℕ) (tokens : List Token) (are : AreT
       refused = λ h. absurd (unsound h.resolved h.names);
     }
       where
-        unsound : (resolved : Resolved) → IsResolved profile file resolved → ⊥
-        unsound resolved h = (sound_in h.parsed (resolved_by profile file tokens are resolved h) (sound_by profile file tokens are resolved h)).none why place first.fault
+        unsound : (resolved : Resolved) → IsResolved options file resolved → ⊥
+        unsound resolved h = (sound_in h.parsed (resolved_by options file tokens are resolved h) (sound_by options file tokens are resolved h)).none why place first.fault
 
         same : (other : NameWhy) (there : ℕ) → (name_err.Fault why place ≡ name_err.Fault other there) ⊎ (name_err.Fault why place ≡ name_err.Memory)
             → Names other (here there) ≡ Names why (here place)
@@ -187,24 +189,24 @@ module _ (profile : Profile) (file : List ℕ) (tokens : List Token) (are : AreT
             ap (λ w. Names w (here there)) why_is ∙ ap (λ p. Names why (here p)) place_is
         same other there (inr e) = cc
 
-    module _ (resolved : Resolved) (means : IsResolvedOf profile file tokens parsed resolved) where
-      abbrev names : IsResolved profile file resolved
+    module _ (resolved : Resolved) (means : IsResolvedOf options file tokens parsed resolved) where
+      abbrev names : IsResolved options file resolved
       names = record { parsed = parsed; spelled = spelled; sound = means.sound; means = means.means }
 
-      no_name_fault : (why : NameWhy) (place : ℕ) (v : Parsed) → SpellsFile (terminals_of file tokens) v → IsFirstFault profile (name_at file tokens) v why place → ⊥
+      no_name_fault : (why : NameWhy) (place : ℕ) (v : Parsed) → SpellsFile (terminals_of file tokens) v → IsFirstFault (profile_for options) (name_at file tokens) v why place → ⊥
       no_name_fault why place v h first = means.sound.none why place (first_in why place v h first).fault
 
-      same_meaning : (other : Resolved) → IsResolved profile file other → other ≡ resolved
+      same_meaning : (other : Resolved) → IsResolved options file other → other ≡ resolved
       same_meaning other h =
-          h.means ∙ ap (λ ts. resolved_of profile (name_at file ts) h.parsed) (are.only h.spelled.tokens h.spelled.lexed.tokenizes)
-          ∙ ap (resolved_of profile (name_at file tokens)) (is.only h.parsed (resolved_by profile file tokens are other h)) ∙ sym means.means
+          h.means ∙ ap (λ ts. with_questions options.mode h.parsed (resolved_of (profile_for options) (name_at file ts) h.parsed)) (are.only h.spelled.tokens h.spelled.lexed.tokenizes)
+          ∙ ap (λ v. with_questions options.mode v (resolved_of (profile_for options) (name_at file tokens) v)) (is.only h.parsed (resolved_by options file tokens are other h)) ∙ sym means.means
 
       -- what the file's names mean
-      pub meaning : IsMeaningOf profile file resolved
+      pub meaning : IsMeaningOf options file resolved
       meaning = record {
         names = names;
         only = same_meaning;
-        faultless = by_tokens profile file tokens are (IsLateFault profile file) (record {
+        faultless = by_tokens options file tokens are (IsLateFault options file) (record {
           stops = λ byte p begins h. is.goes_on p h;
           ends = λ h. is.goes_on (length tokens) h;
           passes = λ kind byte p begins h. is.within kind p h;

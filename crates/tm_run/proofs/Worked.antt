@@ -2,13 +2,13 @@
 use Rattle.std.proofs.Common.{◌≡◌, ℕ, zero, suc, ◌<◌, refl, true, false, None, Some, [], ◌∷◌, codes, take, IsUtf8, arith}
 use Rattle.std.specs.Str.{chars, is_utf8}
 use Rattle.std.proofs.lemmas.Str.{IsUtf8-nil, is_utf8-from_IsUtf8}
-use Rattle.tm_base.specs.declared.profile.Profile.{Profile}
 use Rattle.tm_base.specs.declared.profile.Profile.TheVariants.{Be64}
 use Rattle.tm_report.specs.declared.fault.FileFault.TheVariants.{NotUtf8}
 use Rattle.tm_run.specs.Faults.{HasFault}
 use Rattle.tm_run.specs.Places.{at_byte}
 use Rattle.tm_run.specs.Words.{choices_of, options_of, with_choices}
-use Rattle.tm_run.specs.declared.options.Mode.TheVariants.{Needs}
+use Rattle.tm_run.specs.declared.options.Mode.TheVariants.{Needs, Matrix}
+use Rattle.tm_run.specs.declared.options.Options.{Options}
 
 -- the byte that ends a line stands on it, and the byte behind it on the next
 end_of_a_line : at_byte (0x41 ∷ 0x0A ∷ 0x42 ∷ []) 1 ≡ record { byte = 1; line = 1 }
@@ -30,8 +30,8 @@ no_longer zero h utf8 = absurd (omega arith)
 no_longer (suc zero) h utf8 = no_text utf8
 no_longer (suc (suc m)) h utf8 = no_text utf8
 
-byte_outside_of_text : (profile : Profile) → HasFault profile (0xFF ∷ []) (NotUtf8 (at_byte (0xFF ∷ []) 0))
-byte_outside_of_text profile = (refl, record { short = omega arith; broken = no_text; front = record { short = omega arith; front = IsUtf8-nil; longest = no_longer } })
+byte_outside_of_text : (options : Options) → HasFault options (0xFF ∷ []) (NotUtf8 (at_byte (0xFF ∷ []) 0))
+byte_outside_of_text options = (refl, record { short = omega arith; broken = no_text; front = record { short = omega arith; front = IsUtf8-nil; longest = no_longer } })
 
 -- each option in either form, in any order
 three_options : options_of (codes "--profile=be64" ∷ codes "--generate" ∷ codes "007" ∷ codes "--summary" ∷ []) ≡ Some (record { summary = true; generate = Some 7; profile = Some Be64; mode = None })
@@ -51,6 +51,10 @@ mode_and_profile : options_of (codes "--needs" ∷ codes "--profile" ∷ codes "
 unfolding choices_of with_choices
 mode_and_profile = refl
 
+matrix_alone : options_of (codes "--matrix" ∷ []) ≡ Some (record { summary = false; generate = None; profile = None; mode = Some Matrix })
+unfolding choices_of with_choices
+matrix_alone = refl
+
 mode_and_summary : options_of (codes "--summary" ∷ codes "--needs" ∷ []) ≡ None
 unfolding choices_of with_choices
 mode_and_summary = refl
@@ -58,3 +62,7 @@ mode_and_summary = refl
 mode_twice : options_of (codes "--needs" ∷ codes "--needs" ∷ []) ≡ None
 unfolding choices_of with_choices
 mode_twice = refl
+
+two_modes : options_of (codes "--needs" ∷ codes "--matrix" ∷ []) ≡ None
+unfolding choices_of with_choices
+two_modes = refl

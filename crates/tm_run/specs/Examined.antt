@@ -2,7 +2,6 @@
 use Rattle.std.specs.Prelude.{◌≡◌, ℕ, Some, None, Option, List, length, All, ⊤}
 use Rattle.tm_base.specs.declared.limit.LimitKind.{LimitKind}
 use Rattle.tm_base.specs.declared.limit.LimitKind.TheVariants.{NamedTypes, References, Depth}
-use Rattle.tm_base.specs.declared.profile.Profile.{Profile}
 use Rattle.tm_base.specs.declared.world.World.{World}
 use Rattle.tm_ground.specs.declared.fault.GroundErr.{GroundErr}
 use Rattle.tm_ground.specs.declared.fault.GroundErr.TheVariants as ground_err
@@ -21,22 +20,25 @@ use Rattle.tm_parse.specs.declared.parsed.Parsed.{Parsed}
 use Rattle.tm_report.specs.declared.fault.At.{At}
 use Rattle.tm_report.specs.declared.fault.FileFault.{FileFault}
 use Rattle.tm_report.specs.declared.fault.FileFault.TheVariants as fault
+use Rattle.tm_run.specs.Asking.{with_questions}
 use Rattle.tm_run.specs.Faults.{HasFault, PassesLimitOnTypes}
 use Rattle.tm_run.specs.Files.{HasSoundNames, IsAccepted, IsLexed, IsResolved, IsWorldOf}
 use Rattle.tm_run.specs.Places.{at_byte}
+use Rattle.tm_run.specs.Words.{profile_for}
+use Rattle.tm_run.specs.declared.options.Options.{Options}
 use Rattle.tm_run.specs.declared.stop.Stop.{Stop}
 use Rattle.tm_run.specs.declared.stop.Stop.TheVariants.{Fault, Memory}
 
 -- the file's one fault; such a file isn't accepted
-pub record IsOnlyFault (profile : Profile) (file : List ℕ) (fault : FileFault) : Type 0 where
-  pub has : HasFault profile file fault
-  pub only : (other : FileFault) → HasFault profile file other → other ≡ fault
-  pub refused : ¬ IsAccepted profile file
+pub record IsOnlyFault (options : Options) (file : List ℕ) (fault : FileFault) : Type 0 where
+  pub has : HasFault options file fault
+  pub only : (other : FileFault) → HasFault options file other → other ≡ fault
+  pub refused : ¬ IsAccepted options file
 
 -- the file stops there; a want of memory may come for any
-abbrev pub IsStop : Profile → List ℕ → Stop → Type 0
-IsStop profile file (Fault fault) = IsOnlyFault profile file fault
-IsStop profile file Memory = ⊤
+abbrev pub IsStop : Options → List ℕ → Stop → Type 0
+IsStop options file (Fault fault) = IsOnlyFault options file fault
+IsStop options file Memory = ⊤
 
 -- the fault of a file in which no token begins at a place
 abbrev pub no_token_at : At → LexWhy → FileFault
@@ -65,20 +67,20 @@ pub record IsParsedOf (file : List ℕ) (tokens : List Token) (parsed : Parsed) 
   pub within : (kind : LimitKind) (place : ℕ) → PassesLimitAt (terminals_of file tokens) kind place → ⊥
 
 -- what the file's names mean, where none is at fault
-pub record IsResolvedOf (profile : Profile) (file : List ℕ) (tokens : List Token) (parsed : Parsed) (resolved : Resolved) : Type 0 where
-  pub sound : HasSoundNames profile file tokens parsed
-  pub means : resolved ≡ resolved_of profile (name_at file tokens) parsed
+pub record IsResolvedOf (options : Options) (file : List ℕ) (tokens : List Token) (parsed : Parsed) (resolved : Resolved) : Type 0 where
+  pub sound : HasSoundNames options file tokens parsed
+  pub means : resolved ≡ with_questions options.mode parsed (resolved_of (profile_for options) (name_at file tokens) parsed)
 
 -- a fault that is told when the types are closed
-abbrev pub IsLateFault : Profile → List ℕ → FileFault → Type 0
-IsLateFault profile file (fault.Passed kind None) = PassesLimitOnTypes profile file kind
-IsLateFault profile file _ = ⊥
+abbrev pub IsLateFault : Options → List ℕ → FileFault → Type 0
+IsLateFault options file (fault.Passed kind None) = PassesLimitOnTypes options file kind
+IsLateFault options file _ = ⊥
 
 -- what the file's names mean, beside which it has no fault before its types are closed
-pub record IsMeaningOf (profile : Profile) (file : List ℕ) (resolved : Resolved) : Type 0 where
-  pub names : IsResolved profile file resolved
-  pub only : (other : Resolved) → IsResolved profile file other → other ≡ resolved
-  pub faultless : (fault : FileFault) → HasFault profile file fault → IsLateFault profile file fault
+pub record IsMeaningOf (options : Options) (file : List ℕ) (resolved : Resolved) : Type 0 where
+  pub names : IsResolved options file resolved
+  pub only : (other : Resolved) → IsResolved options file other → other ≡ resolved
+  pub faultless : (fault : FileFault) → HasFault options file fault → IsLateFault options file fault
 
 -- how a file stops whose types can't be closed
 abbrev pub stop_of : GroundErr → Stop
@@ -88,9 +90,9 @@ stop_of ground_err.TooDeep = Fault (fault.Passed Depth None)
 stop_of ground_err.Memory = Memory
 
 -- the world of a file, which has no fault; what its names mean is in form, and definitions have names of their own
-pub record IsExamined (profile : Profile) (file : List ℕ) (world : World) : Type 0 where
-  pub of_file : IsWorldOf profile file world
+pub record IsExamined (options : Options) (file : List ℕ) (world : World) : Type 0 where
+  pub of_file : IsWorldOf options file world
   pub form : IsInForm of_file.resolved
   pub apart : HasApartNames of_file.resolved
-  pub only : (other : Resolved) → IsResolved profile file other → other ≡ of_file.resolved
-  pub faultless : (fault : FileFault) → ¬ HasFault profile file fault
+  pub only : (other : Resolved) → IsResolved options file other → other ≡ of_file.resolved
+  pub faultless : (fault : FileFault) → ¬ HasFault options file fault

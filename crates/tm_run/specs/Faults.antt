@@ -1,11 +1,10 @@
 -- Why a file gets no report.
-use Rattle.std.specs.Prelude.{◌≡◌, ℕ, ◌<◌, ◌≤◌, ◌⊎◌, Option, Some, None, List, length, slice_get, IsUtf8}
+use Rattle.std.specs.Prelude.{◌≡◌, ℕ, ◌<◌, ◌≤◌, ◌⊎◌, true, Option, Some, None, List, length, slice_get, IsUtf8}
 use Rattle.std.specs.Str.{IsValidUpTo}
 use Rattle.tm_base.specs.declared.limit.LimitKind.{LimitKind}
-use Rattle.tm_base.specs.declared.limit.LimitKind.TheVariants.{FileBytes, NamedTypes, References, Depth}
+use Rattle.tm_base.specs.declared.limit.LimitKind.TheVariants.{FileBytes, NamedTypes, References, Depth, MatrixTypes}
 use Rattle.tm_base.specs.declared.limit.NameWhy.{NameWhy}
-use Rattle.tm_base.specs.declared.profile.Profile.{Profile}
-use Rattle.tm_ground.specs.Limits.{HasCause}
+use Rattle.tm_ground.specs.Limits.{HasCause, IsWithinLimits}
 use Rattle.tm_ground.specs.declared.fault.GroundErr.TheVariants.{TooManyTypes, TooManyRefs, TooDeep}
 use Rattle.tm_lex.specs.Lexes.{IsFault}
 use Rattle.tm_lex.specs.declared.fault.LexWhy.{LexWhy}
@@ -19,8 +18,12 @@ use Rattle.tm_parse.specs.Spelling.{terminals_of}
 use Rattle.tm_parse.specs.declared.parsed.Parsed.{Parsed}
 use Rattle.tm_report.specs.declared.fault.FileFault.{FileFault}
 use Rattle.tm_report.specs.declared.fault.FileFault.TheVariants.{NotUtf8, NoToken, BadNumber, OpenComment, Unexpected, EndOfFile, Passed, Names, BadRefutation, NoQuestion}
+use Rattle.tm_run.specs.Asking.{passes_mode}
 use Rattle.tm_run.specs.Files.{file_bytes, IsLexed, IsResolved, IsSpelled}
 use Rattle.tm_run.specs.Places.{IsPlaceIn, at_byte}
+use Rattle.tm_run.specs.Words.{profile_for}
+use Rattle.tm_run.specs.declared.options.Mode.{Mode}
+use Rattle.tm_run.specs.declared.options.Options.{Options}
 use Rattle.tm_run.specs.declared.status.Status.{Status}
 use Rattle.tm_run.specs.declared.status.Status.TheVariants.{BadText, Limit, IllFormed}
 
@@ -70,40 +73,41 @@ start_of file None = length file
 start_of file (Some token) = token.start
 
 -- the file is spelled, and its first name fault is of the kind and stands at the token that begins at the byte
-pub record HasNameFaultAt (profile : Profile) (file : List ℕ) (why : NameWhy) (byte : ℕ) : Type 0 where
+pub record HasNameFaultAt (options : Options) (file : List ℕ) (why : NameWhy) (byte : ℕ) : Type 0 where
   pub parsed : Parsed
   pub spelled : IsSpelled file parsed
   pub place : ℕ
-  pub first : IsFirstFault profile (name_at file spelled.tokens) parsed why place
+  pub first : IsFirstFault (profile_for options) (name_at file spelled.tokens) parsed why place
   pub begins : start_of file (slice_get spelled.tokens place) ≡ byte
 
--- of the limits on closed types, the first that is passed is of the kind
-abbrev pub IsFirstLimit : Resolved → LimitKind → Type 0
-IsFirstLimit resolved NamedTypes = HasCause resolved TooManyTypes
-IsFirstLimit resolved References = HasCause resolved TooManyRefs
-IsFirstLimit resolved Depth = HasCause resolved TooDeep
-IsFirstLimit resolved _ = ⊥
+-- of the limits on closed types, and behind them that on a matrix, the first that is passed is of the kind
+abbrev pub IsFirstLimit : Option Mode → Resolved → LimitKind → Type 0
+IsFirstLimit mode resolved NamedTypes = HasCause resolved TooManyTypes
+IsFirstLimit mode resolved References = HasCause resolved TooManyRefs
+IsFirstLimit mode resolved Depth = HasCause resolved TooDeep
+IsFirstLimit mode resolved MatrixTypes = IsWithinLimits resolved × (passes_mode mode (length resolved.asks) ≡ true)
+IsFirstLimit mode resolved _ = ⊥
 
 -- the file is resolved, and the first limit that the types of its questions pass is of the kind
-pub record PassesLimitOnTypes (profile : Profile) (file : List ℕ) (kind : LimitKind) : Type 0 where
+pub record PassesLimitOnTypes (options : Options) (file : List ℕ) (kind : LimitKind) : Type 0 where
   pub resolved : Resolved
-  pub names : IsResolved profile file resolved
-  pub first : IsFirstLimit resolved kind
+  pub names : IsResolved options file resolved
+  pub first : IsFirstLimit options.mode resolved kind
 
--- for the profile, the file has the fault, at its place
-abbrev pub HasFault : Profile → List ℕ → FileFault → Type 0
-HasFault profile file (NotUtf8 at) = IsPlaceIn file at × IsNotUtf8 file at.byte
-HasFault profile file (NoToken at) = IsPlaceIn file at × LacksToken file at.byte why.NoToken
-HasFault profile file (BadNumber at) = IsPlaceIn file at × LacksToken file at.byte why.BadNumber
-HasFault profile file (OpenComment at) = IsPlaceIn file at × LacksToken file at.byte why.OpenComment
-HasFault profile file (Unexpected at) = IsPlaceIn file at × StopsAtToken file at.byte
-HasFault profile file (EndOfFile at) = (at ≡ at_byte file (length file)) × EndsTooSoon file
-HasFault profile file (Passed kind None) = ((kind ≡ FileBytes) × (file_bytes < length file)) ⊎ PassesLimitOnTypes profile file kind
-HasFault profile file (Passed kind (Some at)) = IsPlaceIn file at × PassesLimitAtToken file kind at.byte
-HasFault profile file (Names why at) = IsPlaceIn file at × HasNameFaultAt profile file why at.byte
+-- for what is asked, the file has the fault, at its place
+abbrev pub HasFault : Options → List ℕ → FileFault → Type 0
+HasFault options file (NotUtf8 at) = IsPlaceIn file at × IsNotUtf8 file at.byte
+HasFault options file (NoToken at) = IsPlaceIn file at × LacksToken file at.byte why.NoToken
+HasFault options file (BadNumber at) = IsPlaceIn file at × LacksToken file at.byte why.BadNumber
+HasFault options file (OpenComment at) = IsPlaceIn file at × LacksToken file at.byte why.OpenComment
+HasFault options file (Unexpected at) = IsPlaceIn file at × StopsAtToken file at.byte
+HasFault options file (EndOfFile at) = (at ≡ at_byte file (length file)) × EndsTooSoon file
+HasFault options file (Passed kind None) = ((kind ≡ FileBytes) × (file_bytes < length file)) ⊎ PassesLimitOnTypes options file kind
+HasFault options file (Passed kind (Some at)) = IsPlaceIn file at × PassesLimitAtToken file kind at.byte
+HasFault options file (Names why at) = IsPlaceIn file at × HasNameFaultAt options file why at.byte
 -- no refutation is read yet, and no question asked for by its number
-HasFault profile file (BadRefutation line) = ⊥
-HasFault profile file (NoQuestion number) = ⊥
+HasFault options file (BadRefutation line) = ⊥
+HasFault options file (NoQuestion number) = ⊥
 
 abbrev pub status_of_fault : FileFault → Status
 status_of_fault (NotUtf8 at) = BadText
@@ -118,7 +122,7 @@ status_of_fault (BadRefutation line) = BadText
 status_of_fault (NoQuestion number) = BadText
 
 -- the file has a fault for which the run ends with the status
-pub record IsFaulty (profile : Profile) (file : List ℕ) (status : Status) : Type 0 where
+pub record IsFaulty (options : Options) (file : List ℕ) (status : Status) : Type 0 where
   pub fault : FileFault
-  pub has : HasFault profile file fault
+  pub has : HasFault options file fault
   pub status_is : status_of_fault fault ≡ status

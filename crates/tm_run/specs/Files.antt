@@ -1,8 +1,7 @@
 -- Question files: the bytes that are UTF-8, lex, spell a file of the grammar, have no name at fault, and lead
 -- to closed types within their limits.
-use Rattle.std.specs.Prelude.{◌≡◌, ℕ, ◌≤◌, List, length, IsUtf8}
+use Rattle.std.specs.Prelude.{◌≡◌, ℕ, ◌≤◌, false, List, length, IsUtf8}
 use Rattle.tm_base.specs.declared.limit.LimitKind.TheVariants.{FileBytes}
-use Rattle.tm_base.specs.declared.profile.Profile.{Profile}
 use Rattle.tm_base.specs.declared.world.World.{World}
 use Rattle.tm_base.specs.Limits.{limit_number}
 use Rattle.tm_ground.specs.Belongs.{BelongsToFile}
@@ -16,6 +15,9 @@ use Rattle.tm_names.specs.declared.resolved.Resolved.{Resolved}
 use Rattle.tm_parse.specs.Parsing.{SpellsFile}
 use Rattle.tm_parse.specs.Spelling.{terminals_of}
 use Rattle.tm_parse.specs.declared.parsed.Parsed.{Parsed}
+use Rattle.tm_run.specs.Asking.{passes_mode, with_questions}
+use Rattle.tm_run.specs.Words.{profile_for}
+use Rattle.tm_run.specs.declared.options.Options.{Options}
 
 -- the greatest number of bytes that a file has
 abbrev pub file_bytes : ℕ
@@ -34,25 +36,29 @@ pub record IsSpelled (file : List ℕ) (parsed : Parsed) : Type 0 where
   pub spelled : SpellsFile (terminals_of file tokens) parsed
 
 -- for the profile, no name in what the file's tokens spell is at fault
-abbrev pub HasSoundNames : Profile → List ℕ → List Token → Parsed → Type 0
-HasSoundNames profile file tokens parsed = HasNoFault profile (name_at file tokens) parsed
+abbrev pub HasSoundNames : Options → List ℕ → List Token → Parsed → Type 0
+HasSoundNames options file tokens parsed = HasNoFault (profile_for options) (name_at file tokens) parsed
 
--- the file is spelled, for the profile none of its names is at fault, and this is what its names mean
-pub record IsResolved (profile : Profile) (file : List ℕ) (resolved : Resolved) : Type 0 where
+-- the file is spelled, for the profile none of its names is at fault, and this is what its names mean, with the
+-- mode's questions in place of the file's where it has its own
+pub record IsResolved (options : Options) (file : List ℕ) (resolved : Resolved) : Type 0 where
   pub parsed : Parsed
   pub spelled : IsSpelled file parsed
-  pub sound : HasSoundNames profile file spelled.tokens parsed
-  pub means : resolved ≡ resolved_of profile (name_at file spelled.tokens) parsed
+  pub sound : HasSoundNames options file spelled.tokens parsed
+  pub means : resolved ≡ with_questions options.mode parsed (resolved_of (profile_for options) (name_at file spelled.tokens) parsed)
 
--- the file is resolved, and for the profile the closed types that its questions lead to pass no limit
-pub record IsAccepted (profile : Profile) (file : List ℕ) : Type 0 where
+-- the file is resolved, the closed types that its questions lead to pass no limit, and neither do the questions
+-- that of the mode
+pub record IsAccepted (options : Options) (file : List ℕ) : Type 0 where
   pub resolved : Resolved
-  pub names : IsResolved profile file resolved
+  pub names : IsResolved options file resolved
   pub limits : IsWithinLimits resolved
+  pub few : passes_mode options.mode (length resolved.asks) ≡ false
 
--- the file is accepted, and the world belongs to it and to the profile
-pub record IsWorldOf (profile : Profile) (file : List ℕ) (world : World) : Type 0 where
+-- the file is accepted, and the world belongs to it and to what is asked
+pub record IsWorldOf (options : Options) (file : List ℕ) (world : World) : Type 0 where
   pub resolved : Resolved
-  pub names : IsResolved profile file resolved
+  pub names : IsResolved options file resolved
   pub limits : IsWithinLimits resolved
+  pub few : passes_mode options.mode (length resolved.asks) ≡ false
   pub belongs : BelongsToFile resolved world

@@ -7,25 +7,32 @@ use Rattle.tm_base.specs.Asked.{HoldsOf}
 use Rattle.tm_base.specs.Tables.{Tables}
 use Rattle.tm_base.specs.Worlds.{tables_of}
 use Rattle.tm_run.specs.Files.{IsWorldOf}
+use Rattle.tm_run.specs.Marks.{matrix_questions}
 use Rattle.tm_run.specs.Needs.{HoldsUnderSome}
-use Rattle.tm_run.specs.Words.{profile_for}
 use Rattle.tm_run.specs.declared.options.Mode.{Mode}
-use Rattle.tm_run.specs.declared.options.Mode.TheVariants.{Needs}
+use Rattle.tm_run.specs.declared.options.Mode.TheVariants.{Needs, Matrix}
 use Rattle.tm_run.specs.declared.options.Options.{Options}
 
 -- Without a mode, that a question is to be answered yes; with `--needs`, that it is under some assumptions.
 abbrev pub HoldsFor : Option Mode → Tables → Ask → Type 0
 HoldsFor None = HoldsOf
 HoldsFor (Some Needs) = HoldsUnderSome
+HoldsFor (Some Matrix) = HoldsOf
 
--- the file is accepted, and that holds of each of its questions
+-- the questions of which it is to hold: those that are asked, and of a matrix that of each mark
+abbrev pub questions_for : Option Mode → Tables → List Ask → List Ask
+questions_for None tables asks = asks
+questions_for (Some Needs) tables asks = asks
+questions_for (Some Matrix) tables asks = matrix_questions tables asks
+
+-- the file is accepted, and that holds of each of these questions
 pub record EachHolds (options : Options) (file : List ℕ) : Type 0 where
   pub world : World
-  pub of_file : IsWorldOf (profile_for options) file world
-  pub each : All (HoldsFor options.mode (tables_of world)) world.questions
+  pub of_file : IsWorldOf options file world
+  pub each : All (HoldsFor options.mode (tables_of world)) (questions_for options.mode (tables_of world) world.questions)
 
 -- the file is accepted, and of some question it doesn't hold
 pub record SomeDoesNot (options : Options) (file : List ℕ) : Type 0 where
   pub world : World
-  pub of_file : IsWorldOf (profile_for options) file world
-  pub some : Any (λ ask. ¬ HoldsFor options.mode (tables_of world) ask) world.questions
+  pub of_file : IsWorldOf options file world
+  pub some : Any (λ ask. ¬ HoldsFor options.mode (tables_of world) ask) (questions_for options.mode (tables_of world) world.questions)

@@ -1,10 +1,12 @@
 pub mod Answers
+pub mod Asking
 pub mod Courts
 pub mod Examined
 pub mod Faults
 pub mod Files
 pub mod Held
 pub mod NeedTexts
+pub mod Marks
 pub mod Needs
 pub mod Outcomes
 pub mod Places

@@ -8,7 +8,6 @@ use Rattle.tm_report.specs.declared.fault.FileFault.{FileFault}
 use Rattle.tm_run.specs.Faults.{HasFault, status_of_fault}
 use Rattle.tm_run.specs.Files.{IsWorldOf}
 use Rattle.tm_run.specs.Reported.{IsReported}
-use Rattle.tm_run.specs.Words.{profile_for}
 use Rattle.tm_run.specs.declared.options.Options.{Options}
 use Rattle.tm_run.specs.declared.status.Status.{Status}
 use Rattle.tm_run.specs.declared.status.Status.TheVariants.{AllYes, Mixed, Usage, BadText, Limit, ReadFault, WriteFault, Memory, IllFormed}
@@ -16,17 +15,17 @@ use Rattle.tm_run.specs.declared.status.Status.TheVariants.{AllYes, Mixed, Usage
 abbrev pub usage_line : List ℕ
 usage_line = codes "usage: transmute_report [--profile NAME] [--summary] [--generate N] [MODE]" ++ line_end
 
--- The headline: the world belongs to the file and to the profile, and it comes to this status and text, by what
+-- The headline: the world belongs to the file and to what is asked, and it comes to this status and text, by what
 -- the options ask for. Without a mode each question has its answer, and the text is the report on these answers.
 pub record IsReport (options : Options) (file : List ℕ) (status : Status) (text : List ℕ) : Type 0 where
   pub world : World
-  pub of_file : IsWorldOf (profile_for options) file world
+  pub of_file : IsWorldOf options file world
   pub reported : IsReported options.mode options file world status text
 
 -- the text is the line of a fault that the file has
 pub record IsRefusal (options : Options) (file : List ℕ) (status : Status) (text : List ℕ) : Type 0 where
   pub fault : FileFault
-  pub has : HasFault (profile_for options) file fault
+  pub has : HasFault options file fault
   pub status_is : status ≡ status_of_fault fault
   pub text_is : text ≡ line_of fault
 

@@ -3,10 +3,11 @@ use Rattle.std.specs.Prelude.{◌≡◌, ℕ, Option, Some, None, List}
 use Rattle.tm_base.specs.declared.answer.Answer.{Answer}
 use Rattle.tm_base.specs.declared.world.World.{World}
 use Rattle.tm_run.specs.Answers.{AreAnswered}
+use Rattle.tm_run.specs.Marks.{IsMatrixReport}
 use Rattle.tm_run.specs.Needs.{IsNeedsReport}
 use Rattle.tm_run.specs.Report.{report_for, status_of}
 use Rattle.tm_run.specs.declared.options.Mode.{Mode}
-use Rattle.tm_run.specs.declared.options.Mode.TheVariants.{Needs}
+use Rattle.tm_run.specs.declared.options.Mode.TheVariants.{Needs, Matrix}
 use Rattle.tm_run.specs.declared.options.Options.{Options}
 use Rattle.tm_run.specs.declared.status.Status.{Status}
 
@@ -22,3 +23,4 @@ pub record IsAnswersReport (options : Options) (file : List ℕ) (world : World)
 abbrev pub IsReported : Option Mode → Options → List ℕ → World → Status → List ℕ → Type 0
 IsReported None options file world = IsAnswersReport options file world
 IsReported (Some Needs) options file world = IsNeedsReport world
+IsReported (Some Matrix) options file world = IsMatrixReport world

@@ -11,7 +11,7 @@ use Rattle.tm_run.specs.Held.{EachHolds, SomeDoesNot}
 use Rattle.tm_run.specs.Faults.{HasFault, status_of_fault}
 use Rattle.tm_run.specs.Files.{file_bytes, IsAccepted}
 use Rattle.tm_run.specs.Outcomes.{IsFileOutcome, IsReport, IsSettled, usage_line}
-use Rattle.tm_run.specs.Words.{is_read, profile_for}
+use Rattle.tm_run.specs.Words.{is_read}
 use Rattle.tm_run.specs.declared.options.Options.{Options}
 use Rattle.tm_run.specs.declared.status.Status.{Status}
 use Rattle.tm_run.specs.declared.status.Status.TheVariants.{AllYes, Mixed, Usage, ReadFault, WriteFault, Memory}
@@ -38,11 +38,11 @@ module _ (written written' : Option (List ℕ)) (faults faults' : ℕ) where
 pub record Decides (options : Options) (file : List ℕ) (status : Status) (text : List ℕ) : Type 0 where
   pub settled : IsSettled status
   pub outcome : IsFileOutcome options file status text
-  pub accepted : IsAccepted (profile_for options) file → IsReport options file status text
+  pub accepted : IsAccepted options file → IsReport options file status text
   pub only : (other : Status) (line : List ℕ) → IsReport options file other line → (other ≡ status) × (line ≡ text)
   pub each_holds : EachHolds options file → status ≡ AllYes
   pub some_does_not : SomeDoesNot options file → status ≡ Mixed
-  pub faulted : (fault : FileFault) → HasFault (profile_for options) file fault → (status ≡ status_of_fault fault) × (text ≡ line_of fault)
+  pub faulted : (fault : FileFault) → HasFault options file fault → (status ≡ status_of_fault fault) × (text ≡ line_of fault)
 
 -- the outcome of a file is written
 pub record Settles (written written' : Option (List ℕ)) (faults faults' : ℕ) (options : Options) (file : List ℕ) (result : Status) : Type 0 where

@@ -9,7 +9,7 @@ use Rattle.tm_base.specs.declared.profile.Profile.TheVariants.{Le64, Be64, Le32}
 use Rattle.tm_run.specs.declared.options.Choice.{Choice}
 use Rattle.tm_run.specs.declared.options.Choice.TheVariants as choice
 use Rattle.tm_run.specs.declared.options.Mode.{Mode}
-use Rattle.tm_run.specs.declared.options.Mode.TheVariants.{Needs}
+use Rattle.tm_run.specs.declared.options.Mode.TheVariants.{Needs, Matrix}
 use Rattle.tm_run.specs.declared.options.Options.{Options}
 
 -- from one to twenty ASCII digits, whose number is below 2^64
@@ -35,13 +35,18 @@ choice_with name value =
 abbrev pub is_equals : ℕ → Bool
 is_equals b = b == 0x3D
 
--- What one word asks for by itself: `--summary`, a mode, or an option and its value with `=` between them. Where
--- there is no `=` the value is empty, which no option has.
+-- what an option and its value ask for in one word, with `=` between them; where there is no `=` the value is
+-- empty, which no option has
+abbrev pub joined_choice : List ℕ → Option Choice
+joined_choice word = choice_with (before_first is_equals word) (after_first is_equals word)
+
+-- what one word asks for by itself: `--summary`, a mode, or an option that has a value
 abbrev pub choice_of : List ℕ → Option Choice
 choice_of word =
     if bytes_eq word (codes "--summary") then Some choice.Summary
     else (if bytes_eq word (codes "--needs") then Some (choice.Mode Needs)
-    else choice_with (before_first is_equals word) (after_first is_equals word))
+    else (if bytes_eq word (codes "--matrix") then Some (choice.Mode Matrix)
+    else joined_choice word))
 
 -- one more choice before others
 abbrev pub before_choices : Choice → Option (List Choice) → Option (List Choice)

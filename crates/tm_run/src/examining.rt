@@ -1,18 +1,20 @@
-ghost use Rattle.std.specs.Prelude.{◌≡◌, ◌≤◌, ℕ, List, IfOk, IfErr, length, slice_get};
-ghost use Rattle.tm_base.specs.declared.profile.Profile.{Profile};
+ghost use Rattle.std.specs.Prelude.{◌≡◌, ◌≤◌, IfOk, IfErr, length, slice_get};
 ghost use Rattle.tm_names.specs.ApartNames.{HasApartNames};
 ghost use Rattle.tm_names.specs.InForm.{IsInForm};
 ghost use Rattle.tm_run.specs.Examined.{AreTokensOf, IsExamined, IsMeaningOf, IsParsedOf, IsResolvedOf, IsStop, fault_at, no_token_at};
 ghost use Rattle.tm_run.specs.Faults.{start_of};
 ghost use Rattle.tm_run.specs.Files.{file_bytes};
 ghost use Rattle.tm_run.specs.Places.{at_byte};
+ghost use Rattle.tm_run.specs.declared.options.Options.{Options};
 
+use crate::asking::with_questions;
+use crate::closing::world;
+use crate::options::Options;
 use crate::places::at;
 use crate::stop::Stop;
 use std::alloc::Global;
 use std::str;
-use tm_base::{Profile, World};
-use tm_ground::ground;
+use tm_base::World;
 use tm_lex::{LexErr, LexWhy, Token, lex};
 use tm_names::{NameErr, Resolved, check};
 use tm_parse::{ParseErr, Parsed, parse};
@@ -22,7 +24,7 @@ use tm_report::{At, FileFault};
 fn decoded(file: &[u8]) -> Result<&str, Stop>
     requires { length file.now ≤ file_bytes }
     ensures text { IfOk result (λ text. text.now ≡ file.now) }
-    ensures stop { (profile : Profile) → IfErr result (IsStop profile file.now) }
+    ensures stop { (options : Options) → IfErr result (IsStop options file.now) }
 {
     match str::from_utf8(file) {
         Ok(text) => Ok(text),
@@ -45,7 +47,7 @@ fn no_token(why: LexWhy, at: At) -> FileFault
 fn tokens(alloc: Global, text: &str) -> Result<Vec<Token>, Stop>
     requires { length text.now ≤ file_bytes }
     ensures tokens { IfOk result (λ tokens. AreTokensOf text.now tokens.items) }
-    ensures stop { (profile : Profile) → IfErr result (IsStop profile text.now) }
+    ensures stop { (options : Options) → IfErr result (IsStop options text.now) }
 {
     match lex(alloc, text) {
         Ok(tokens) => Ok(tokens),
@@ -89,7 +91,7 @@ fn parsed(alloc: Global, text: &str, tokens: &[Token]) -> Result<Parsed, Stop>
     requires short { length text.now ≤ file_bytes }
     requires tokens { AreTokensOf text.now tokens.now }
     ensures parsed { IfOk result (IsParsedOf text.now tokens.now) }
-    ensures stop { (profile : Profile) → IfErr result (IsStop profile text.now) }
+    ensures stop { (options : Options) → IfErr result (IsStop options text.now) }
 {
     match parse(alloc, text, tokens) {
         Ok(parsed) => Ok(parsed),
@@ -102,23 +104,23 @@ fn parsed(alloc: Global, text: &str, tokens: &[Token]) -> Result<Parsed, Stop>
     }
 }
 
-/// What the names of what a text spells mean, for a profile.
+/// What the names of what a text spells mean, with the questions that a mode asks.
 fn resolved(
     alloc: Global,
-    profile: Profile,
+    options: Options,
     text: &str,
     tokens: &[Token],
     parsed: &Parsed,
 ) -> Result<Resolved, Stop>
     requires short { length text.now ≤ file_bytes }
     requires parsed { IsParsedOf text.now tokens.now parsed.now }
-    ensures resolved { IfOk result (IsResolvedOf profile text.now tokens.now parsed.now) }
+    ensures resolved { IfOk result (IsResolvedOf options text.now tokens.now parsed.now) }
     ensures in_form { IfOk result IsInForm }
     ensures apart { IfOk result HasApartNames }
-    ensures stop { IfErr result (IsStop profile text.now) }
+    ensures stop { IfErr result (IsStop options text.now) }
 {
-    match check(alloc, text, tokens, parsed, profile) {
-        Ok(resolved) => Ok(resolved),
+    match check(alloc, text, tokens, parsed, options.target()) {
+        Ok(resolved) => Ok(with_questions(alloc, options.mode, parsed, resolved)?),
         Err(NameErr::Fault(why, place)) => {
             let names = FileFault::Names(why, start(text, tokens, place as usize));
             Err(Stop::Fault(names))
@@ -127,39 +129,27 @@ fn resolved(
     }
 }
 
-/// What the names of a text mean, for a profile.
-fn meaning(alloc: Global, profile: Profile, text: &str) -> Result<Resolved, Stop>
+/// What the names of a text mean, for what is asked.
+fn meaning(alloc: Global, options: Options, text: &str) -> Result<Resolved, Stop>
     requires { length text.now ≤ file_bytes }
-    ensures meaning { IfOk result (IsMeaningOf profile text.now) }
+    ensures meaning { IfOk result (IsMeaningOf options text.now) }
     ensures in_form { IfOk result IsInForm }
     ensures apart { IfOk result HasApartNames }
-    ensures stop { IfErr result (IsStop profile text.now) }
+    ensures stop { IfErr result (IsStop options text.now) }
 {
     let tokens = tokens(alloc, text)?;
     let parsed = parsed(alloc, text, &tokens)?;
-    resolved(alloc, profile, text, &tokens, &parsed)
+    resolved(alloc, options, text, &tokens, &parsed)
 }
 
-/// The world of a file whose names mean this.
-fn world(alloc: Global, resolved: &Resolved) -> Result<World, Stop>
-    requires form { IsInForm resolved.now }
-    requires names { HasApartNames resolved.now }
-    ensures world { (profile : Profile) (file : List ℕ) → IsMeaningOf profile file resolved.now
-        → IfOk result (IsExamined profile file) }
-    ensures stop { (profile : Profile) (file : List ℕ) → IsMeaningOf profile file resolved.now
-        → IfErr result (IsStop profile file) }
-{
-    let world = ground(alloc, resolved)?;
-    Ok(world)
-}
-
-/// The world of a file of at most 1,048,576 bytes for a profile, or the one fault for which it gets no report.
-pub fn examine(alloc: Global, profile: Profile, file: &[u8]) -> Result<World, Stop>
+/// The world of a file of at most 1,048,576 bytes, for what is asked; or the one fault for which it gets no
+/// report.
+pub fn examine(alloc: Global, options: Options, file: &[u8]) -> Result<World, Stop>
     requires { length file.now ≤ file_bytes }
-    ensures world { IfOk result (IsExamined profile file.now) }
-    ensures stop { IfErr result (IsStop profile file.now) }
+    ensures world { IfOk result (IsExamined options file.now) }
+    ensures stop { IfErr result (IsStop options file.now) }
 {
     let text = decoded(file)?;
-    let resolved = meaning(alloc, profile, text)?;
-    world(alloc, &resolved)
+    let resolved = meaning(alloc, options, text)?;
+    world(alloc, options, &resolved)
 }

@@ -1,10 +1,13 @@
 //! The whole run: from the words and bytes of an input to a report and a status.
 #![tactic(auto)]
 
+mod asking;
+mod closing;
 mod court;
 mod examining;
 mod judging;
 mod kinds;
+mod marks;
 mod need;
 mod need_lines;
 mod needing;

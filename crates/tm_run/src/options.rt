@@ -2,7 +2,7 @@ ghost use Rattle.std.specs.Prelude.{◌≡◌, ◌+◌, ◌≤◌, ◌∷◌, le
 ghost use Rattle.std.specs.Char.{is_ascii_digit};
 ghost use Rattle.std.specs.List.{list_all};
 ghost use Rattle.tm_run.specs.Reading.{IsFirstChoice, IsNextWord};
-ghost use Rattle.tm_run.specs.Words.{asked, choice_of, choice_with, gathered, go_together, no_options, number_of, profile_for, profile_of, texts_of, with_choice};
+ghost use Rattle.tm_run.specs.Words.{asked, choice_of, choice_with, gathered, go_together, joined_choice, no_options, number_of, profile_for, profile_of, texts_of, with_choice};
 
 use tm_base::Profile;
 
@@ -11,6 +11,8 @@ use tm_base::Profile;
 pub enum Mode {
     /// The least assumptions under which each question is answered yes.
     Needs,
+    /// Which of the file's own types may be taken as which.
+    Matrix,
 }
 
 /// What the words of a run ask for.
@@ -159,6 +161,14 @@ fn choice_with(name: &str, value: &str) -> Option<Choice>
     }
 }
 
+/// What an option and its value ask for that stand in one word, with `=` between them.
+fn joined_choice(word: &str) -> Option<Choice>
+    ensures { result ≡ joined_choice word.now }
+{
+    let (name, value) = word.split_once('=')?;
+    choice_with(name, value)
+}
+
 /// What a word asks for by itself.
 fn choice_of(word: &str) -> Option<Choice>
     ensures { result ≡ choice_of word.now }
@@ -166,10 +176,8 @@ fn choice_of(word: &str) -> Option<Choice>
     match word {
         "--summary" => Some(Choice::Summary),
         "--needs" => Some(Choice::Mode(Mode::Needs)),
-        _ => {
-            let (name, value) = word.split_once('=')?;
-            choice_with(name, value)
-        }
+        "--matrix" => Some(Choice::Mode(Mode::Matrix)),
+        _ => joined_choice(word),
     }
 }
 

@@ -1,10 +1,16 @@
-ghost use Rattle.std.specs.Prelude.{◌≡◌, ◌<◌, IfOk};
+ghost use Rattle.std.specs.Prelude.{◌≡◌, ◌<◌, ◌≤◌, false, IfOk, length};
+ghost use Rattle.tm_base.specs.declared.limit.LimitKind.TheVariants.{MatrixTypes};
+ghost use Rattle.tm_base.specs.Limits.{limit_number};
 ghost use Rattle.tm_base.specs.Worlds.{tables_of};
+ghost use Rattle.tm_layout.specs.Made.{IsMadeFor};
+ghost use Rattle.tm_run.specs.Asking.{passes_mode};
+ghost use Rattle.tm_run.specs.Marks.{IsMatrixReport};
 ghost use Rattle.tm_run.specs.Needs.{IsNeedsReport};
 ghost use Rattle.tm_run.specs.Reported.{IsAnswersReport, IsReported};
 
 use crate::court::Court;
 use crate::judging::answers;
+use crate::marks::{all_yes, matrix_lines, types};
 use crate::need_lines::need_lines;
 use crate::needing::{all_met, needs};
 use crate::options::{Mode, Options};
@@ -15,6 +21,7 @@ use std::marker::Brand;
 use std::sync::ledger::{Blank, Ledger};
 use tm_base::{Memory, Text, World};
 use tm_layout::Layouts;
+use tm_matrix::matrix;
 
 /// The status and the text of the answers to the questions of a file's world.
 fn answered<L: Ledger>(
@@ -47,6 +54,24 @@ fn needed<L: Ledger>(
     Ok((status_when(all_met(&needs)), text))
 }
 
+/// The status and the text of the matrix of the types that a world's questions go from.
+fn matrixed<L: Ledger>(
+    alloc: Global,
+    world: &World,
+    layouts: &Layouts,
+    court: &mut Court<L>,
+) -> Result<(Status, Text), Memory>
+    requires court { court.old ≡ tables_of world.now }
+    requires made { IsMadeFor (tables_of world.now) layouts.now }
+    requires few { length world.now.questions ≤ limit_number MatrixTypes }
+    ensures { IfOk result (λ outcome. IsMatrixReport world.now outcome.0 outcome.1) }
+{
+    let types = types(alloc, world)?;
+    let lines = matrix(alloc, world, layouts, court, &types)?;
+    let text = matrix_lines(alloc, world, types.as_slice(), lines.as_slice())?;
+    Ok((status_when(all_yes(lines.as_slice())), text))
+}
+
 /// What the options ask for of a file's world.
 fn reported_by<L: Ledger>(
     alloc: Global,
@@ -58,6 +83,7 @@ fn reported_by<L: Ledger>(
     requires name { blank.name ≡ L.name }
     requires parts { blank.parts ≡ L.parts }
     requires some { 0 < L.parts }
+    requires few { passes_mode options.mode (length world.now.questions) ≡ false }
     ensures { IfOk result (λ outcome.
         IsReported options.mode options file.now world.now outcome.0 outcome.1) }
 {
@@ -66,6 +92,7 @@ fn reported_by<L: Ledger>(
     match options.mode {
         None => answered(alloc, options, file, world, &mut court),
         Some(Mode::Needs) => needed(alloc, world, &mut court),
+        Some(Mode::Matrix) => matrixed(alloc, world, &layouts, &mut court),
     }
 }
 
@@ -76,6 +103,7 @@ pub fn reported(
     file: &[u8],
     world: &World,
 ) -> Result<(Status, Text), Memory>
+    requires { passes_mode options.mode (length world.now.questions) ≡ false }
     ensures { IfOk result (λ outcome.
         IsReported options.mode options file.now world.now outcome.0 outcome.1) }
 {

@@ -8,7 +8,7 @@ ghost use Rattle.tm_run.specs.Faults.{HasFault, IsFaulty};
 ghost use Rattle.tm_run.specs.Files.{file_bytes, IsAccepted};
 ghost use Rattle.tm_run.specs.Outcomes.{IsReport, IsRunOn, IsSettled, WritesFault, WritesOutcome, WritesPrefix, WritesReport};
 ghost use Rattle.tm_run.specs.Runs.{Answers, Decides, Declines, Did, Finishes};
-ghost use Rattle.tm_run.specs.Words.{asked, is_read, profile_for};
+ghost use Rattle.tm_run.specs.Words.{asked, is_read};
 ghost use Rattle.tm_run.specs.declared.options.Options.{Options};
 
 use crate::examining::examine;
@@ -39,10 +39,10 @@ pub fn run<S: Source, K: Sink>(alloc: Global, words: &[String], src: &mut S, out
     // where a type that it reaches is at fault, and else is answered yes exactly where each value of its
     // source, or with `validity` some, fitted, is a value of its target; and what a no shows is true.
     // `IsReport` says it, of the file that was read or generated and of the profile that is asked for. With a
-    // mode the text is what the mode says of the file's questions, and the clauses below speak of that.
+    // mode the text is what the mode says of the file's questions or types, and the clauses below speak of that.
     ensures headline { (options : Options) (file : List ℕ)
         → IsRunOn (asked words.now) (S.left src.old) options file result
-        → IsAccepted (profile_for options) file
+        → IsAccepted options file
         → WritesReport options file result (K.written out.old) (K.written out.new) }
     // No other report is one on the file: it is a function of the file and of what is asked for.
     ensures only_report { (options : Options) (file : List ℕ)
@@ -61,11 +61,11 @@ pub fn run<S: Source, K: Sink>(alloc: Global, words: &[String], src: &mut S, out
     // A file with a fault gets its line and its status.
     ensures fault { (options : Options) (file : List ℕ)
         → IsRunOn (asked words.now) (S.left src.old) options file result
-        → (fault : FileFault) → HasFault (profile_for options) file fault
+        → (fault : FileFault) → HasFault options file fault
         → WritesFault fault result (K.written out.old) (K.written out.new) }
 
     // The cause of each status. A file that `EachHolds` or `SomeDoesNot` speaks of is accepted; what is to hold
-    // of its questions is told by `HoldsFor`, for the mode.
+    // is told by `HoldsFor`, and of which questions by `questions_for`, for the mode.
     ensures all_yes { (options : Options) (file : List ℕ)
         → IsRunOn (asked words.now) (S.left src.old) options file result
         → (result ≡ Status.AllYes ↔ EachHolds options file) }
@@ -75,13 +75,13 @@ pub fn run<S: Source, K: Sink>(alloc: Global, words: &[String], src: &mut S, out
     ensures usage { IsSettled result → (result ≡ Status.Usage ↔ asked words.now ≡ None) }
     ensures bad_text { (options : Options) (file : List ℕ)
         → IsRunOn (asked words.now) (S.left src.old) options file result
-        → (result ≡ Status.BadText ↔ IsFaulty (profile_for options) file Status.BadText) }
+        → (result ≡ Status.BadText ↔ IsFaulty options file Status.BadText) }
     ensures limit { (options : Options) (file : List ℕ)
         → IsRunOn (asked words.now) (S.left src.old) options file result
-        → (result ≡ Status.Limit ↔ IsFaulty (profile_for options) file Status.Limit) }
+        → (result ≡ Status.Limit ↔ IsFaulty options file Status.Limit) }
     ensures ill_formed { (options : Options) (file : List ℕ)
         → IsRunOn (asked words.now) (S.left src.old) options file result
-        → (result ≡ Status.IllFormed ↔ IsFaulty (profile_for options) file Status.IllFormed) }
+        → (result ≡ Status.IllFormed ↔ IsFaulty options file Status.IllFormed) }
     ensures read_fault { result ≡ Status.ReadFault → Rose (S.faults src.old) (S.faults src.new) }
     ensures read_risen { S.faults src.old < S.faults src.new → result ≡ Status.ReadFault }
     ensures write_fault { result ≡ Status.WriteFault → Rose (K.faults out.old) (K.faults out.new) }
@@ -163,9 +163,9 @@ fn answer<K: Sink>(alloc: Global, options: Options, file: &[u8], out: &mut K) ->
 fn judged(alloc: Global, options: Options, file: &[u8]) -> Result<(Status, Text), Stop>
     requires { length file.now ≤ file_bytes }
     ensures report { IfOk result (λ outcome. Decides options file.now outcome.0 outcome.1) }
-    ensures stop { IfErr result (IsStop (profile_for options) file.now) }
+    ensures stop { IfErr result (IsStop options file.now) }
 {
-    let world = examine(alloc, options.target(), file)?;
+    let world = examine(alloc, options, file)?;
     let outcome = reported(alloc, options, file, &world)?;
     Ok(outcome)
 }

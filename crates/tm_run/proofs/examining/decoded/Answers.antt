@@ -7,11 +7,11 @@ use Rattle.tm_run.proofs.FaultLemmas.{broken_only}
 use Rattle.tm_run.proofs.examining.decoded.Goals as goal
 
 pub returns-in-Err-clause-stop : goal.returns-in-Err-clause-stop
-returns-in-Err-clause-stop c = λ profile.
+returns-in-Err-clause-stop c = λ options.
     let (broken, front) = c.in-Err.ensures.cases in
-    let one = broken_only profile c.args.file.now c.valid_up_to.result (record {
+    let one = broken_only options c.args.file.now c.valid_up_to.result (record {
       short = c.requires;
       broken = broken;
       front = subst (λ (n : ℕ). IsValidUpTo c.args.file.now n) (sym c.valid_up_to.ensures) front;
     }) in
-    subst (λ (at : At). IsOnlyFault profile c.args.file.now (NotUtf8 at)) (sym c.at.ensures) one
+    subst (λ (at : At). IsOnlyFault options c.args.file.now (NotUtf8 at)) (sym c.at.ensures) one

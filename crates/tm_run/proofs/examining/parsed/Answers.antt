@@ -22,7 +22,7 @@ returns-in-Ok-clause-parsed c = record {
 }
 
 pub returns-in-Err-At-clause-stop : goal.returns-in-Err-At-clause-stop
-returns-in-Err-At-clause-stop c = λ profile.
+returns-in-Err-At-clause-stop c = λ options.
     let text = c.args.text.now in
     let terminals = terminals_of text c.args.tokens.now in
     let is = c.in-Err-At.field-0-is in
@@ -30,11 +30,11 @@ returns-in-Err-At-clause-stop c = λ profile.
     let files = subst (λ (err : ParseErr). (v : Parsed) → SpellsFile terminals v → err ≡ parse_err.Memory) is c.in-Err-At.ensures.files in
     let faults = subst (λ (err : ParseErr). (p : ℕ) → StopsAt terminals p → (err ≡ parse_err.At p) ⊎ (err ≡ parse_err.Memory)) is c.in-Err-At.ensures.faults in
     let limits = subst (λ (err : ParseErr). (k : LimitKind) (p : ℕ) → PassesLimitAt terminals k p → (err ≡ parse_err.Limit k p) ⊎ (err ≡ parse_err.Memory)) is c.in-Err-At.ensures.limits in
-    subst (λ (f : FileFault). IsOnlyFault profile text f) (sym c.fault.ensures)
-    (parser_fault profile text c.args.tokens.now c.requires.tokens c.in-Err-At.place cause files faults limits)
+    subst (λ (f : FileFault). IsOnlyFault options text f) (sym c.fault.ensures)
+    (parser_fault options text c.args.tokens.now c.requires.tokens c.in-Err-At.place cause files faults limits)
 
 pub returns-in-Err-Limit-clause-stop : goal.returns-in-Err-Limit-clause-stop
-returns-in-Err-Limit-clause-stop c = λ profile.
+returns-in-Err-Limit-clause-stop c = λ options.
     let text = c.args.text.now in
     let tokens = c.args.tokens.now in
     let terminals = terminals_of text tokens in
@@ -45,5 +45,5 @@ returns-in-Err-Limit-clause-stop c = λ profile.
     let files = subst (λ (err : ParseErr). (v : Parsed) → SpellsFile terminals v → err ≡ parse_err.Memory) is c.in-Err-Limit.ensures.files in
     let faults = subst (λ (err : ParseErr). (p : ℕ) → StopsAt terminals p → (err ≡ parse_err.At p) ⊎ (err ≡ parse_err.Memory)) is c.in-Err-Limit.ensures.faults in
     let limits = subst (λ (err : ParseErr). (k : LimitKind) (p : ℕ) → PassesLimitAt terminals k p → (err ≡ parse_err.Limit k p) ⊎ (err ≡ parse_err.Memory)) is c.in-Err-Limit.ensures.limits in
-    subst (λ (at : At). IsOnlyFault profile text (Passed kind (Some at))) (sym c.start.ensures)
-    (parser_limit profile text tokens c.requires.tokens kind place cause files faults limits)
+    subst (λ (at : At). IsOnlyFault options text (Passed kind (Some at))) (sym c.start.ensures)
+    (parser_limit options text tokens c.requires.tokens kind place cause files faults limits)
