@@ -10,7 +10,7 @@ use tm_region::Order;
 fn reference(alloc: Global, id: u32) -> Result<Word, Memory> {
     let mut word = List::new(alloc);
     for byte in 0..8 {
-        word.add(Cell::Ptr(RefId(id), byte as u8))?;
+        word.add(Cell::Ptr(RefId(id), byte))?;
     }
     Ok(word)
 }
