@@ -2,6 +2,8 @@ mod DepthLemmas
 mod JudgedLemmas
 mod LawLemmas
 mod LineFormLemmas
+mod LineReadLemmas
+mod NumberLemmas
 mod PartFormLemmas
 mod Rows
 mod ShownLemmas

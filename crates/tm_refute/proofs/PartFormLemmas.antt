@@ -1,17 +1,14 @@
 -- The parts of a word's text: each has a text of its own, without a space, an asterisk or the end of a line.
-use Rattle.std.proofs.Common.{◌≡◌, ℕ, ◌+◌, ◌/◌, ◌%◌, ◌<◌, ◌≤◌, ◌^◌, ◌⊎◌, inl, inr, refl, ap, Bool, true, false, ◌==◌, not, if◌then◌else◌, arith}
+use Rattle.std.proofs.Common.{◌≡◌, ℕ, ◌+◌, ◌/◌, ◌%◌, ◌<◌, ◌≤◌, ◌^◌, ◌⊎◌, inl, inr, refl, ap, Bool, true, false, not, if◌then◌else◌, arith}
 use Rattle.std.specs.Prelude.{nat_lt, nat_le}
 use Rattle.std.specs.List.{list_all}
 use Rattle.std.specs.Fmt.{decimal, digit_glyph}
 use Rattle.std.proofs.lemmas.Bool.{and_parts, and_from, cases_lt, leb-true, lt-ltb, ne_eqb}
 use Rattle.std.proofs.lemmas.Bool.Decides.{nat_tests}
 use Rattle.std.proofs.lemmas.Fmt.{decimal_injective}
+pub use Rattle.tm_refute.specs.Taken.{but}
 use Rattle.tm_refute.specs.WordForms.{Part, byte, uninit, reference, IsPart, part_text}
 use Rattle.tm_refute.proofs.TextLemmas.{decimal-digits, is_digit, list_all-weaker}
-
--- any byte but one
-abbrev pub but : ℕ → ℕ → Bool
-but c x = not (x == c)
 
 but-is : (c x : ℕ) → (x ≡ c → ⊥) → but c x ≡ true
 but-is c x ne = ap not (ne_eqb x c ne)

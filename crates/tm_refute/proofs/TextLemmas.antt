@@ -1,16 +1,11 @@
 -- Texts that are cut at the first byte of a kind, and what digits are.
-use Rattle.std.proofs.Common.{◌≡◌, ℕ, ◌+◌, ◌%◌, ◌<◌, ◌≤◌, ◌^◌, refl, sym, ◌∙◌, ap, Bool, true, false, ◌&&◌, List, [], ◌∷◌, ◌++◌, arith}
-use Rattle.std.specs.Prelude.{nat_le}
+use Rattle.std.proofs.Common.{◌≡◌, ℕ, ◌+◌, ◌%◌, ◌<◌, ◌≤◌, ◌^◌, refl, sym, ◌∙◌, ap, Bool, true, List, [], ◌∷◌, ◌++◌, arith}
 use Rattle.std.specs.List.{list_all}
 use Rattle.std.specs.Fmt.{decimal}
 use Rattle.std.proofs.lemmas.Bool.{and_parts, and_from, both_ways, le-leb}
 use Rattle.std.proofs.lemmas.Fmt.{decimal_by_steps}
 use Rattle.std.proofs.lemmas.List.Folds.{list_all-append}
-
--- what follows doesn't begin with a byte that passes
-abbrev pub Stops : (ℕ → Bool) → List ℕ → Type 0
-Stops p [] = Unit {0}
-Stops p (x ∷ xs) = p x ≡ false
+pub use Rattle.tm_refute.specs.Taken.{Stops, is_digit}
 
 -- where all of a front passes and what follows doesn't, it is known where the front ends
 pub cut : (p : ℕ → Bool) (a b r s : List ℕ) → list_all p a ≡ true → list_all p b ≡ true → Stops p r → Stops p s → a ++ r ≡ b ++ s → (a ≡ b) × (r ≡ s)
@@ -28,10 +23,6 @@ cut p (x ∷ a) (y ∷ b) r s all_a all_b stop_r stop_s e =
     let others : a ++ r ≡ b ++ s = cc in
     let (front, back) = cut p a b r s (and_parts (p x) (list_all p a) all_a).1 (and_parts (p y) (list_all p b) all_b).1 stop_r stop_s others in
     (cc, back)
-
--- a byte of a decimal number
-abbrev pub is_digit : ℕ → Bool
-is_digit x = nat_le 48 x && nat_le x 57
 
 pub digit-is : (d : ℕ) → d < 10 → is_digit (48 + d) ≡ true
 digit-is d h = and_from _ _ (le-leb 48 (48 + d) (omega arith)) (le-leb (48 + d) 57 (omega arith))

@@ -5,3 +5,4 @@ pub mod Judged
 pub mod Ready
 pub mod WordForms
 pub mod TextForms
+pub mod Taken

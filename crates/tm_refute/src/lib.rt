@@ -12,6 +12,7 @@ mod fitted;
 mod judged;
 mod law;
 mod pieces;
+mod reader;
 mod refutation;
 mod standing;
 mod verifier;
