@@ -6,8 +6,10 @@ mod LineReadLemmas
 mod NumberLemmas
 mod PartFormLemmas
 mod Rows
+mod RunLemmas
 mod ShownLemmas
 mod TextFormLemmas
 mod TextLemmas
 mod VerifyLemmas
 mod WordFormLemmas
+mod WordReadLemmas

@@ -13,7 +13,7 @@ use Rattle.tm_refute.proofs.PartFormLemmas.{but, decimal-other, part-apart, part
 
 -- ---- pieces
 
-part-whole : (p : Part) → IsPart p → list_all (but 42) (part_text p) ≡ true
+pub part-whole : (p : Part) → IsPart p → list_all (but 42) (part_text p) ≡ true
 part-whole p is = part-other 42 (omega arith) refl refl p is
 
 -- `empty` is no part, nor one so many times
@@ -39,7 +39,7 @@ module _ (pointer : ℕ) where
       let ends = cut (but 42) (part_text p) (part_text q) [] (codes "*" ++ decimal n) (part-whole p is_p) (part-whole q is_q) tt refl (append-nil (part_text p) ∙ (sym once.text_is ∙ times.text_is)) in
       let never : [] ≡ 42 ∷ decimal n = ends.1 in cc
 
-  piece-apart : (text : List ℕ) (u v : Word) → IsPiece pointer text u → IsPiece pointer text v → u ≡ v
+  pub piece-apart : (text : List ℕ) (u v : Word) → IsPiece pointer text u → IsPiece pointer text v → u ≡ v
   piece-apart text u v (p, is_p, inl a) (q, is_q, inl b) =
       let same = part-apart p q is_p is_q (sym a.text_is ∙ b.text_is) in
       a.cells_are ∙ ap (part_cells pointer) same ∙ sym b.cells_are
@@ -55,7 +55,7 @@ module _ (pointer : ℕ) where
       a.cells_are ∙ ap (λ (r : Part). repeated n (part_cells pointer r)) same ∙ ap (λ (k : ℕ). repeated k (part_cells pointer q)) times ∙ sym b.cells_are
 
   -- a piece has no space
-  piece-whole : (text : List ℕ) (u : Word) → IsPiece pointer text u → list_all (but 32) text ≡ true
+  pub piece-whole : (text : List ℕ) (u : Word) → IsPiece pointer text u → list_all (but 32) text ≡ true
   piece-whole text u (p, is, inl a) = ap (list_all (but 32)) a.text_is ∙ part-other 32 (omega arith) refl refl p is
   piece-whole text u (p, is, inr (n, a)) =
       let few = a.few in
@@ -72,7 +72,7 @@ module _ (pointer : ℕ) where
       ∙ and_from _ _ (part-other 10 (omega arith) refl refl p is) (decimal-other 10 n (omega arith) (omega arith))
 
   -- a text without a space isn't one of two pieces or more
-  alone : (text first rest : List ℕ) → list_all (but 32) text ≡ true → list_all (but 32) first ≡ true → text ≡ first ++ (codes " " ++ rest) → ⊥
+  pub alone : (text first rest : List ℕ) → list_all (but 32) text ≡ true → list_all (but 32) first ≡ true → text ≡ first ++ (codes " " ++ rest) → ⊥
   alone text first rest whole part e =
       let ends = cut (but 32) text first [] (codes " " ++ rest) whole part tt refl (append-nil text ∙ e) in
       let never : [] ≡ 32 ∷ rest = ends.1 in cc
@@ -95,7 +95,7 @@ module _ (pointer : ℕ) where
   no-piece u (p, is, inl a) = no-part p a.text_is
   no-piece u (p, is, inr (n, a)) = no-times p n is a.text_is
 
-  no-pieces : (text : List ℕ) (u : Word) → text ≡ codes "empty" → ArePieces pointer text u → ⊥
+  pub no-pieces : (text : List ℕ) (u : Word) → text ≡ codes "empty" → ArePieces pointer text u → ⊥
   no-pieces text u is (one _ _ a) = no-piece u (subst (λ (t : List ℕ). IsPiece pointer t u) is a)
   no-pieces text u is (more _ first rest _ a1 a2 e cells a others) =
       alone text first rest (ap (list_all (but 32)) is) (piece-whole first a1 a) e

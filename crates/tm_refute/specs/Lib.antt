@@ -6,3 +6,4 @@ pub mod Ready
 pub mod WordForms
 pub mod TextForms
 pub mod Taken
+pub mod Runs

@@ -11,12 +11,15 @@ mod depths;
 mod fitted;
 mod judged;
 mod law;
+mod part;
 mod pieces;
 mod reader;
 mod refutation;
 mod standing;
+mod stop;
 mod verifier;
 mod verifying;
+mod word;
 
 pub use law::{refutations_are_true, texts_are_read_one_way};
 pub use refutation::{Entry, Piece, Proof, Refutation};
