@@ -5,6 +5,7 @@ mod LineFormLemmas
 mod LineReadLemmas
 mod NumberLemmas
 mod PartFormLemmas
+mod PieceReadLemmas
 mod Rows
 mod RunLemmas
 mod ShownLemmas

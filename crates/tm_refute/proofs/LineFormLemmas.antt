@@ -21,7 +21,7 @@ use Rattle.tm_refute.proofs.WordFormLemmas.{read-one-way, word-whole}
 use Rattle.tm_refute.proofs.PartFormLemmas.{but, decimal-other}
 
 -- two numbers that stand before what is no digit
-number-apart : (n m : ℕ) (r s : List ℕ) → n < 2 ^ 32 → m < 2 ^ 32 → Stops is_digit r → Stops is_digit s → decimal n ++ r ≡ decimal m ++ s → (n ≡ m) × (r ≡ s)
+pub number-apart : (n m : ℕ) (r s : List ℕ) → n < 2 ^ 32 → m < 2 ^ 32 → Stops is_digit r → Stops is_digit s → decimal n ++ r ≡ decimal m ++ s → (n ≡ m) × (r ≡ s)
 number-apart n m r s small little stop_r stop_s e =
     let (front, back) = cut is_digit (decimal n) (decimal m) r s (decimal-digits n (omega arith)) (decimal-digits m (omega arith)) stop_r stop_s e in
     (decimal_injective n m (omega arith) (omega arith) front, back)
@@ -45,7 +45,7 @@ rule-letter Lifetime = refl
 rule-apart : (a b : LocalRule) → local_text a ≡ local_text b → a ≡ b
 rule-apart a b e = sym (rule-letter a) ∙ ap (λ (text : List ℕ). by_letter (letter text)) e ∙ rule-letter b
 
-rule-whole : (rule : LocalRule) → list_all (but 10) (local_text rule) ≡ true
+pub rule-whole : (rule : LocalRule) → list_all (but 10) (local_text rule) ≡ true
 rule-whole MoreUnique = refl
 rule-whole TooBig = refl
 rule-whole Alignment = refl
@@ -81,7 +81,7 @@ module _ (pointer : ℕ) where
       ∙ (let small = a.offset in and_from _ _ (decimal-other 10 p.offset (omega arith) (omega arith)) (word-whole pointer a.word_text p.word a.word))
 
   -- what stands behind the depth is no digit
-  proof-stops : (depth : ℕ) (text : List ℕ) (p : Proof) → IsProofText pointer depth text p → Stops is_digit text
+  pub proof-stops : (depth : ℕ) (text : List ℕ) (p : Proof) → IsProofText pointer depth text p → Stops is_digit text
   proof-stops depth text (Local rule) (e, is) = subst (Stops is_digit) (sym is) refl
   proof-stops depth text (Forward piece) (some, rest, is, a) = subst (Stops is_digit) (sym is) refl
   proof-stops depth text (Reverse piece) (some, rest, is, a) = subst (Stops is_digit) (sym is) refl
@@ -91,7 +91,7 @@ module _ (pointer : ℕ) where
   proof-whole depth text (Forward piece) (some, rest, is, a) = ap (list_all (but 10)) is ∙ piece-whole rest piece a
   proof-whole depth text (Reverse piece) (some, rest, is, a) = ap (list_all (but 10)) is ∙ piece-whole rest piece a
 
-  proof-apart : (depth other : ℕ) (text line : List ℕ) (p q : Proof) → text ≡ line → IsProofText pointer depth text p → IsProofText pointer other line q → p ≡ q
+  pub proof-apart : (depth other : ℕ) (text line : List ℕ) (p q : Proof) → text ≡ line → IsProofText pointer depth text p → IsProofText pointer other line q → p ≡ q
   proof-apart depth other text line (Local rule) (Local first) e (_, is) (_, at) = ap Local (rule-apart rule first (ap (drop 2) (sym is ∙ e ∙ at)))
   proof-apart depth other text line (Forward p) (Forward q) e (_, rest, is, a) (_, back, at, b) = ap Forward (piece-apart rest back p q (ap (drop 13) (sym is ∙ e ∙ at)) a b)
   proof-apart depth other text line (Reverse p) (Reverse q) e (_, rest, is, a) (_, back, at, b) = ap Reverse (piece-apart rest back p q (ap (drop 13) (sym is ∙ e ∙ at)) a b)

@@ -8,10 +8,12 @@
 #![tactic(auto)]
 
 mod depths;
+mod entry;
 mod fitted;
 mod judged;
 mod law;
 mod part;
+mod piece_text;
 mod pieces;
 mod reader;
 mod refutation;
