@@ -1,6 +1,8 @@
 mod DepthLemmas
+mod HeaderReadLemmas
 mod JudgedLemmas
 mod LawLemmas
+mod LeadsLemmas
 mod LineFormLemmas
 mod LineReadLemmas
 mod NumberLemmas
@@ -11,6 +13,7 @@ mod RunLemmas
 mod ShownLemmas
 mod TextFormLemmas
 mod TextLemmas
+mod TextReadLemmas
 mod VerifyLemmas
 mod WordFormLemmas
 mod WordReadLemmas

@@ -19,7 +19,7 @@ module _ (pointer : ℕ) where
   entry-ends line other x same e a = absurd (omega (arith, byte-at 0 _ _ (sym e ∙ same ∙ a.text_is)))
 
   -- what goes on ends with its line
-  follows-whole : (read : Read) (line : List ℕ) (next : Read) → Follows pointer read line next → list_all (but 10) line ≡ true
+  pub follows-whole : (read : Read) (line : List ℕ) (next : Read) → Follows pointer read line next → list_all (but 10) line ≡ true
   follows-whole nothing line next (number, small, e, is) = ap (list_all (but 10)) e ∙ decimal-other 10 number (omega arith) (omega arith)
   follows-whole (question number) line next (text, top, e, a, is) = ap (list_all (but 10)) e ∙ piece-whole pointer text top a
   follows-whole (begun number x) line next (inl (e, is)) = ap (list_all (but 10)) e

@@ -7,3 +7,4 @@ pub mod WordForms
 pub mod TextForms
 pub mod Taken
 pub mod Runs
+pub mod LinesRead

@@ -3,13 +3,15 @@
 //! A refutation shows that the answer to a question isn't yes: by a value of the source with which the
 //! target doesn't go along, and by pairs of references that fail, each resting on pairs that fail at
 //! lesser depths. [`verify`] says whether one holds; it asks what a value is, how references break the
-//! local rules, and nothing else. [`refutations_are_true`] is what one shows wherever it holds, and
-//! [`texts_are_read_one_way`] says that its text is read in one way.
+//! local rules, and nothing else. [`refutations_are_true`] is what one shows wherever it holds. [`read_text`]
+//! reads one from its text, or tells the first line that is bad; [`texts_are_read_one_way`] says that there
+//! is one way to do so.
 #![tactic(auto)]
 
 mod depths;
 mod entry;
 mod fitted;
+mod header;
 mod judged;
 mod law;
 mod part;
@@ -19,10 +21,13 @@ mod reader;
 mod refutation;
 mod standing;
 mod stop;
+mod text;
 mod verifier;
 mod verifying;
 mod word;
 
 pub use law::{refutations_are_true, texts_are_read_one_way};
 pub use refutation::{Entry, Piece, Proof, Refutation};
+pub use stop::TextErr;
+pub use text::read_text;
 pub use verifying::verify;
