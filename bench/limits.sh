@@ -1,22 +1,20 @@
 #!/usr/bin/env bash
 # Usage: bench/limits.sh [SECONDS [KILOBYTES]]
-# The dearest files that the limits let through: the seconds, the greatest memory and the status of a run over each, which
-# is ended after so many seconds (600) and has no more than so many kilobytes of memory (4,000,000); and of those that are
-# done in a minute the most bytes of stack.
+# The dearest files that the limits let through: the seconds, the greatest memory and the status of a run over each. A run
+# is ended after so many seconds (600), has no more than so many kilobytes of memory (4,000,000), and 128 of stack.
 set -u
 . "$(dirname "${BASH_SOURCE[0]}")/program.sh"
 most_seconds=${1:-600}
 most_memory=${2:-4000000}
 
 measure() { # NAME
-    local status seconds memory stack=
-    (ulimit -v "$most_memory" && exec timeout "$most_seconds" /usr/bin/env time -o "$work/time" -f '%e %M' \
-        "$program" <"$work/file" >"$work/out")
+    local status seconds memory
+    (ulimit -s 128 && ulimit -v "$most_memory" && exec timeout "$most_seconds" \
+        /usr/bin/env time -o "$work/time" -f '%e %M' "$program" <"$work/file" >"$work/out")
     status=$?
     read -r seconds memory < <(tail -n 1 "$work/time")
-    [ "$status" = 124 ] && seconds="over $most_seconds" memory=unknown
-    case $seconds in [0-9].* | 1[0-9].*) [ "$status" = 7 ] || stack=", $(stack_of "$work/file") bytes of stack" ;; esac
-    echo "$1, $(wc -c <"$work/file") bytes: $seconds s, $memory kB$stack, status $status: $(tail -n 1 "$work/out")"
+    [ "$status" != 124 ] || seconds="over $most_seconds" memory=unknown
+    echo "$1, $(wc -c <"$work/file") bytes: $seconds s, $memory kB, status $status: $(tail -n 1 "$work/out")"
 }
 
 # As many questions as a file may have, each of types as large as a type may be.
