@@ -7,6 +7,7 @@ pub mod MarkLemmas
 pub mod AnswerLemmas
 pub mod NeedLemmas
 pub mod NeedTextLemmas
+pub mod MatchLemmas
 pub mod OverLemmas
 pub mod CourtLemmas
 pub mod OnlyLemmas
@@ -14,5 +15,6 @@ pub mod DecideLemmas
 pub mod KeepLemmas
 pub mod DoneLemmas
 pub mod RunLemmas
+pub mod ByteLemmas
 pub mod WordLemmas
 mod Worked

@@ -22,17 +22,20 @@ use Rattle.tm_run.specs.Examined.{IsExamined}
 use Rattle.tm_run.specs.Files.{IsWorldOf}
 use Rattle.tm_run.specs.Held.{EachHolds, HoldsFor, SomeDoesNot, questions_for}
 use Rattle.tm_run.specs.Marks.{is_line_yes, matrix_lines, matrix_questions, types_of}
+use Rattle.tm_run.specs.Matches.{AreValueOf, IsMatch, is_valid, match_lines}
 use Rattle.tm_run.specs.Needs.{HoldsUnderSome, IsNeed, is_met, need_lines}
 use Rattle.tm_run.specs.Outcomes.{IsReport}
 use Rattle.tm_run.specs.Report.{generated_line, report_by, report_for, report_of, status_of, status_when, summary_of}
 use Rattle.tm_run.specs.Reported.{IsReported}
+use Rattle.tm_run.specs.declared.matched.Match.{Match}
 use Rattle.tm_run.specs.declared.need.Need.{Need}
 use Rattle.tm_run.specs.declared.options.Mode.{Mode}
-use Rattle.tm_run.specs.declared.options.Mode.TheVariants.{Needs, Matrix}
+use Rattle.tm_run.specs.declared.options.Mode.TheVariants.{Needs, Matrix, Bytes}
 use Rattle.tm_run.specs.declared.options.Options.{Options}
 use Rattle.tm_run.specs.declared.status.Status.{Status}
 use Rattle.tm_run.proofs.AnswerLemmas.{answer-means-holding}
 use Rattle.tm_run.proofs.MarkLemmas.{lines-same, matrix-verdict}
+use Rattle.tm_run.proofs.MatchLemmas.{match-means, match-same}
 use Rattle.tm_run.proofs.NeedLemmas.{need-means, need-same}
 use Rattle.tm_run.proofs.VerdictLemmas.{HasVerdict, verdict, zip-same, zip-weaker}
 
@@ -45,6 +48,9 @@ reported-verdict None options file world status text r =
 reported-verdict (Some Needs) options file world status text r =
     subst (HasVerdict (HoldsUnderSome (tables_of world)) world.questions) (sym r.status_is)
     (verdict (IsNeed (tables_of world)) (HoldsUnderSome (tables_of world)) is_met (need-means (tables_of world)) world.questions r.needs r.each)
+reported-verdict (Some (Bytes bytes)) options file world status text r =
+    subst (HasVerdict (AreValueOf bytes (tables_of world)) world.questions) (sym r.status_is)
+    (verdict (IsMatch (tables_of world) bytes) (AreValueOf bytes (tables_of world)) is_valid (match-means (tables_of world) bytes) world.questions r.matches r.each)
 reported-verdict (Some Matrix) options file world status text r =
     subst (HasVerdict (HoldsOf (tables_of world)) (matrix_questions (tables_of world) world.questions)) (sym r.status_is)
     (matrix-verdict (tables_of world) (types_of world.questions) r.lines r.marked)
@@ -74,6 +80,10 @@ module _ (one other : World) (same : AreOneWorld other one) where
     needs-same : (ours theirs : List Need) → AllZip (IsNeed (tables_of one)) one.questions ours → AllZip (IsNeed (tables_of other)) other.questions theirs → theirs ≡ ours
     needs-same ours theirs h k = zip-same (IsNeed (tables_of one)) one.questions theirs ours (λ ask i. need-same (tables_of one) ask (apart ask i)) (moved IsNeed theirs k) h
 
+    matches-same : (bytes : List ℕ) (ours theirs : List Match) → AllZip (IsMatch (tables_of one) bytes) one.questions ours → AllZip (IsMatch (tables_of other) bytes) other.questions theirs → theirs ≡ ours
+    matches-same bytes ours theirs h k =
+        zip-same (IsMatch (tables_of one) bytes) one.questions theirs ours (λ ask i. match-same (tables_of one) bytes ask (apart ask i)) (moved (λ tables. IsMatch tables bytes) theirs k) h
+
     marks-same : (ours theirs : List Line) → IsMatrix (tables_of one) (types_of one.questions) ours → IsMatrix (tables_of other) (types_of other.questions) theirs → theirs ≡ ours
     marks-same ours theirs h k =
         lines-same (tables_of one) (types_of one.questions) ours theirs h
@@ -91,6 +101,11 @@ module _ (one other : World) (same : AreOneWorld other one) where
         let e = needs-same r.needs s.needs r.each s.each in (
           s.status_is ∙ ap (λ needs. status_when (list_all is_met needs)) e ∙ sym r.status_is,
           s.text_is ∙ ap (λ tables. need_lines tables 1 s.needs) same.tables ∙ ap (need_lines (tables_of one) 1) e ∙ sym r.text_is,
+        )
+    reported-same (Some (Bytes bytes)) status status' text text' r s =
+        let e = matches-same bytes r.matches s.matches r.each s.each in (
+          s.status_is ∙ ap (λ matches. status_when (list_all is_valid matches)) e ∙ sym r.status_is,
+          s.text_is ∙ ap (λ tables. match_lines tables 1 s.matches) same.tables ∙ ap (match_lines (tables_of one) 1) e ∙ sym r.text_is,
         )
     reported-same (Some Matrix) status status' text text' r s =
         let e = marks-same r.lines s.lines r.marked s.marked in (

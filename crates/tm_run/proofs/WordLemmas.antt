@@ -1,5 +1,5 @@
 -- What words ask for, one option after another; and the number that a text of digits writes.
-use Rattle.std.proofs.Common.{◌≡◌, ◌∙◌, ℕ, ◌<◌, ◌≤◌, ◌^◌, true, Option, Some, None, Result, Ok, Err, List, [], ◌∷◌, length, refl, sym, ap, subst, rules, option_and_then}
+use Rattle.std.proofs.Common.{◌≡◌, ◌∙◌, ℕ, ◌<◌, ◌≤◌, ◌^◌, true, Option, Some, None, Result, Ok, Err, IfOk, List, [], ◌∷◌, length, refl, sym, ap, subst, rules, option_and_then}
 use Rattle.std.specs.Char.{is_ascii_digit}
 use Rattle.std.specs.List.{list_all}
 use Rattle.std.specs.Result.{OkIff, result_ok}
@@ -39,7 +39,7 @@ unfolding choices_of
 first-alone word [] choice e = rw e refl
 first-alone word (next ∷ words) choice e = rw e refl
 
-pub first-two : (word next : List ℕ) (words behind : List (List ℕ)) (found : Option Choice) → choice_of word ≡ None → words ≡ next ∷ behind → found ≡ choice_with word next
+first-two : (word next : List ℕ) (words behind : List (List ℕ)) (found : Option Choice) → choice_of word ≡ None → words ≡ next ∷ behind → found ≡ choice_with word next
     → IsFirstChoice (word ∷ words) found behind
 unfolding choices_of
 first-two word next words behind found none is with = subst (λ (ws : List (List ℕ)). IsFirstChoice (word ∷ ws) found behind) (sym is) (by found with)
@@ -47,6 +47,11 @@ first-two word next words behind found none is with = subst (λ (ws : List (List
     by : (found : Option Choice) → found ≡ choice_with word next → IsFirstChoice (word ∷ next ∷ behind) found behind
     by None e = rw (none, sym e) refl
     by (Some choice) e = rw (none, sym e) refl
+
+pub first-two-if : {E : Type 0} (word next : List ℕ) (words behind : List (List ℕ)) (result : Result (Option Choice) E) → choice_of word ≡ None → words ≡ next ∷ behind
+    → IfOk result (λ found. found ≡ choice_with word next) → IfOk result (λ found. IsFirstChoice (word ∷ words) found behind)
+first-two-if word next words behind (Ok found) none is with = first-two word next words behind found none is with
+first-two-if word next words behind (Err e) none is with = tt
 
 pub first-end : (word : List ℕ) (words behind : List (List ℕ)) (found : Option Choice) → choice_of word ≡ None → words ≡ [] → found ≡ None → IsFirstChoice (word ∷ words) found behind
 unfolding choices_of

@@ -9,7 +9,7 @@ use Rattle.tm_names.specs.declared.resolved.Resolved.{Resolved}
 use Rattle.tm_parse.specs.declared.parsed.Decl.{Decl}
 use Rattle.tm_parse.specs.declared.parsed.Parsed.{Parsed}
 use Rattle.tm_run.specs.declared.options.Mode.{Mode}
-use Rattle.tm_run.specs.declared.options.Mode.TheVariants.{Needs, Matrix}
+use Rattle.tm_run.specs.declared.options.Mode.TheVariants.{Needs, Matrix, Bytes}
 
 -- the type of a definition without parameters, by its number
 abbrev pub own_type : ℕ → Open
@@ -33,10 +33,12 @@ own_questions k (decl ∷ decls) = own_if_plain k decl.params ++ own_questions (
 abbrev pub with_questions : Option Mode → Parsed → Resolved → Resolved
 with_questions None parsed resolved = resolved
 with_questions (Some Needs) parsed resolved = resolved
+with_questions (Some (Bytes bytes)) parsed resolved = resolved
 with_questions (Some Matrix) parsed resolved = record resolved { asks = own_questions 0 parsed.decls }
 
 -- so many questions are more than the mode takes: a matrix has no more types than its limit
 abbrev pub passes_mode : Option Mode → ℕ → Bool
 passes_mode None questions = false
 passes_mode (Some Needs) questions = false
+passes_mode (Some (Bytes bytes)) questions = false
 passes_mode (Some Matrix) questions = nat_lt (limit_number MatrixTypes) questions

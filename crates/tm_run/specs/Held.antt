@@ -8,21 +8,25 @@ use Rattle.tm_base.specs.Tables.{Tables}
 use Rattle.tm_base.specs.Worlds.{tables_of}
 use Rattle.tm_run.specs.Files.{IsWorldOf}
 use Rattle.tm_run.specs.Marks.{matrix_questions}
+use Rattle.tm_run.specs.Matches.{AreValueOf}
 use Rattle.tm_run.specs.Needs.{HoldsUnderSome}
 use Rattle.tm_run.specs.declared.options.Mode.{Mode}
-use Rattle.tm_run.specs.declared.options.Mode.TheVariants.{Needs, Matrix}
+use Rattle.tm_run.specs.declared.options.Mode.TheVariants.{Needs, Matrix, Bytes}
 use Rattle.tm_run.specs.declared.options.Options.{Options}
 
--- Without a mode, that a question is to be answered yes; with `--needs`, that it is under some assumptions.
+-- Without a mode, that a question is to be answered yes; with `--needs`, that it is under some assumptions; with
+-- `--bytes`, that the bytes are a value of its target.
 abbrev pub HoldsFor : Option Mode → Tables → Ask → Type 0
 HoldsFor None = HoldsOf
 HoldsFor (Some Needs) = HoldsUnderSome
 HoldsFor (Some Matrix) = HoldsOf
+HoldsFor (Some (Bytes bytes)) = AreValueOf bytes
 
 -- the questions of which it is to hold: those that are asked, and of a matrix that of each mark
 abbrev pub questions_for : Option Mode → Tables → List Ask → List Ask
 questions_for None tables asks = asks
 questions_for (Some Needs) tables asks = asks
+questions_for (Some (Bytes bytes)) tables asks = asks
 questions_for (Some Matrix) tables asks = matrix_questions tables asks
 
 -- the file is accepted, and that holds of each of these questions

@@ -8,6 +8,7 @@ pub mod Held
 pub mod NeedTexts
 pub mod Marks
 pub mod Needs
+pub mod Matches
 pub mod Outcomes
 pub mod Places
 pub mod Reading

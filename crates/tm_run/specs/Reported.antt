@@ -4,10 +4,11 @@ use Rattle.tm_base.specs.declared.answer.Answer.{Answer}
 use Rattle.tm_base.specs.declared.world.World.{World}
 use Rattle.tm_run.specs.Answers.{AreAnswered}
 use Rattle.tm_run.specs.Marks.{IsMatrixReport}
+use Rattle.tm_run.specs.Matches.{IsBytesReport}
 use Rattle.tm_run.specs.Needs.{IsNeedsReport}
 use Rattle.tm_run.specs.Report.{report_for, status_of}
 use Rattle.tm_run.specs.declared.options.Mode.{Mode}
-use Rattle.tm_run.specs.declared.options.Mode.TheVariants.{Needs, Matrix}
+use Rattle.tm_run.specs.declared.options.Mode.TheVariants.{Needs, Matrix, Bytes}
 use Rattle.tm_run.specs.declared.options.Options.{Options}
 use Rattle.tm_run.specs.declared.status.Status.{Status}
 
@@ -24,3 +25,4 @@ abbrev pub IsReported : Option Mode → Options → List ℕ → World → Statu
 IsReported None options file world = IsAnswersReport options file world
 IsReported (Some Needs) options file world = IsNeedsReport world
 IsReported (Some Matrix) options file world = IsMatrixReport world
+IsReported (Some (Bytes bytes)) options file world = IsBytesReport bytes world

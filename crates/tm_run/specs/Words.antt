@@ -3,14 +3,17 @@ use Rattle.std.specs.Prelude.{String, ℕ, ◌==◌, ◌^◌, ◌&&◌, ◌||◌
 use Rattle.std.specs.Global.{Global}
 use Rattle.std.specs.List.{before_first, after_first, list_all}
 use Rattle.std.specs.Char.{is_ascii_digit}
+use Rattle.std.specs.Result.{result_ok}
 use Rattle.std.specs.Str.Parse.{digits_value}
+use Rattle.hex.specs.Hex.{decode_of}
 use Rattle.tm_base.specs.declared.profile.Profile.{Profile}
 use Rattle.tm_base.specs.declared.profile.Profile.TheVariants.{Le64, Be64, Le32}
 use Rattle.tm_run.specs.declared.options.Choice.{Choice}
 use Rattle.tm_run.specs.declared.options.Choice.TheVariants as choice
 use Rattle.tm_run.specs.declared.options.Mode.{Mode}
-use Rattle.tm_run.specs.declared.options.Mode.TheVariants.{Needs, Matrix}
+use Rattle.tm_run.specs.declared.options.Mode.TheVariants.{Needs, Matrix, Bytes}
 use Rattle.tm_run.specs.declared.options.Options.{Options}
+use Rattle.tm_validate.specs.Digits.{are_digits}
 
 -- from one to twenty ASCII digits, whose number is below 2^64
 abbrev pub is_number : List ℕ → Bool
@@ -26,11 +29,16 @@ profile_of text =
     else (if bytes_eq text (codes "be64") then Some Be64
     else (if bytes_eq text (codes "le32") then Some Le32 else None))
 
+-- the bytes that hexadecimal digits write, two each; none where a text isn't such digits
+abbrev pub bytes_read : List ℕ → Option (List ℕ)
+bytes_read text = if are_digits text then result_ok (decode_of text) else None
+
 -- what an option that has a value asks for
 abbrev pub choice_with : List ℕ → List ℕ → Option Choice
 choice_with name value =
     if bytes_eq name (codes "--generate") then option_map choice.Generate (number_of value)
-    else (if bytes_eq name (codes "--profile") then option_map choice.Profile (profile_of value) else None)
+    else (if bytes_eq name (codes "--profile") then option_map choice.Profile (profile_of value)
+    else (if bytes_eq name (codes "--bytes") then option_map (λ bytes. choice.Mode (Bytes bytes)) (bytes_read value) else None))
 
 abbrev pub is_equals : ℕ → Bool
 is_equals b = b == 0x3D

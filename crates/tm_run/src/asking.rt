@@ -3,7 +3,7 @@ ghost use Rattle.tm_names.specs.ApartNames.{HasApartNames};
 ghost use Rattle.tm_names.specs.InForm.{IsInForm};
 ghost use Rattle.tm_run.specs.Asking.{own_if_plain, own_question, own_questions, own_type, with_questions};
 
-use crate::options::Mode;
+use crate::options::{Mode, Options};
 use std::alloc::Global;
 use tm_base::{Assume, DefId, List, Memory};
 use tm_names::{Open, OpenAsk, Resolved};
@@ -57,22 +57,22 @@ fn own_questions(alloc: Global, decls: &[Decl]) -> Result<List<OpenAsk>, Memory>
 /// What a file's names mean, with the questions that a mode puts in place of the file's.
 pub fn with_questions(
     alloc: Global,
-    mode: Option<Mode>,
+    options: &Options,
     parsed: &Parsed,
     resolved: Resolved,
 ) -> Result<Resolved, Memory>
     requires form { IsInForm resolved }
     requires apart { HasApartNames resolved }
     requires decls { length parsed.now.decls ≡ length resolved.defs }
-    ensures asked { IfOk result (λ asked. asked ≡ with_questions mode parsed.now resolved) }
+    ensures asked { IfOk result (λ asked. asked ≡ with_questions options.now.mode parsed.now resolved) }
     ensures form { IfOk result IsInForm }
     ensures apart { IfOk result HasApartNames }
 {
-    match mode {
+    match &options.mode {
         Some(Mode::Matrix) => Ok(Resolved {
             asks: own_questions(alloc, parsed.decls.as_slice())?,
             ..resolved
         }),
-        None | Some(Mode::Needs) => Ok(resolved),
+        None | Some(Mode::Needs) | Some(Mode::Bytes(_)) => Ok(resolved),
     }
 }

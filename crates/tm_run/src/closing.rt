@@ -15,27 +15,27 @@ use tm_report::FileFault;
 /// What is wrong with a file that has too many types for a matrix.
 const TOO_MANY_TYPES: FileFault = FileFault::Passed(LimitKind::MatrixTypes, None);
 
-/// Whether so many questions are more than a mode takes.
-fn passes_mode(mode: Option<Mode>, questions: usize) -> bool
-    ensures { result ≡ passes_mode mode questions }
+/// Whether so many questions are more than what is asked for takes.
+fn passes_mode(options: &Options, questions: usize) -> bool
+    ensures { result ≡ passes_mode options.now.mode questions }
 {
-    match mode {
+    match &options.mode {
         Some(Mode::Matrix) => questions > LimitKind::MatrixTypes.number() as usize,
-        None | Some(Mode::Needs) => false,
+        None | Some(Mode::Needs) | Some(Mode::Bytes(_)) => false,
     }
 }
 
 /// The world of a file whose names mean this, for what is asked.
-pub fn world(alloc: Global, options: Options, resolved: &Resolved) -> Result<World, Stop>
+pub fn world(alloc: Global, options: &Options, resolved: &Resolved) -> Result<World, Stop>
     requires form { IsInForm resolved.now }
     requires names { HasApartNames resolved.now }
-    ensures world { (file : List ℕ) → IsMeaningOf options file resolved.now
-        → IfOk result (IsExamined options file) }
-    ensures stop { (file : List ℕ) → IsMeaningOf options file resolved.now
-        → IfErr result (IsStop options file) }
+    ensures world { (file : List ℕ) → IsMeaningOf options.now file resolved.now
+        → IfOk result (IsExamined options.now file) }
+    ensures stop { (file : List ℕ) → IsMeaningOf options.now file resolved.now
+        → IfErr result (IsStop options.now file) }
 {
     let world = ground(alloc, resolved)?;
-    if passes_mode(options.mode, world.questions.len()) {
+    if passes_mode(options, world.questions.len()) {
         return Err(Stop::Fault(TOO_MANY_TYPES));
     }
     Ok(world)

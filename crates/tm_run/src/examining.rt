@@ -107,20 +107,20 @@ fn parsed(alloc: Global, text: &str, tokens: &[Token]) -> Result<Parsed, Stop>
 /// What the names of what a text spells mean, with the questions that a mode asks.
 fn resolved(
     alloc: Global,
-    options: Options,
+    options: &Options,
     text: &str,
     tokens: &[Token],
     parsed: &Parsed,
 ) -> Result<Resolved, Stop>
     requires short { length text.now ≤ file_bytes }
     requires parsed { IsParsedOf text.now tokens.now parsed.now }
-    ensures resolved { IfOk result (IsResolvedOf options text.now tokens.now parsed.now) }
+    ensures resolved { IfOk result (IsResolvedOf options.now text.now tokens.now parsed.now) }
     ensures in_form { IfOk result IsInForm }
     ensures apart { IfOk result HasApartNames }
-    ensures stop { IfErr result (IsStop options text.now) }
+    ensures stop { IfErr result (IsStop options.now text.now) }
 {
     match check(alloc, text, tokens, parsed, options.target()) {
-        Ok(resolved) => Ok(with_questions(alloc, options.mode, parsed, resolved)?),
+        Ok(resolved) => Ok(with_questions(alloc, options, parsed, resolved)?),
         Err(NameErr::Fault(why, place)) => {
             let names = FileFault::Names(why, start(text, tokens, place as usize));
             Err(Stop::Fault(names))
@@ -130,12 +130,12 @@ fn resolved(
 }
 
 /// What the names of a text mean, for what is asked.
-fn meaning(alloc: Global, options: Options, text: &str) -> Result<Resolved, Stop>
+fn meaning(alloc: Global, options: &Options, text: &str) -> Result<Resolved, Stop>
     requires { length text.now ≤ file_bytes }
-    ensures meaning { IfOk result (IsMeaningOf options text.now) }
+    ensures meaning { IfOk result (IsMeaningOf options.now text.now) }
     ensures in_form { IfOk result IsInForm }
     ensures apart { IfOk result HasApartNames }
-    ensures stop { IfErr result (IsStop options text.now) }
+    ensures stop { IfErr result (IsStop options.now text.now) }
 {
     let tokens = tokens(alloc, text)?;
     let parsed = parsed(alloc, text, &tokens)?;
@@ -144,10 +144,10 @@ fn meaning(alloc: Global, options: Options, text: &str) -> Result<Resolved, Stop
 
 /// The world of a file of at most 1,048,576 bytes, for what is asked; or the one fault for which it gets no
 /// report.
-pub fn examine(alloc: Global, options: Options, file: &[u8]) -> Result<World, Stop>
+pub fn examine(alloc: Global, options: &Options, file: &[u8]) -> Result<World, Stop>
     requires { length file.now ≤ file_bytes }
-    ensures world { IfOk result (IsExamined options file.now) }
-    ensures stop { IfErr result (IsStop options file.now) }
+    ensures world { IfOk result (IsExamined options.now file.now) }
+    ensures stop { IfErr result (IsStop options.now file.now) }
 {
     let text = decoded(file)?;
     let resolved = meaning(alloc, options, text)?;

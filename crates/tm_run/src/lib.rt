@@ -2,12 +2,16 @@
 #![tactic(auto)]
 
 mod asking;
+mod bytes;
 mod closing;
 mod court;
 mod examining;
 mod judging;
 mod kinds;
 mod marks;
+mod match_lines;
+mod matched;
+mod matching;
 mod need;
 mod need_lines;
 mod needing;
@@ -19,6 +23,7 @@ mod running;
 mod solved;
 mod status;
 mod stop;
+mod words;
 
 pub use running::run;
 pub use status::Status;

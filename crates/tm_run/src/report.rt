@@ -119,14 +119,14 @@ fn of_generated(
 /// The report on the answers to the questions of a file's world, in the form that the options ask for.
 pub fn report(
     alloc: Global,
-    options: Options,
+    options: &Options,
     file: &[u8],
     world: &World,
     answers: &[Answer],
 ) -> Result<Text, Memory>
     requires whole { All (HasWholeWord (pointer_size world.now.profile)) answers.now }
     requires few { length answers.now ≤ 256 }
-    ensures { IfOk result (λ text. text ≡ report_for options file.now world.now answers.now) }
+    ensures { IfOk result (λ text. text ≡ report_for options.now file.now world.now answers.now) }
 {
     match (options.generate, options.summary) {
         (Some(number), _) => of_generated(alloc, number, file, world, answers),

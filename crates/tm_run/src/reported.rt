@@ -5,12 +5,15 @@ ghost use Rattle.tm_base.specs.Worlds.{tables_of};
 ghost use Rattle.tm_layout.specs.Made.{IsMadeFor};
 ghost use Rattle.tm_run.specs.Asking.{passes_mode};
 ghost use Rattle.tm_run.specs.Marks.{IsMatrixReport};
+ghost use Rattle.tm_run.specs.Matches.{IsBytesReport};
 ghost use Rattle.tm_run.specs.Needs.{IsNeedsReport};
 ghost use Rattle.tm_run.specs.Reported.{IsAnswersReport, IsReported};
 
 use crate::court::Court;
 use crate::judging::answers;
 use crate::marks::{all_yes, matrix_lines, types};
+use crate::match_lines::match_lines;
+use crate::matching::{all_valid, matches};
 use crate::need_lines::need_lines;
 use crate::needing::{all_met, needs};
 use crate::options::{Mode, Options};
@@ -26,14 +29,14 @@ use tm_matrix::matrix;
 /// The status and the text of the answers to the questions of a file's world.
 fn answered<L: Ledger>(
     alloc: Global,
-    options: Options,
+    options: &Options,
     file: &[u8],
     world: &World,
     court: &mut Court<L>,
 ) -> Result<(Status, Text), Memory>
     requires { court.old ≡ tables_of world.now }
     ensures { IfOk result (λ outcome.
-        IsAnswersReport options file.now world.now outcome.0 outcome.1) }
+        IsAnswersReport options.now file.now world.now outcome.0 outcome.1) }
 {
     let answers = answers(alloc, world, court)?;
     let text = report(alloc, options, file, world, &answers)?;
@@ -72,10 +75,26 @@ fn matrixed<L: Ledger>(
     Ok((status_when(all_yes(lines.as_slice())), text))
 }
 
+/// The status and the text of what some bytes are to the targets of a world's questions.
+fn matched(
+    alloc: Global,
+    world: &World,
+    layouts: &Layouts,
+    bytes: &[u8],
+) -> Result<(Status, Text), Memory>
+    requires made { IsMadeFor (tables_of world.now) layouts.now }
+    requires few { length bytes.now ≤ 65536 }
+    ensures { IfOk result (λ outcome. IsBytesReport bytes.now world.now outcome.0 outcome.1) }
+{
+    let matches = matches(alloc, world, layouts, bytes)?;
+    let text = match_lines(alloc, world, &matches)?;
+    Ok((status_when(all_valid(&matches)), text))
+}
+
 /// What the options ask for of a file's world.
 fn reported_by<L: Ledger>(
     alloc: Global,
-    options: Options,
+    options: &Options,
     file: &[u8],
     world: &World,
     blank: Blank,
@@ -83,29 +102,30 @@ fn reported_by<L: Ledger>(
     requires name { blank.name ≡ L.name }
     requires parts { blank.parts ≡ L.parts }
     requires some { 0 < L.parts }
-    requires few { passes_mode options.mode (length world.now.questions) ≡ false }
+    requires few { passes_mode options.now.mode (length world.now.questions) ≡ false }
     ensures { IfOk result (λ outcome.
-        IsReported options.mode options file.now world.now outcome.0 outcome.1) }
+        IsReported options.now.mode options.now file.now world.now outcome.0 outcome.1) }
 {
     let layouts = Layouts::new(alloc, world)?;
     let mut court: Court<L> = Court::new(alloc, world, &layouts, blank)?;
-    match options.mode {
+    match &options.mode {
         None => answered(alloc, options, file, world, &mut court),
         Some(Mode::Needs) => needed(alloc, world, &mut court),
         Some(Mode::Matrix) => matrixed(alloc, world, &layouts, &mut court),
+        Some(Mode::Bytes(bytes)) => matched(alloc, world, &layouts, bytes.as_slice()),
     }
 }
 
 /// The status and the text of what the options ask for of a file's world.
 pub fn reported(
     alloc: Global,
-    options: Options,
+    options: &Options,
     file: &[u8],
     world: &World,
 ) -> Result<(Status, Text), Memory>
-    requires { passes_mode options.mode (length world.now.questions) ≡ false }
+    requires { passes_mode options.now.mode (length world.now.questions) ≡ false }
     ensures { IfOk result (λ outcome.
-        IsReported options.mode options file.now world.now outcome.0 outcome.1) }
+        IsReported options.now.mode options.now file.now world.now outcome.0 outcome.1) }
 {
     reported_by::<Brand>(alloc, options, file, world, Blank::new(1))
 }

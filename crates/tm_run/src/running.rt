@@ -12,12 +12,13 @@ ghost use Rattle.tm_run.specs.Words.{asked, is_read};
 ghost use Rattle.tm_run.specs.declared.options.Options.{Options};
 
 use crate::examining::examine;
-use crate::options::{Options, chosen};
+use crate::options::Options;
 use crate::reported::reported;
 use crate::status::{Status, fault_status};
 use crate::stop::Stop;
+use crate::words::chosen;
 use std::alloc::Global;
-use tm_base::{LimitKind, Text};
+use tm_base::{LimitKind, Memory, Text};
 use tm_gen::generate;
 use tm_io::{ReadErr, Sink, SinkErr, Source, read_all, write_all};
 use tm_report::{FileFault, fault_line};
@@ -103,9 +104,24 @@ fn done<S: Source, K: Sink>(alloc: Global, words: &[String], src: &mut S, out: &
         (S.faults src.new) (K.written out.old) (K.written out.new) (K.faults out.old)
         (K.faults out.new) result }
 {
-    let Some(options) = chosen(words) else {
-        return finish(out, USAGE_LINE, Status::Usage);
-    };
+    match chosen(alloc, words) {
+        Ok(None) => finish(out, USAGE_LINE, Status::Usage),
+        Ok(Some(options)) => answer_asked(alloc, &options, src, out),
+        Err(Memory) => Status::Memory,
+    }
+}
+
+/// Writes the report on the file that is asked for, or the line that says why it gets none.
+fn answer_asked<S: Source, K: Sink>(
+    alloc: Global,
+    options: &Options,
+    src: &mut S,
+    out: &mut K,
+) -> Status
+    ensures { Did (Some options.now) (S.left src.old) (S.left src.new) (S.faults src.old)
+        (S.faults src.new) (K.written out.old) (K.written out.new) (K.faults out.old)
+        (K.faults out.new) result }
+{
     match options.generate {
         Some(number) => answer_generated(alloc, options, number, out),
         None => answer_read(alloc, options, src, out),
@@ -115,12 +131,12 @@ fn done<S: Source, K: Sink>(alloc: Global, words: &[String], src: &mut S, out: &
 /// Reads a file and writes the report on it, or the line that says why it gets none.
 fn answer_read<S: Source, K: Sink>(
     alloc: Global,
-    options: Options,
+    options: &Options,
     src: &mut S,
     out: &mut K,
 ) -> Status
-    requires { options.generate ≡ None }
-    ensures { Did (Some options) (S.left src.old) (S.left src.new) (S.faults src.old)
+    requires { options.now.generate ≡ None }
+    ensures { Did (Some options.now) (S.left src.old) (S.left src.new) (S.faults src.old)
         (S.faults src.new) (K.written out.old) (K.written out.new) (K.faults out.old)
         (K.faults out.new) result }
 {
@@ -133,9 +149,9 @@ fn answer_read<S: Source, K: Sink>(
 }
 
 /// Writes the report on the file of a number, or the line that says why it gets none.
-fn answer_generated<K: Sink>(alloc: Global, options: Options, number: u64, out: &mut K) -> Status
+fn answer_generated<K: Sink>(alloc: Global, options: &Options, number: u64, out: &mut K) -> Status
     ensures { Answers (K.written out.old) (K.written out.new) (K.faults out.old) (K.faults out.new)
-        options (generated_file number) result }
+        options.now (generated_file number) result }
 {
     match generate(alloc, number) {
         Ok(file) if file.len() <= LimitKind::FileBytes.number() as usize => {
@@ -147,10 +163,10 @@ fn answer_generated<K: Sink>(alloc: Global, options: Options, number: u64, out: 
 }
 
 /// Writes the report on a file, or the line that says why it gets none.
-fn answer<K: Sink>(alloc: Global, options: Options, file: &[u8], out: &mut K) -> Status
+fn answer<K: Sink>(alloc: Global, options: &Options, file: &[u8], out: &mut K) -> Status
     requires { length file.now ≤ file_bytes }
     ensures { Answers (K.written out.old) (K.written out.new) (K.faults out.old) (K.faults out.new)
-        options file.now result }
+        options.now file.now result }
 {
     match judged(alloc, options, file) {
         Ok((status, text)) => finish(out, text.as_str(), status),
@@ -160,10 +176,10 @@ fn answer<K: Sink>(alloc: Global, options: Options, file: &[u8], out: &mut K) ->
 }
 
 /// The status and the text of the report on a file.
-fn judged(alloc: Global, options: Options, file: &[u8]) -> Result<(Status, Text), Stop>
+fn judged(alloc: Global, options: &Options, file: &[u8]) -> Result<(Status, Text), Stop>
     requires { length file.now ≤ file_bytes }
-    ensures report { IfOk result (λ outcome. Decides options file.now outcome.0 outcome.1) }
-    ensures stop { IfErr result (IsStop options file.now) }
+    ensures report { IfOk result (λ outcome. Decides options.now file.now outcome.0 outcome.1) }
+    ensures stop { IfErr result (IsStop options.now file.now) }
 {
     let world = examine(alloc, options, file)?;
     let outcome = reported(alloc, options, file, &world)?;

@@ -18,14 +18,14 @@ returns-clause-meaning c =
     let text = c.args.text.now in
     let parsed = c.in_ok-parsed.parsed in
     let tokens = c.deref.result.now in
-    let names = subst (λ (ts : List Token). IfOk c.resolved.result (IsResolvedOf c.args.options text ts parsed)) (c.deref-2.ensures.value ∙ sym c.deref.ensures.value) c.resolved.ensures.resolved in
-    if_meaning c.args.options text tokens parsed c.resolved.result c.in_ok-parsed.ensures.parsed names
+    let names = subst (λ (ts : List Token). IfOk c.resolved.result (IsResolvedOf c.args.options.now text ts parsed)) (c.deref-2.ensures.value ∙ sym c.deref.ensures.value) c.resolved.ensures.resolved in
+    if_meaning c.args.options.now text tokens parsed c.resolved.result c.in_ok-parsed.ensures.parsed names
 
 pub returns-in_err-tokens-clause-stop : goal.returns-in_err-tokens-clause-stop
 returns-in_err-tokens-clause-stop c =
-    passed_on (IsStop c.args.options c.args.text.now) c.from_residual.result c.in_err-tokens.field-0.0 c.from_residual.ensures.1 (c.in_err-tokens.ensures.stop c.args.options)
+    passed_on (IsStop c.args.options.now c.args.text.now) c.from_residual.result c.in_err-tokens.field-0.0 c.from_residual.ensures.1 (c.in_err-tokens.ensures.stop c.args.options.now)
 
 pub returns-in_err-parsed-clause-stop : goal.returns-in_err-parsed-clause-stop
 returns-in_err-parsed-clause-stop c =
-    passed_on (IsStop c.args.options c.args.text.now) c.from_residual-in_err-parsed.result c.in_err-parsed.field-0.0 c.from_residual-in_err-parsed.ensures.1
-    (c.in_err-parsed.ensures.stop c.args.options)
+    passed_on (IsStop c.args.options.now c.args.text.now) c.from_residual-in_err-parsed.result c.in_err-parsed.field-0.0 c.from_residual-in_err-parsed.ensures.1
+    (c.in_err-parsed.ensures.stop c.args.options.now)

@@ -23,10 +23,10 @@ returns-in-Err-Fault-clause-stop c =
     let name = name_at text tokens in
     let why = c.in-Err-Fault.why in
     let is = c.in-Err-Fault.field-0-is in
-    let first = subst (λ (err : NameErr). HasCause (profile_for c.args.options) name parsed err) is
+    let first = subst (λ (err : NameErr). HasCause (profile_for c.args.options.now) name parsed err) is
     (subst (λ (p : Profile). HasCause p name parsed c.in-Err-Fault.field-0) c.target.ensures c.in-Err-Fault.ensures.fault) in
-    let faults = subst (λ (err : NameErr). (w : NameWhy) (p : ℕ) → IsFirstFault (profile_for c.args.options) name parsed w p → (err ≡ Fault w p) ⊎ (err ≡ Memory)) is
+    let faults = subst (λ (err : NameErr). (w : NameWhy) (p : ℕ) → IsFirstFault (profile_for c.args.options.now) name parsed w p → (err ≡ Fault w p) ⊎ (err ≡ Memory)) is
     (subst (λ (p : Profile). (w : NameWhy) (q : ℕ) → IsFirstFault p name parsed w q → (c.in-Err-Fault.field-0 ≡ Fault w q) ⊎ (c.in-Err-Fault.field-0 ≡ Memory)) c.target.ensures c.in-Err-Fault.ensures.faults) in
     let here : c.start.result ≡ at_byte text (start_of text (slice_get tokens c.in-Err-Fault.place)) = rw is at c.start.ensures in
-    rw is (subst (λ (at : At). IsOnlyFault c.args.options text (Names why at)) (sym here)
-    (name_fault c.args.options text tokens c.requires.parsed.tokens_are parsed c.requires.parsed why c.in-Err-Fault.place first faults))
+    rw is (subst (λ (at : At). IsOnlyFault c.args.options.now text (Names why at)) (sym here)
+    (name_fault c.args.options.now text tokens c.requires.parsed.tokens_are parsed c.requires.parsed why c.in-Err-Fault.place first faults))

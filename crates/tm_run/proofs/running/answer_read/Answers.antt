@@ -8,10 +8,10 @@ pub returns-in-Ok : goal.returns-in-Ok
 returns-in-Ok g c =
     let kept : g.S.Source.faults c.read_all.new.src ≡ g.S.Source.faults c.args.src.now = c.in-Ok.ensures.kept (λ e. cc) in
     let short : length c.in-Ok.file.items ≤ file_bytes = let len = c.in-Ok.file.ok.0 in let bound = c.in-Ok.ensures.short in let limit = c.number.ensures in omega (arith, len, bound, limit) in
-    let whole = subst (λ (bytes : List ℕ). Answers (g.K.Sink.written c.args.out.now) (g.K.Sink.written c.answer.new.out) (g.K.Sink.faults c.args.out.now) (g.K.Sink.faults c.answer.new.out) c.args.options bytes c.answer.result) c.deref.ensures.value c.answer.ensures in
-    read-did c.args.options _ _ _ _ _ _ _ _ _ c.requires c.in-Ok.file.items kept c.in-Ok.ensures.all short whole
+    let whole = subst (λ (bytes : List ℕ). Answers (g.K.Sink.written c.args.out.now) (g.K.Sink.written c.answer.new.out) (g.K.Sink.faults c.args.out.now) (g.K.Sink.faults c.answer.new.out) c.args.options.now bytes c.answer.result) c.deref.ensures.value c.answer.ensures in
+    read-did c.args.options.now _ _ _ _ _ _ _ _ _ c.requires c.in-Ok.file.items kept c.in-Ok.ensures.all short whole
 
 pub returns-in-Err-TooLong : goal.returns-in-Err-TooLong
 returns-in-Err-TooLong g c =
     let kept : g.S.Source.faults c.read_all.new.src ≡ g.S.Source.faults c.args.src.now = c.in-Err-TooLong.ensures.kept (λ e. cc) in
-    declined-did c.args.options _ _ _ _ _ _ _ _ _ c.requires kept (rw c.number.ensures at (c.in-Err-TooLong.ensures.long (ap Err c.in-Err-TooLong.field-0-is))) c.decline.ensures
+    declined-did c.args.options.now _ _ _ _ _ _ _ _ _ c.requires kept (rw c.number.ensures at (c.in-Err-TooLong.ensures.long (ap Err c.in-Err-TooLong.field-0-is))) c.decline.ensures
