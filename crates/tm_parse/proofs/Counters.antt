@@ -2,7 +2,7 @@
 use Rattle.std.proofs.Common.{ℕ, zero, arith}
 use Rattle.tm_base.specs.declared.limit.LimitKind.TheVariants as limit
 use Rattle.tm_parse.proofs.Weights.{Counter}
-use Rattle.tm_parse.specs.Events.{Mark, a_definition, a_question, a_lifetime, a_parameter, a_field, a_variant, a_type}
+use Rattle.tm_parse.specs.Events.{Mark, a_definition, a_question, a_lifetime, a_parameter, a_type_parameter, a_field, a_variant, a_type}
 
 -- 1 for a mark of the kind
 abbrev pub definitions : Mark → ℕ
@@ -20,6 +20,10 @@ lifetimes m = 0
 abbrev pub parameters : Mark → ℕ
 parameters a_parameter = 1
 parameters m = 0
+
+abbrev pub type_parameters : Mark → ℕ
+type_parameters a_type_parameter = 1
+type_parameters m = 0
 
 abbrev pub fields : Mark → ℕ
 fields a_field = 1
@@ -52,6 +56,9 @@ lifetime_counter = record { adds = λ c m r. grind arith; holds = λ c m r h l. 
 
 pub parameter_counter : Counter limit.Parameters (λ n. n.parameters) parameters definitions
 parameter_counter = record { adds = λ c m r. grind arith; holds = λ c m r h l. grind arith }
+
+pub type_parameter_counter : Counter limit.TypeParameters (λ n. n.type_parameters) type_parameters definitions
+type_parameter_counter = record { adds = λ c m r. grind arith; holds = λ c m r h l. grind arith }
 
 pub field_counter : Counter limit.Fields (λ n. n.fields) fields definitions
 field_counter = record { adds = λ c m r. grind arith; holds = λ c m r h l. grind arith }

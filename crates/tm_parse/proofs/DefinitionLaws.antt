@@ -3,14 +3,15 @@ use Rattle.std.proofs.Common.{refl, [], ◌∷◌}
 use Rattle.tm_base.specs.declared.definition.Kind.TheVariants as kind
 use Rattle.tm_parse.proofs.Choices.{to_laws, or_laws}
 use Rattle.tm_parse.proofs.Lawful.{Laws}
+use Rattle.tm_parse.proofs.LifetimeLaws.{IsTold, lifetimes_then_laws}
 use Rattle.tm_parse.proofs.Marks.{mark_laws}
 use Rattle.tm_parse.proofs.Pairs.{seq_laws}
 use Rattle.tm_parse.proofs.ShapeLaws.{any_laws, the_laws, optional_laws, many_laws, listed_laws, listed1_laws, between_laws}
 use Rattle.tm_parse.proofs.TypeForms.{definition_name_laws, behind_laws, plain_laws}
-use Rattle.tm_parse.proofs.TypeLaws.{type_laws}
-use Rattle.tm_parse.specs.Events.{a_definition, a_parameter, a_field, a_variant, a_type}
+use Rattle.tm_parse.proofs.TypeLaws.{tells_types, type_laws}
+use Rattle.tm_parse.specs.Events.{a_definition, a_parameter, a_type_parameter, a_field, a_variant, a_type}
 use Rattle.tm_parse.specs.Shapes.{any}
-use Rattle.tm_parse.specs.Definitions.{in_parens, repr_item, repr, derive, attribute, narrower, visibility, field, behind_pub, place, variant_field, variant_place, variant_fields, discriminant, variant, parameters, struct_body, union_body, enum_body, headed, definition}
+use Rattle.tm_parse.specs.Definitions.{in_parens, repr_item, repr, derive, attribute, narrower, visibility, field, behind_pub, place, variant_field, variant_place, variant_fields, discriminant, variant, parameter, type_parameter, parameters, struct_body, union_body, enum_body, headed, definition}
 use Rattle.tm_parse.specs.Types.{integer, scalar, alias, generic, number, names, type_first, SpellsType, read_type}
 use Rattle.tm_parse.specs.declared.class.Class.TheVariants as c
 
@@ -43,10 +44,10 @@ field-laws : Laws field
 field-laws = mark_laws a_field (to_laws _ (seq_laws (optional_laws visibility-laws refl) (seq_laws name_laws (seq_laws (the_laws c.Colon) (type_laws 0) refl) refl) refl)) refl
 
 behind-pub-laws : Laws behind_pub
-behind-pub-laws = or_laws (to_laws _ (mark_laws (a_type 0) (plain_laws type_first (SpellsType 1) (read_type 1 31) refl refl refl refl (type_laws 1)) refl))
+behind-pub-laws = or_laws (to_laws _ (mark_laws (a_type 0) (plain_laws type_first (SpellsType 1) (read_type 1 31) tells_types (type_laws 1)) refl))
     (to_laws _ (seq_laws (the_laws c.OpenParen) (or_laws
     (to_laws _ (seq_laws narrower-laws (seq_laws (the_laws c.CloseParen) (type_laws 0) refl) refl))
-    (to_laws _ (mark_laws (a_type 0) (behind_laws type_first (SpellsType 1) (read_type 1 31) refl refl refl refl (type_laws 1)) refl)) refl refl) refl)) refl refl
+    (to_laws _ (mark_laws (a_type 0) (behind_laws type_first (SpellsType 1) (read_type 1 31) tells_types (type_laws 1)) refl)) refl refl) refl)) refl refl
 
 place-laws : Laws place
 place-laws = mark_laws a_field (or_laws (to_laws _ (type_laws 0)) (to_laws _ (seq_laws (the_laws c.Pub) behind-pub-laws refl)) refl refl) refl
@@ -66,8 +67,17 @@ discriminant-laws = to_laws _ (seq_laws (the_laws c.Equals) (seq_laws (optional_
 variant-laws : Laws variant
 variant-laws = mark_laws a_variant (to_laws _ (seq_laws name_laws (seq_laws (optional_laws variant-fields-laws refl) (optional_laws discriminant-laws refl) refl) refl)) refl
 
+pub parameter_laws : Laws (λ n. parameter)
+parameter_laws = mark_laws a_parameter (the_laws c.Lifetime) refl
+
+pub type_parameter_laws : Laws (λ n. type_parameter)
+type_parameter_laws = mark_laws a_type_parameter definition_name_laws refl
+
+pub parameters_told : IsTold parameter type_parameter
+parameters_told = record { lifetime = refl; item = refl; lifetime_ends = refl; item_ends = refl; next_lifetime = refl; next_item = refl; either = refl }
+
 parameters-laws : Laws (λ n. parameters)
-parameters-laws = to_laws _ (optional_laws (between_laws c.Less (listed1_laws (mark_laws a_parameter (the_laws c.Lifetime) refl) refl refl refl) c.Greater refl) refl)
+parameters-laws = to_laws _ (optional_laws (between_laws c.Less (lifetimes_then_laws parameter_laws type_parameter_laws parameters_told) c.Greater refl) refl)
 
 struct-laws : Laws struct_body
 struct-laws = or_laws (to_laws _ (the_laws c.Semicolon)) (or_laws (to_laws _ (between_laws c.OpenBrace (listed_laws field-laws refl refl refl) c.CloseBrace refl))

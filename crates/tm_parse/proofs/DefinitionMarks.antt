@@ -1,12 +1,12 @@
 -- No definition begins within a definition.
 use Rattle.std.proofs.Common.{ℕ, refl}
 use Rattle.tm_parse.proofs.Counters.{definitions}
-use Rattle.tm_parse.proofs.Without.{Without, one_without, to_without, seq_without, or_without, mark_without, optional_without, listed_without, listed1_without, behind_without, plain_without, type_without}
+use Rattle.tm_parse.proofs.Without.{Without, one_without, to_without, seq_without, or_without, mark_without, optional_without, listed_without, listed1_without, lifetimes_then_without, behind_without, plain_without, type_without}
 use Rattle.tm_parse.specs.Definitions as d
 use Rattle.tm_parse.specs.Types.{SpellsType}
 
 pub parameters_without : Without definitions (d.parameters).spells
-parameters_without = to_without (optional_without (to_without (seq_without one_without (seq_without (listed1_without (mark_without refl one_without)) one_without))))
+parameters_without = to_without (optional_without (to_without (seq_without one_without (seq_without (lifetimes_then_without (mark_without refl one_without) (mark_without refl one_without)) one_without))))
 
 module _ (levels : ℕ) where
   types : (depth : ℕ) → Without definitions (SpellsType depth levels)

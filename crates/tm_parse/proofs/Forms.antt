@@ -7,7 +7,7 @@ use Rattle.tm_parse.specs.Classes.{joined}
 use Rattle.tm_parse.specs.Combinators.{one, ◌>>◌, ◌or◌, nothing, to, counts_as, Others, Repeats, repeat}
 use Rattle.tm_parse.specs.Events.{Mark, Role, Event, terminals}
 use Rattle.tm_parse.specs.Parts.{Part}
-use Rattle.tm_parse.specs.Shapes.{any, the, optional, listed, listed1, between}
+use Rattle.tm_parse.specs.Shapes.{any, the, optional, with_comma, listed, listed1, lifetime_or_items, lifetimes_then, between}
 use Rattle.tm_parse.specs.declared.class.Class.{Class}
 use Rattle.tm_parse.specs.declared.class.Class.TheVariants as c
 
@@ -75,11 +75,24 @@ the_form class = record { grow = (any_form (class ∷ [])).grow; front = (any_fo
 pub optional_form : {V : Type 0} {P : ℕ → Part V} → Form P → (P zero).empty ≡ false → Form (λ n. optional (P n))
 optional_form p s = or_form (to_form Some p) (nothing_form None) s
 
+comma_form : {V : Type 0} {P : ℕ → Part V} → Form P → Form (λ n. with_comma (P n))
+comma_form p = to_form _ (seq_form p (optional_form (the_form c.Comma) refl))
+
+-- what is put behind a part that isn't empty doesn't make it so
+pub and_false : {b : Bool} → b ≡ false → (b && true) ≡ false
+and_false s = subst (λ b. (b && true) ≡ false) (sym s) refl
+
 pub listed_form : {V : Type 0} {P : ℕ → Part V} → Form P → (P zero).empty ≡ false → Form (λ n. listed (P n))
-listed_form {P = P} p s = repeat_form (to_form _ (seq_form p (optional_form (the_form c.Comma) refl))) (subst (λ b. (b && true) ≡ false) (sym s) refl)
+listed_form p s = repeat_form (comma_form p) (and_false s)
 
 pub listed1_form : {V : Type 0} {P : ℕ → Part V} → Form P → (P zero).empty ≡ false → Form (λ n. listed1 (P n))
 listed1_form p s = to_form _ (seq_form p (optional_form (seq_form (the_form c.Comma) (listed_form p s)) refl))
+
+pub lifetimes_then_form : {A V : Type 0} {L : ℕ → Part A} {P : ℕ → Part V} → Form L → Form P → (L zero).empty ≡ false → (P zero).empty ≡ false → Form (λ n. lifetimes_then (L n) (P n))
+lifetimes_then_form {L = L} {P = P} l p s t = or_form (to_form _ (seq_form l (optional_form (seq_form (the_form c.Comma) (repeat_form each (and_false t))) refl))) (to_form _ (listed1_form p t)) (and_false s)
+  where
+    each : Form (λ n. lifetime_or_items (L n) (P n))
+    each = or_form (to_form _ (comma_form l)) (to_form _ (listed1_form p t)) (and_false s)
 
 pub between_form : {V : Type 0} {P : ℕ → Part V} (opening : Class) (p : Form P) (closing : Class) → Form (λ n. between opening (P n) closing)
 between_form opening p closing = to_form _ (seq_form (the_form opening) (seq_form p (the_form closing)))

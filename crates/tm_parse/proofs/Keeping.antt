@@ -2,12 +2,12 @@
 -- are counted within the limits, from some counts on, and each terminal is as it is asked.
 use Rattle.std.proofs.Common.{◌≡◌, ◌⊎◌, refl, sym, subst, Bool, true, false, Option, Some, None, IfSome, List, [], ◌∷◌, ◌++◌, All, inl, inr}
 use Rattle.std.proofs.lemmas.List.Elements.{All-nil, All-cons, All-head, All-tail}
-use Rattle.tm_parse.proofs.Least.{Spells, WithComma, MayBe, AndOthers}
+use Rattle.tm_parse.proofs.Least.{Spells, WithComma, MayBe, AndOthers, LifetimeOrItems, LifetimesThen}
 use Rattle.tm_parse.specs.Classes.{among}
 use Rattle.tm_parse.specs.Combinators.{Others, Repeats}
 use Rattle.tm_parse.specs.Events.{Mark, Role, Event, terminal, mark, terminals}
 use Rattle.tm_parse.specs.Limits.{Step, Fine, Passes, step, Within, counted, count}
-use Rattle.tm_parse.specs.Shapes.{and_others}
+use Rattle.tm_parse.specs.Shapes.{and_others, in_two, and_then_others, or_neither}
 use Rattle.tm_parse.specs.declared.class.Class.{Class}
 use Rattle.tm_parse.specs.declared.counts.Counts.{Counts}
 use Rattle.tm_parse.specs.declared.terminal.Terminal.{Terminal}
@@ -114,3 +114,35 @@ module _ {Is : Terminal → Type 0} where
       all : (v : V × Option (Terminal × List V)) → K v.0 × IfSome v.1 (λ u. Unit {0} × All K u.1) → All K (and_others v)
       all (v, None) k = All-cons K v [] k.0 (All-nil K)
       all (v, Some others) k = All-cons K v others.1 k.0 k.1.1
+
+-- of lifetimes, and of the items behind them
+abbrev pub KeptTwo : {A V : Type 0} → (A → Type 0) → (V → Type 0) → List A × List V → Type 0
+KeptTwo K M v = All K v.0 × All M v.1
+
+pub kept-neither : {A V : Type 0} (K : A → Type 0) (M : V → Type 0) (v : Option (List A × List V)) → IfSome v (KeptTwo K M) → KeptTwo K M (or_neither v)
+kept-neither K M None k = (All-nil K, All-nil M)
+kept-neither K M (Some both) k = k
+
+module _ {A V : Type 0} (K : A → Type 0) (M : V → Type 0) where
+  abbrev KeptEither : A ⊎ List V → Type 0
+  KeptEither (inl a) = K a
+  KeptEither (inr vs) = All M vs
+
+  kept-two : (us : List (A ⊎ List V)) → All KeptEither us → KeptTwo K M (in_two us)
+  kept-two [] h = (All-nil K, All-nil M)
+  kept-two (inl a ∷ us) h = let others = kept-two us (All-tail KeptEither (inl a) us h) in (All-cons K a (in_two us).0 (All-head KeptEither (inl a) us h) others.0, others.1)
+  kept-two (inr vs ∷ us) h = (All-nil K, All-head KeptEither (inr vs) us h)
+
+  kept-others : (v : A × Option (Terminal × List (A ⊎ List V))) → K v.0 × IfSome v.1 (λ u. Unit {0} × All KeptEither u.1) → KeptTwo K M (and_then_others v)
+  kept-others (v, None) k = (All-cons K v [] k.0 (All-nil K), All-nil M)
+  kept-others (v, Some others) k = kept-two (inl v ∷ others.1) (All-cons KeptEither (inl v) others.1 k.0 k.1.1)
+
+  module _ {Is : Terminal → Type 0} {P : Spells A} {Q : Spells V} (x : Keeps Is K P) (y : Keeps Is M Q) where
+    each-keeps : Keeps Is (λ w. KeptEither w.0) (LifetimeOrItems P Q)
+    each-keeps = or_keeps (to_keeps (to_keeps {L = λ w. K w.0} (seq_keeps x skipped) (λ v k. k.0)) (λ v k. k)) (to_keeps (listed1_keeps y) (λ vs k. k))
+
+    both-keeps : Keeps Is (KeptTwo K M) (LifetimesThen P Q)
+    both-keeps = or_keeps (to_keeps (seq_keeps x (optional_keeps (seq_keeps skipped (repeat_keeps each-keeps (λ u more k. k))))) kept-others) (to_keeps (listed1_keeps y) (λ vs k. (All-nil K, k)))
+
+pub lifetimes_then_keeps : {Is : Terminal → Type 0} {A V : Type 0} {P : Spells A} {Q : Spells V} {K : A → Type 0} {M : V → Type 0} → Keeps Is K P → Keeps Is M Q → Keeps Is (KeptTwo K M) (LifetimesThen P Q)
+lifetimes_then_keeps {K = K} {M = M} x y = both-keeps K M x y

@@ -3,7 +3,7 @@ use Rattle.std.proofs.Common.{◌≡◌, ℕ, ◌+◌, ◌≤◌, refl, ap, ◌�
 use Rattle.tm_parse.proofs.Weights.{weigh, weigh-append}
 use Rattle.tm_parse.specs.Combinators.{Others, Repeats}
 use Rattle.tm_parse.specs.Events.{Mark, Event, mark}
-use Rattle.tm_parse.specs.Shapes.{the, optional, is_there, and_others}
+use Rattle.tm_parse.specs.Shapes.{the, optional, is_there, and_others, in_two, and_then_others}
 use Rattle.tm_parse.specs.Types.{places}
 use Rattle.tm_parse.specs.declared.class.Class.TheVariants as c
 use Rattle.tm_parse.specs.declared.terminal.Terminal.{Terminal}
@@ -43,6 +43,28 @@ MayBe {V = V} P w e = ((v : V) × P v e × (w ≡ Some v)) ⊎ ((w ≡ None) × 
 abbrev pub AndOthers : {V : Type 0} → Spells V → Spells (List V)
 AndOthers {V = V} P w e = (v : V × Option (Terminal × List V)) × ((f : List Event) × (g : List Event) × P v.0 f
     × MayBe (λ u h. (a : List Event) × (b : List Event) × (the c.Comma).spells u.0 a × Repeats (WithComma P) u.1 b × (h ≡ a ++ b)) v.1 g × (e ≡ f ++ g)) × (w ≡ and_others v)
+
+-- lifetimes and then items
+abbrev pub LifetimeOrItems : {A V : Type 0} → Spells A → Spells V → Spells ((A ⊎ List V) × Bool)
+LifetimeOrItems {A = A} {V = V} P Q w e = ((v : A × Bool) × WithComma P v e × (w ≡ (inl v.0, v.1))) ⊎ ((vs : List V) × AndOthers Q vs e × (w ≡ (inr vs, false)))
+
+abbrev pub LifetimesThen : {A V : Type 0} → Spells A → Spells V → Spells (List A × List V)
+LifetimesThen {A = A} {V = V} P Q w e = ((v : A × Option (Terminal × List (A ⊎ List V))) × ((f : List Event) × (g : List Event) × P v.0 f
+    × MayBe (λ u h. (a : List Event) × (b : List Event) × (the c.Comma).spells u.0 a × Repeats (LifetimeOrItems P Q) u.1 b × (h ≡ a ++ b)) v.1 g × (e ≡ f ++ g)) × (w ≡ and_then_others v))
+    ⊎ ((vs : List V) × AndOthers Q vs e × (w ≡ ([], vs)))
+
+-- the sum over lifetimes, and over the items
+abbrev pub total_two : {A V : Type 0} → (A → ℕ) → (V → ℕ) → List A × List V → ℕ
+total_two m n v = total m v.0 + total n v.1
+
+abbrev either_number : {A V : Type 0} → (A → ℕ) → (V → ℕ) → A ⊎ List V → ℕ
+either_number m n (inl a) = m a
+either_number m n (inr vs) = total n vs
+
+two-total : {A V : Type 0} (m : A → ℕ) (n : V → ℕ) (us : List (A ⊎ List V)) → total_two m n (in_two us) ≤ total (either_number m n) us
+two-total m n [] = omega arith
+two-total m n (inl a ∷ us) = let others = two-total m n us in omega (arith, others)
+two-total m n (inr vs ∷ us) = omega arith
 
 module _ {weight : Mark → ℕ} where
   pub any_least : {V : Type 0} {P : Spells V} → AtLeast weight (λ v. 0) P
@@ -94,3 +116,13 @@ module _ {weight : Mark → ℕ} where
       sums : (v : V × Option (Terminal × List V)) → total n (and_others v) ≤ n v.0 + total_if (λ w. 0 + total n w.1) v.1
       sums (v, None) = omega arith
       sums (v, Some others) = omega arith
+
+  pub lifetimes_then_least : {A V : Type 0} {P : Spells A} {Q : Spells V} {m : A → ℕ} {n : V → ℕ} → AtLeast weight m P → AtLeast weight n Q → AtLeast weight (total_two m n) (LifetimesThen P Q)
+  lifetimes_then_least {A = A} {V = V} {P = P} {Q = Q} {m = m} {n = n} x y = or_least (to_least (seq_least x (optional_least (seq_least any_least (repeat_least each (λ u more. omega arith))))) sums) (to_least (listed1_least y) (λ vs. omega arith))
+    where
+      each : AtLeast weight (λ w. either_number m n w.0) (LifetimeOrItems P Q)
+      each = or_least (to_least (to_least {n = λ w. m w.0} (seq_least x any_least) (λ v. omega arith)) (λ v. omega arith)) (to_least (listed1_least y) (λ vs. omega arith))
+
+      sums : (v : A × Option (Terminal × List (A ⊎ List V))) → total_two m n (and_then_others v) ≤ m v.0 + total_if (λ w. 0 + total (either_number m n) w.1) v.1
+      sums (v, None) = omega arith
+      sums (v, Some others) = let all = two-total m n others.1 in omega (arith, all)

@@ -10,9 +10,12 @@ pub mod Pairs
 pub mod Marks
 pub mod Repetitions
 pub mod Loops
+pub mod SoFar
+pub mod LifetimesThen
 pub mod Kept
 pub mod Levels
 pub mod ShapeLaws
+pub mod LifetimeLaws
 pub mod TypeForms
 pub mod Widening
 pub mod TypeLaws

@@ -109,9 +109,9 @@ comma_next p n after ts rest v h = ap (λ o. mapped and_comma (followed comma.re
 pub item_stops : {V : Type 0} (p : Part V) (n : Counts) (ts : List Terminal) (after : Place) (e : Stop) → Stops (p.read n ts) after e → Stops ((with_comma p).read n ts) after e
 item_stops p n ts after e s = mapped_stops and_comma (followed comma.read (p.read n ts)) after e (followed_stops comma.read (p.read n ts) after e s)
 
-pub comma_read : {V : Type 0} (p : Part V) (n after later : Counts) (ts rest left : List Terminal) (v : V) (b : Bool) → p.read n ts ≡ Done v after rest
-    → (to is_there comma).read after rest ≡ Done b later left → (with_comma p).read n ts ≡ Done (v, b) later left
-comma_read p n after later ts rest left v b h g = comma_next p n after ts rest v h ∙ ap (mapped (λ b. (v, b))) g
+pub comma_read : {V : Type 0} (p : Part V) (n after later : Counts) (ts rest left : List Terminal) (v : V) (b there : Bool) → p.read n ts ≡ Done v after rest
+    → (to is_there comma).read after rest ≡ Done b later left → b ≡ there → (with_comma p).read n ts ≡ Done (v, there) later left
+comma_read p n after later ts rest left v b there h g e = comma_next p n after ts rest v h ∙ ap (mapped (λ b. (v, b))) g ∙ ap (λ b. Done (v, b) later left) e
 
 pub comma_stops : {V : Type 0} (p : Part V) (n m : Counts) (ts rest : List Terminal) (v : V) (after : Place) (e : Stop) → p.read n ts ≡ Done v m rest
     → Stops ((to is_there comma).read m rest) after e → Stops ((with_comma p).read n ts) after e

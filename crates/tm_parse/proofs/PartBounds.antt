@@ -2,10 +2,10 @@
 use Rattle.std.proofs.Common.{◌≡◌, ℕ, ◌≤◌, sym, ap, ◌∙◌, subst, Bool, Option, Some, None, List, [], ◌∷◌, ◌++◌, length, length-append, append-nil, arith, ◌⊎◌, inl, inr}
 use Rattle.tm_base.specs.declared.definition.Kind.{Kind}
 use Rattle.tm_base.specs.declared.definition.Kind.TheVariants as kind
-use Rattle.tm_parse.proofs.Counters.{definitions, parameters, fields, variants, parameter_counter, field_counter, variant_counter}
+use Rattle.tm_parse.proofs.Counters.{definitions, parameters, type_parameters, fields, variants, parameter_counter, type_parameter_counter, field_counter, variant_counter}
 use Rattle.tm_parse.proofs.DefinitionMarks.{parameters_without, struct_without, union_without, enum_without}
 use Rattle.tm_parse.proofs.Keeping.{Keeps, skipped, to_keeps, seq_keeps, or_keeps}
-use Rattle.tm_parse.proofs.Least.{Spells, AtLeast, total, total_if, total-one, total-places, any_least, fewer, to_least, seq_least, or_least, mark_least, listed_least, listed1_least, optional_least}
+use Rattle.tm_parse.proofs.Least.{Spells, AtLeast, total, total_if, total-one, total-places, any_least, fewer, to_least, seq_least, or_least, mark_least, listed_least, listed1_least, optional_least, lifetimes_then_least}
 use Rattle.tm_parse.proofs.Weights.{weigh, weigh-append, marked, behind_mark, counter_within}
 use Rattle.tm_parse.proofs.Without.{Without, one_without, seq_without}
 use Rattle.tm_parse.specs.Bounds.{fields_of, HasFewParts}
@@ -14,8 +14,8 @@ use Rattle.tm_parse.specs.Events.{a_definition, Event, mark}
 use Rattle.tm_parse.specs.Limits.{Within, count}
 use Rattle.tm_parse.specs.Combinators.{◌>>◌}
 use Rattle.tm_parse.specs.Parts.{Part}
-use Rattle.tm_parse.specs.Shapes.{any, the}
-use Rattle.tm_parse.specs.Types.{definition_names, or_none}
+use Rattle.tm_parse.specs.Shapes.{any, the, or_neither}
+use Rattle.tm_parse.specs.Types.{definition_names, or_none, places}
 use Rattle.tm_parse.specs.declared.class.Class.{Class}
 use Rattle.tm_parse.specs.declared.class.Class.TheVariants as c
 use Rattle.tm_parse.specs.declared.counts.Counts.{Counts}
@@ -34,9 +34,19 @@ length-or-none n (Some vs) all = all vs
 ones : {V : Type 0} (vs : List V) → length vs ≤ total (λ v. 1) vs
 ones vs = let all = total-one vs in omega (arith, all)
 
-parameters-least : AtLeast parameters length (d.parameters).spells
-parameters-least = to_least (optional_least (to_least {n = total (λ t. 1)} (seq_least any_least (seq_least (listed1_least (fewer {n = λ t. 1} (mark_least any_least) (λ t. omega arith))) any_least)) (λ v. omega arith)))
-    (λ v. let all = length-or-none (λ t. 1) v ones in let same = total-places (or_none v) in omega (arith, all, same))
+parameters-least : AtLeast parameters (λ v. length v.0) (d.parameters).spells
+parameters-least = to_least (optional_least (to_least {n = λ v. total (λ t. 1) v.0} (seq_least any_least (seq_least (lifetimes_then_least {n = λ t. 0} (fewer {n = λ t. 1} (mark_least any_least) (λ t. omega arith)) any_least) any_least)) (λ v. omega arith))) some
+  where
+    some : (v : Option (List Terminal × List Terminal)) → length (places (or_neither v).0) ≤ total_if (λ v. total (λ t. 1) v.0) v
+    some None = omega arith
+    some (Some v) = let all = total-one v.0 in let same = total-places v.0 in omega (arith, all, same)
+
+type-parameters-least : AtLeast type_parameters (λ v. length v.1) (d.parameters).spells
+type-parameters-least = to_least (optional_least (to_least {n = λ v. total (λ t. 1) v.1} (seq_least any_least (seq_least (lifetimes_then_least {m = λ t. 0} any_least (fewer {n = λ t. 1} (mark_least any_least) (λ t. omega arith))) any_least)) (λ v. omega arith))) some
+  where
+    some : (v : Option (List Terminal × List Terminal)) → length (places (or_neither v).1) ≤ total_if (λ v. total (λ t. 1) v.1) v
+    some None = omega arith
+    some (Some v) = let all = total-one v.1 in let same = total-places v.1 in omega (arith, all, same)
 
 fields-single : (fields : List DeclField) → length (fields_of (d.single fields)) ≤ total (λ f. 1) fields
 fields-single fields = let all = total-one fields in let same = ap length (append-nil fields) in omega (arith, all, same)
@@ -110,14 +120,17 @@ abbrev Headed : (List DeclRepr → Decl) → Type 0
 Headed d = (reprs : List DeclRepr) → HasFewParts (d reprs)
 
 module _ (Is : Terminal → Type 0) (what : Kind) (class : Class) (body : Part (List DeclVariant)) (none : Without definitions body.spells) (many : AtLeast fields (λ vs. length (fields_of vs)) body.spells) (few : Few length body.spells) where
-  abbrev inner : Part (Terminal × (Terminal × (List ℕ × List DeclVariant)))
+  abbrev inner : Part (Terminal × (Terminal × ((List ℕ × List ℕ) × List DeclVariant)))
   inner = the class >> any definition_names >> d.parameters >> body
 
   inner-without : Without definitions inner.spells
   inner-without = seq_without one_without (seq_without one_without (seq_without parameters_without none))
 
-  inner-parameters : AtLeast parameters (λ v. length v.1.1.0) inner.spells
+  inner-parameters : AtLeast parameters (λ v. length v.1.1.0.0) inner.spells
   inner-parameters = fewer (seq_least any_least (seq_least any_least (seq_least parameters-least any_least))) (λ v. omega arith)
+
+  inner-type-parameters : AtLeast type_parameters (λ v. length v.1.1.0.1) inner.spells
+  inner-type-parameters = fewer (seq_least any_least (seq_least any_least (seq_least type-parameters-least any_least))) (λ v. omega arith)
 
   inner-fields : AtLeast fields (λ v. length (fields_of v.1.1.1)) inner.spells
   inner-fields = fewer (seq_least any_least (seq_least any_least (seq_least any_least many))) (λ v. omega arith)
@@ -125,12 +138,13 @@ module _ (Is : Terminal → Type 0) (what : Kind) (class : Class) (body : Part (
   inner-few : Few (λ v. length v.1.1.1) inner.spells
   inner-few = second-few (the class).spells (second-few (any definition_names).spells (second-few (d.parameters).spells few))
 
-  few-parts : (v : Terminal × (Terminal × (List ℕ × List DeclVariant))) (e : List Event) (c after : Counts) → inner.spells v e → count c (mark a_definition ∷ e) ≡ Within after → (reprs : List DeclRepr) → HasFewParts (d.defined what (v.0, v.1.0, v.1.1.0, v.1.1.1) reprs)
+  few-parts : (v : Terminal × (Terminal × ((List ℕ × List ℕ) × List DeclVariant))) (e : List Event) (c after : Counts) → inner.spells v e → count c (mark a_definition ∷ e) ≡ Within after → (reprs : List DeclRepr) → HasFewParts (d.defined what (v.0, v.1.0, v.1.1.0, v.1.1.1) reprs)
   few-parts v e c after h within reprs =
       let counts = (behind_mark c after a_definition e within).0 in
       let none = inner-without.none v e h in
       record {
         parameters = (let all = inner-parameters.least v e h in let most = counter_within parameter_counter (marked c a_definition) after e counts none (omega arith) in omega (arith, all, most));
+        type_params = (let all = inner-type-parameters.least v e h in let most = counter_within type_parameter_counter (marked c a_definition) after e counts none (omega arith) in omega (arith, all, most));
         variants = inner-few.few v e 256 h (omega arith) (let most = counter_within variant_counter (marked c a_definition) after e counts none (omega arith) in omega (arith, most));
         fields = (let all = inner-fields.least v e h in let most = counter_within field_counter (marked c a_definition) after e counts none (omega arith) in omega (arith, all, most));
       }

@@ -5,12 +5,13 @@ use Rattle.std.specs.List.{enumerate_from}
 use Rattle.tm_lex.specs.declared.token.Token.{Token}
 use Rattle.tm_parse.proofs.EachType.{KeepsTypes}
 use Rattle.tm_parse.proofs.FileKeeping.{KeptItem, kept_of_file}
-use Rattle.tm_parse.proofs.Keeping.{Keeps, skipped, word_keeps, to_keeps, seq_keeps, or_keeps, mark_keeps, many_keeps, listed_keeps, listed1_keeps, optional_keeps}
+use Rattle.tm_parse.proofs.Keeping.{Keeps, skipped, word_keeps, to_keeps, seq_keeps, or_keeps, mark_keeps, many_keeps, listed_keeps, listed1_keeps, optional_keeps, KeptTwo, kept-neither, lifetimes_then_keeps}
 use Rattle.tm_parse.proofs.TypeKeeping.{KeepsKinds, keeps_written}
 use Rattle.tm_parse.specs.Accepted.{IsFile}
-use Rattle.tm_parse.specs.Definitions.{placed_at, repr_or_derive, attribute, together, field, place, variant_field, variant_place, variant_fields, variant, variant_of, parameters, single, struct_body, union_body, enum_body, headed_any, definition}
+use Rattle.tm_parse.specs.Definitions.{placed_at, repr_or_derive, attribute, together, field, place, variant_field, variant_place, variant_fields, variant, variant_of, both_places, parameters, single, struct_body, union_body, enum_body, headed_any, definition}
 use Rattle.tm_parse.specs.Files.{question, item}
 use Rattle.tm_parse.specs.Places.{own_places, PlacesOfType, PlacesOfField, PlacesOfVariant, PlacesOfDefinition, PlacesOfBound, PlacesOfQuestion, EachPlace}
+use Rattle.tm_parse.specs.Shapes.{or_neither}
 use Rattle.tm_parse.specs.Spelling.{terminal_of, terminals_of}
 use Rattle.tm_parse.specs.Types.{places, or_none}
 use Rattle.tm_parse.specs.declared.counts.Counts.{Counts}
@@ -42,7 +43,7 @@ module _ (IsPlace : ℕ → Type 0) where
     ref = λ t unique inner h. All-cons IsPlace t.place [] h (All-nil IsPlace);
     nonzero = λ t h is. All-nil IsPlace;
     aliased = λ t h is. All-nil IsPlace;
-    named = λ t ts h others. All-cons IsPlace t.place (places ts) h (all-places ts others);
+    named = λ t lifetimes ts h others. All-cons IsPlace t.place (places lifetimes) h (all-places lifetimes others);
   }
 
   types : KeepsTypes At (PlacesOfType IsPlace)
@@ -67,9 +68,12 @@ module _ (IsPlace : ℕ → Type 0) where
   of-none K None h = All-nil K
   of-none K (Some vs) h = h
 
-  of-parameters : Keeps At (All IsPlace) parameters.spells
-  of-parameters = to_keeps (optional_keeps (to_keeps {L = All At} (seq_keeps skipped (seq_keeps (listed1_keeps (mark_keeps word_keeps)) skipped)) (λ v k. k.1.0)))
-      (λ v k. all-places (or_none v) (of-none At v k))
+  both-places : (v : List Terminal × List Terminal) → KeptTwo At At v → KeptTwo IsPlace IsPlace (both_places v)
+  both-places v k = (all-places v.0 k.0, all-places v.1 k.1)
+
+  of-parameters : Keeps At (KeptTwo IsPlace IsPlace) parameters.spells
+  of-parameters = to_keeps (optional_keeps (to_keeps {L = KeptTwo At At} (seq_keeps skipped (seq_keeps (lifetimes_then_keeps (mark_keeps word_keeps) (mark_keeps word_keeps)) skipped)) (λ v k. k.1.0)))
+      (λ v k. both-places (or_neither v) (kept-neither At At v k))
 
   -- fields and variants
 
@@ -126,9 +130,9 @@ module _ (IsPlace : ℕ → Type 0) where
     Headed d = (reprs : List DeclRepr) → All OfRepr reprs → PlacesOfDefinition IsPlace (d reprs)
 
     of-headed : Keeps At Headed (headed_any levels).spells
-    of-headed = or_keeps (mark_keeps (to_keeps (seq_keeps skipped (seq_keeps word_keeps (seq_keeps of-parameters of-struct))) (λ v k reprs h. record { name = k.1.0; reprs = h; parameters = k.1.1.0; variants = k.1.1.1 })))
-        (or_keeps (mark_keeps (to_keeps (seq_keeps skipped (seq_keeps word_keeps (seq_keeps of-parameters of-union))) (λ v k reprs h. record { name = k.1.0; reprs = h; parameters = k.1.1.0; variants = k.1.1.1 })))
-        (mark_keeps (to_keeps (seq_keeps skipped (seq_keeps word_keeps (seq_keeps of-parameters of-enum))) (λ v k reprs h. record { name = k.1.0; reprs = h; parameters = k.1.1.0; variants = k.1.1.1 }))))
+    of-headed = or_keeps (mark_keeps (to_keeps (seq_keeps skipped (seq_keeps word_keeps (seq_keeps of-parameters of-struct))) (λ v k reprs h. record { name = k.1.0; reprs = h; parameters = k.1.1.0.0; type_parameters = k.1.1.0.1; variants = k.1.1.1 })))
+        (or_keeps (mark_keeps (to_keeps (seq_keeps skipped (seq_keeps word_keeps (seq_keeps of-parameters of-union))) (λ v k reprs h. record { name = k.1.0; reprs = h; parameters = k.1.1.0.0; type_parameters = k.1.1.0.1; variants = k.1.1.1 })))
+        (mark_keeps (to_keeps (seq_keeps skipped (seq_keeps word_keeps (seq_keeps of-parameters of-enum))) (λ v k reprs h. record { name = k.1.0; reprs = h; parameters = k.1.1.0.0; type_parameters = k.1.1.0.1; variants = k.1.1.1 }))))
 
     of-definition : Keeps At (PlacesOfDefinition IsPlace) (definition levels).spells
     of-definition = to_keeps (seq_keeps (many_keeps of-attribute) (seq_keeps skipped of-headed)) (λ v k. k.1.1 (together v.0) (all-together v.0 k.0))

@@ -1,4 +1,5 @@
--- The laws of a repetition.
+-- The laws of a repetition. What matters of a part behind which another may follow is that no part begins with
+-- a terminal that would go on with it.
 use Rattle.std.proofs.Common.{◌≡◌, ℕ, zero, suc, ◌+◌, ◌<◌, ◌≤◌, refl, sym, ap, ◌∙◌, subst, Bool, true, false, List, [], ◌∷◌, ◌++◌, length, append_assoc, append-nil, length-append, arith}
 use Rattle.tm_parse.proofs.ClassLists.{among-apart}
 use Rattle.tm_parse.proofs.Forms.{filled-front, repeat_form}
@@ -14,7 +15,7 @@ use Rattle.tm_parse.specs.declared.class.Class.{Class}
 use Rattle.tm_parse.specs.declared.counts.Counts.{Counts}
 use Rattle.tm_parse.specs.declared.terminal.Terminal.{Terminal}
 
-module _ {V : Type 0} (P : ℕ → Part (V × Bool)) (p : Laws P) (filled : (P zero).empty ≡ false) (sep : apart (P zero).bars (P zero).first ≡ true) where
+module _ {V : Type 0} (P : ℕ → Part (V × Bool)) (p : Laws P) (filled : (P zero).empty ≡ false) where
   abbrev R : ℕ → Part (List V)
   R n = repeat (P n)
 
@@ -35,13 +36,16 @@ module _ {V : Type 0} (P : ℕ → Part (V × Bool)) (p : Laws P) (filled : (P z
   shorter [] z ts f e = absurd f
   shorter (t ∷ q) z ts f e = subst (λ x. length z < length x) (sym e) (omega (arith, length-append q z))
 
+  pub left-shorter : (c : Counts) (ts : List Terminal) (v : V × Bool) (d : Counts) (rest : List Terminal) → IsDone P c ts v d rest → length rest < length ts
+  left-shorter c ts v d rest g = shorter (terminals g.events) rest ts (front g.depth v g.events g.spelled) g.text
+
   go-same : (g h : Reader (List V)) (b : Bool) (d : Counts) (z : List Terminal) → g d z ≡ h d z → go_on b g d z ≡ go_on b h d z
   go-same g h true d z e = e
   go-same g h false d z e = refl
 
   again-same : (g h : Reader (List V)) (c : Counts) (ts : List Terminal) (o : Outcome (V × Bool)) → IsRight P c ts o
       → ((d : Counts) (z : List Terminal) → length z < length ts → g d z ≡ h d z) → and_again g o ≡ and_again h o
-  again-same g h c ts (Done v d rest) i same = ap (put_first v.0) (go-same g h v.1 d rest (same d rest (shorter (terminals i.events) rest ts (front i.depth v i.events i.spelled) i.text)))
+  again-same g h c ts (Done v d rest) i same = ap (put_first v.0) (go-same g h v.1 d rest (same d rest (left-shorter c ts v d rest i)))
   again-same g h c ts (Stuck rest) i same = refl
   again-same g h c ts (Passed kind rest) i same = refl
 
@@ -74,17 +78,9 @@ module _ {V : Type 0} (P : ℕ → Part (V × Bool)) (p : Laws P) (filled : (P z
 
   -- spelled, and so read
 
-  clear-on : (e z : List Terminal) → Front first true e → Clear (P zero).bars z → Clear (P zero).bars (e ++ z)
-  clear-on [] z f h = h
-  clear-on (t ∷ e) z f h = among-apart (P zero).bars first t.class sep f
-
   stopped : (z : List Terminal) → Clear first z → starts first z ≡ false
   stopped [] h = refl
   stopped (t ∷ z) h = h
-
-  others-front : (n : ℕ) (more : Bool) (vs : List V) (e : List Event) → Others more ((R n).spells vs e) vs e → Front first true (terminals e)
-  others-front n true vs e h = (repeat_form p.form filled).front n vs e h
-  others-front n false vs e h = subst (λ e. Front first true (terminals e)) (sym h.1) tt
 
   second : (v : V) (more : Bool) (vs : List V) (c : Counts) (e f : List Event) (z : List Terminal) (x : Verdict) → count c e ≡ x
       → ((d : Counts) → go_on more all d (terminals f ++ z) ≡ finish vs z (count d f))
@@ -95,20 +91,6 @@ module _ {V : Type 0} (P : ℕ → Part (V × Bool)) (p : Laws P) (filled : (P z
       go (Within d) = refl
       go (Beyond kind left) = refl
   second v more vs c e f z (Beyond kind left) h r = ap (Passed kind) (sym (terminals-before left f z)) ∙ ap (finish (v ∷ vs) z) (sym (count-beyond c kind e f left h))
-
-  reads : (n : ℕ) (vs : List V) (e : List Event) (c : Counts) (z : List Terminal) → (R n).spells vs e → Clear (first ++ (P zero).bars) z → all c (terminals e ++ z) ≡ finish vs z (count c e)
-  reads n [] e c z h l = subst (λ e. all c (terminals e ++ z) ≡ finish [] z (count c e)) (sym h) (all-stop c z (stopped z (clear-both first (P zero).bars z l).0))
-  reads n (v ∷ vs) e c z (more, f, g, s, t, eq) l =
-      let begun = front n (v, more) f s in
-      let clear : Clear (P zero).bars (terminals g ++ z) = clear-on (terminals g) z (others-front n more vs g t) (clear-both first (P zero).bars z l).1 in
-      subst (λ e. all c (terminals e ++ z) ≡ finish (v ∷ vs) z (count c e)) (sym eq)
-      (ap (all c) (terminals-before f g z) ∙ all-on c (terminals f ++ (terminals g ++ z)) (starts-front first (terminals f) (terminals g ++ z) begun)
-      ∙ ap (and_again all) (p.reads n (v, more) f c (terminals g ++ z) s clear)
-      ∙ second v more vs c f g z (count c f) refl (next more t (λ d h. reads n vs g d z h l)))
-    where
-      next : (more : Bool) → Others more ((R n).spells vs g) vs g → ((d : Counts) → (R n).spells vs g → all d (terminals g ++ z) ≡ finish vs z (count d g)) → (d : Counts) → go_on more all d (terminals g ++ z) ≡ finish vs z (count d g)
-      next true t again d = again d t
-      next false t again d = subst (λ e. Done [] d (terminals e ++ z) ≡ finish vs z (count d e)) (sym t.1) (ap (λ y. Done y d z) (sym t.0))
 
   -- spellings
 
@@ -181,7 +163,7 @@ module _ {V : Type 0} (P : ℕ → Part (V × Bool)) (p : Laws P) (filled : (P z
 
   first-right : (c : Counts) (ts : List Terminal) → starts first ts ≡ true → ((d : Counts) (z : List Terminal) → length z < length ts → IsRight R d z (all d z))
       → (o : Outcome (V × Bool)) → IsRight P c ts o → IsRight R c ts (and_again all o)
-  first-right c ts b rec (Done v d rest) g = next-right c d v.0 v.1 ts rest g (rec d rest (shorter (terminals g.events) rest ts (front g.depth v g.events g.spelled) g.text))
+  first-right c ts b rec (Done v d rest) g = next-right c d v.0 v.1 ts rest g (rec d rest (left-shorter c ts v d rest g))
   first-right c ts b rec (Stuck rest) (back, after, g) = (back, after, first-stops c ts rest back after Stuck b g)
   first-right c ts b rec (Passed kind rest) (back, after, g, past) = (back, after, first-stops c ts rest back after (Passed kind) b g, past)
 
@@ -194,19 +176,44 @@ module _ {V : Type 0} (P : ℕ → Part (V × Bool)) (p : Laws P) (filled : (P z
           (record { depth = 0; events = []; spelled = refl; text = refl; within = refl; alone = λ o e. all-stop c o (sym (starts-same first ts o e) ∙ s) })
       by true s rec = subst (IsRight R c ts) (sym (all-on c ts s)) (first-right c ts s rec ((P zero).read c ts) (p.right c ts))
 
-  pub repetition-laws : Laws (λ n. repeat (P n))
-  repetition-laws = record {
-    form = repeat_form p.form filled;
-    some = record { depth = 0; value = []; events = []; spelled = refl };
-    none = λ h. record { spelling = record { depth = 0; value = []; events = []; spelled = refl }; nothing = refl };
-    begins = λ t h. let x = p.begins t h in let y = x.spelling in record {
-      spelling = record { depth = y.depth; value = y.value.0 ∷ []; events = y.events; spelled = single y.depth y.value y.events y.spelled };
-      others = x.others;
-      next = x.next;
-    };
-    reads = reads;
-    right = λ c ts. right-below (suc (length ts)) c ts (omega arith);
-  }
+  -- `follow` has the classes that would go on with a part behind which another may follow
+  module _ (follow : List Class) (sep : apart follow first ≡ true)
+      (goes-on : (n : ℕ) (v : V) (e : List Event) (c : Counts) (z : List Terminal) → (P n).spells (v, true) e → Clear follow z → (P zero).read c (terminals e ++ z) ≡ finish (v, true) z (count c e)) where
+    -- a part before others, and before nothing
+    before : (n : ℕ) (v : V) (more : Bool) (vs : List V) (f g : List Event) (c : Counts) (z : List Terminal) → (P n).spells (v, more) f → Others more ((R n).spells vs g) vs g → Clear (P zero).bars z
+        → (P zero).read c (terminals f ++ (terminals g ++ z)) ≡ finish (v, more) (terminals g ++ z) (count c f)
+    before n v false vs f g c z s t l = subst (λ g. (P zero).read c (terminals f ++ (terminals g ++ z)) ≡ finish (v, false) (terminals g ++ z) (count c f)) (sym t.1) (p.reads n (v, false) f c z s l)
+    before n v true vs f g c z s t l = go (terminals g) ((repeat_form p.form filled).front n vs g t)
+      where
+        go : (e : List Terminal) → Front first true e → (P zero).read c (terminals f ++ (e ++ z)) ≡ finish (v, true) (e ++ z) (count c f)
+        go [] h = p.reads n (v, true) f c z s l
+        go (t ∷ e) h = goes-on n v f c (t ∷ (e ++ z)) s (among-apart follow first t.class sep h)
+
+    reads : (n : ℕ) (vs : List V) (e : List Event) (c : Counts) (z : List Terminal) → (R n).spells vs e → Clear (first ++ (P zero).bars) z → all c (terminals e ++ z) ≡ finish vs z (count c e)
+    reads n [] e c z h l = subst (λ e. all c (terminals e ++ z) ≡ finish [] z (count c e)) (sym h) (all-stop c z (stopped z (clear-both first (P zero).bars z l).0))
+    reads n (v ∷ vs) e c z (more, f, g, s, t, eq) l =
+        subst (λ e. all c (terminals e ++ z) ≡ finish (v ∷ vs) z (count c e)) (sym eq)
+        (ap (all c) (terminals-before f g z) ∙ all-on c (terminals f ++ (terminals g ++ z)) (starts-front first (terminals f) (terminals g ++ z) (front n (v, more) f s))
+        ∙ ap (and_again all) (before n v more vs f g c z s t (clear-both first (P zero).bars z l).1)
+        ∙ second v more vs c f g z (count c f) refl (next more t (λ d h. reads n vs g d z h l)))
+      where
+        next : (more : Bool) → Others more ((R n).spells vs g) vs g → ((d : Counts) → (R n).spells vs g → all d (terminals g ++ z) ≡ finish vs z (count d g)) → (d : Counts) → go_on more all d (terminals g ++ z) ≡ finish vs z (count d g)
+        next true t again d = again d t
+        next false t again d = subst (λ e. Done [] d (terminals e ++ z) ≡ finish vs z (count d e)) (sym t.1) (ap (λ y. Done y d z) (sym t.0))
+
+    pub repetition-laws : Laws (λ n. repeat (P n))
+    repetition-laws = record {
+      form = repeat_form p.form filled;
+      some = record { depth = 0; value = []; events = []; spelled = refl };
+      none = λ h. record { spelling = record { depth = 0; value = []; events = []; spelled = refl }; nothing = refl };
+      begins = λ t h. let x = p.begins t h in let y = x.spelling in record {
+        spelling = record { depth = y.depth; value = y.value.0 ∷ []; events = y.events; spelled = single y.depth y.value y.events y.spelled };
+        others = x.others;
+        next = x.next;
+      };
+      reads = reads;
+      right = λ c ts. right-below (suc (length ts)) c ts (omega arith);
+    }
 
 pub repeat_laws : {V : Type 0} {P : ℕ → Part (V × Bool)} → Laws P → (P zero).empty ≡ false → apart (P zero).bars (P zero).first ≡ true → Laws (λ n. repeat (P n))
-repeat_laws {P = P} p s t = repetition-laws P p s t
+repeat_laws {P = P} p s t = repetition-laws P p s (P zero).bars t (λ n v e c z h k. p.reads n (v, true) e c z h k)

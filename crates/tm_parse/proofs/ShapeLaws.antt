@@ -8,7 +8,7 @@ use Rattle.tm_parse.proofs.Single.{one_laws, nothing_laws}
 use Rattle.tm_parse.specs.Classes.{apart, joined}
 use Rattle.tm_parse.specs.Events.{plain}
 use Rattle.tm_parse.specs.Parts.{Part}
-use Rattle.tm_parse.specs.Shapes.{any, the, optional, many, listed, listed1, between}
+use Rattle.tm_parse.specs.Shapes.{any, the, optional, many, with_comma, listed, listed1, between}
 use Rattle.tm_parse.specs.declared.class.Class.{Class}
 use Rattle.tm_parse.specs.declared.class.Class.TheVariants as c
 
@@ -28,10 +28,13 @@ optional_laws {P = P} p s = or_laws (to_laws Some p) (nothing_laws None) s (apar
 pub many_laws : {V : Type 0} {P : ℕ → Part V} → Laws P → (P zero).empty ≡ false → apart (P zero).bars (P zero).first ≡ true → Laws (λ n. many (P n))
 many_laws p s t = repeat_laws (to_laws _ p) s t
 
+pub comma_laws : {V : Type 0} {P : ℕ → Part V} → Laws P → apart (P zero).bars (c.Comma ∷ []) ≡ true → Laws (λ n. with_comma (P n))
+comma_laws p t = to_laws _ (seq_laws p (optional_laws (the_laws c.Comma) refl) t)
+
 -- a comma goes on with no part of the list, and nothing that goes on with one begins one
 pub listed_laws : {V : Type 0} {P : ℕ → Part V} → Laws P → (P zero).empty ≡ false → apart (P zero).bars (c.Comma ∷ []) ≡ true
     → apart ((P zero).bars ++ c.Comma ∷ []) (joined (P zero).empty (c.Comma ∷ []) (P zero).first) ≡ true → Laws (λ n. listed (P n))
-listed_laws {P = P} p s t u = repeat_laws (to_laws _ (seq_laws p (optional_laws (the_laws c.Comma) refl) t)) (subst (λ b. (b && true) ≡ false) (sym s) refl) u
+listed_laws {P = P} p s t u = repeat_laws (comma_laws p t) (subst (λ b. (b && true) ≡ false) (sym s) refl) u
 
 pub listed1_laws : {V : Type 0} {P : ℕ → Part V} → Laws P → (P zero).empty ≡ false → apart (P zero).bars (c.Comma ∷ []) ≡ true
     → apart ((P zero).bars ++ c.Comma ∷ []) (joined (P zero).empty (c.Comma ∷ []) (P zero).first) ≡ true → Laws (λ n. listed1 (P n))

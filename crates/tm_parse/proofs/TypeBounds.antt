@@ -6,7 +6,7 @@ use Rattle.tm_base.specs.declared.ground.Wrapper.{Wrapper}
 use Rattle.tm_parse.proofs.Counters.{types, outermost, type_counter}
 use Rattle.tm_parse.proofs.EachType.{KeepsTypes}
 use Rattle.tm_parse.proofs.Keeping.{Keeps}
-use Rattle.tm_parse.proofs.Least.{Spells, AtLeast, total, total_if, any_least, fewer, to_least, seq_least, or_least, mark_least, listed_least, optional_least}
+use Rattle.tm_parse.proofs.Least.{Spells, AtLeast, total, total_if, any_least, fewer, to_least, seq_least, or_least, mark_least, listed_least, optional_least, lifetimes_then_least}
 use Rattle.tm_parse.proofs.Weights.{marked, behind_mark, counter_within}
 use Rattle.tm_parse.proofs.Without.{Without, behind_without, plain_without, level_without, type_without}
 use Rattle.tm_parse.proofs.WrittenLemmas.{written-Prim, written-Never, written-Tuple, written-Array, written-NonZero, written-Wrap, written-Named, written-Ref}
@@ -14,8 +14,8 @@ use Rattle.tm_parse.specs.Bounds.{IsSmall}
 use Rattle.tm_parse.specs.Combinators.{counts_as}
 use Rattle.tm_parse.specs.Events.{a_type, Event, mark}
 use Rattle.tm_parse.specs.Limits.{number_of, Within, count}
-use Rattle.tm_parse.specs.Shapes.{is_there}
-use Rattle.tm_parse.specs.Types.{wrapper_of, tuple_or_inner, behind_paren, plain_type, one_level, type_part, read_none, SpellsType}
+use Rattle.tm_parse.specs.Shapes.{is_there, or_neither}
+use Rattle.tm_parse.specs.Types.{wrapper_of, places, named_with, arguments, tuple_or_inner, behind_paren, plain_type, one_level, type_part, read_none, SpellsType}
 use Rattle.tm_parse.specs.Written.{written}
 use Rattle.tm_parse.specs.declared.counts.Counts.{Counts}
 use Rattle.tm_parse.specs.declared.parsed.Expr.{Expr}
@@ -58,13 +58,20 @@ inside-nonzero p = let all = ap length (written-NonZero p) in omega (arith, all)
 inside-wrap : (w : Wrapper) (t : Expr) → inside (expr.Wrap w t) ≤ nodes t
 inside-wrap w t = let all = ap length (written-Wrap w t) in omega (arith, all)
 
-inside-named : (name : ℕ) (lifetimes : List ℕ) → inside (expr.Named name lifetimes) ≤ 0
-inside-named name lifetimes = let all = ap length (written-Named name lifetimes) in omega (arith, all)
+inside-named : (t : Terminal) (given : List Terminal × List Expr) → inside (named_with t given) ≤ total nodes given.1
+inside-named t given = let all = ap length (written-Named t.place (places given.0) given.1) in let same = total-nodes given.1 in omega (arith, all, same)
+
+given-nodes : (given : Option (List Terminal × List Expr)) → total nodes (or_neither given).1 ≤ total_if (λ v. total nodes v.1) given
+given-nodes None = omega arith
+given-nodes (Some both) = omega arith
 
 module _ {S : Spells Expr} (inner : AtLeast types nodes S) where
   behind-least : AtLeast types inside (behind_paren (type_part [] S read_none)).spells
   behind-least = or_least (to_least any_least (λ t. inside-tuple []))
       (to_least (seq_least inner (seq_least (optional_least (seq_least any_least (listed_least inner))) any_least)) (λ v. let all = inside-paren v.0 v.1.0 in omega (arith, all)))
+
+  arguments-least : AtLeast types (λ v. total nodes v.1) (arguments (type_part [] S read_none)).spells
+  arguments-least = to_least (seq_least any_least (seq_least (lifetimes_then_least {m = λ t. 0} any_least inner) any_least)) (λ v. omega arith)
 
   plain-least : AtLeast types inside (plain_type (type_part [] S read_none)).spells
   plain-least = or_least (to_least any_least (λ t. inside-prim _)) (or_least (to_least any_least (λ t. inside-never))
@@ -72,7 +79,7 @@ module _ {S : Spells Expr} (inner : AtLeast types nodes S) where
       (or_least (to_least (seq_least any_least (seq_least any_least (seq_least any_least inner))) (λ v. let all = inside-ref v.1.0.place (is_there v.1.1.0) v.1.1.1 in omega (arith, all)))
       (or_least (to_least any_least (λ v. inside-nonzero _)) (or_least (to_least any_least (λ t. inside-nonzero _))
       (or_least (to_least (seq_least any_least (to_least {n = nodes} (seq_least any_least (seq_least inner any_least)) (λ v. omega arith))) (λ v. let all = inside-wrap (wrapper_of v.0) v.1 in omega (arith, all)))
-      (to_least any_least (λ v. inside-named _ _))))))))
+      (to_least (seq_least any_least (optional_least arguments-least)) (λ v. let all = inside-named v.0 (or_neither v.1) in let given = given-nodes v.1 in omega (arith, all, given)))))))))
 
   level-least : AtLeast types inside (one_level (type_part [] S read_none)).spells
   level-least = or_least (to_least (seq_least any_least behind-least) (λ v. omega arith)) plain-least

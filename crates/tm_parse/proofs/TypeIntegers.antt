@@ -17,7 +17,7 @@ kinds = record {
   ref = λ t unique inner carries. refl;
   nonzero = λ t h carries. carries (among-left (integer ∷ []) (alias ∷ []) t.class h);
   aliased = λ t h carries. carries (among-right (integer ∷ []) (alias ∷ []) t.class h);
-  named = λ t ts h carries. refl;
+  named = λ t lifetimes ts h carries. refl;
 }
 
 pub keeps_integers : KeepsTypes CarriesInteger HasIntegers

@@ -1,18 +1,19 @@
 -- What is kept of each type that is written in another.
-use Rattle.std.proofs.Common.{◌≡◌, ◌≤◌, ℕ, zero, suc, refl, sym, subst, Bool, true, Option, Some, None, IfSome, List, [], ◌∷◌, All}
+use Rattle.std.proofs.Common.{◌≡◌, ◌≤◌, ℕ, zero, suc, sym, subst, Bool, true, Option, Some, None, IfSome, List, [], ◌∷◌, All}
 use Rattle.std.proofs.lemmas.List.Elements.{All-nil, All-cons, All-append, All-head, All-tail}
 use Rattle.std.specs.List.{flat_map}
 use Rattle.tm_base.specs.declared.ground.Primitive.{Primitive}
 use Rattle.tm_base.specs.declared.ground.Wrapper.{Wrapper}
 use Rattle.tm_parse.proofs.EachType.{KeepsTypes}
-use Rattle.tm_parse.proofs.Keeping.{Keeps, skipped, word_keeps, one_keeps, to_keeps, seq_keeps, or_keeps, mark_keeps, listed_keeps, listed1_keeps, optional_keeps}
+use Rattle.tm_parse.proofs.Keeping.{Keeps, skipped, word_keeps, one_keeps, to_keeps, seq_keeps, or_keeps, mark_keeps, listed_keeps, optional_keeps, KeptTwo, kept-neither, lifetimes_then_keeps}
 use Rattle.tm_parse.proofs.Lengths.{length_keeps}
 use Rattle.tm_parse.proofs.Least.{Spells}
 use Rattle.tm_parse.proofs.WrittenLemmas.{written-Prim, written-Never, written-Tuple, written-Array, written-NonZero, written-Wrap, written-Named, written-Ref}
 use Rattle.tm_parse.specs.Bounds.{EachWritten}
 use Rattle.tm_parse.specs.Classes.{among}
 use Rattle.tm_base.specs.Limits.{limit_number}
-use Rattle.tm_parse.specs.Types.{integer, alias, primitive_of, lifetimes, places, or_none, tuple_or_inner, behind_paren, plain_type, one_level, type_part, read_none, SpellsType}
+use Rattle.tm_parse.specs.Shapes.{or_neither}
+use Rattle.tm_parse.specs.Types.{integer, alias, primitive_of, places, named_with, arguments, tuple_or_inner, behind_paren, plain_type, one_level, type_part, read_none, SpellsType}
 use Rattle.tm_parse.specs.Written.{written}
 use Rattle.tm_base.specs.declared.limit.LimitKind.TheVariants as limit
 use Rattle.tm_parse.specs.declared.parsed.Expr.{Expr}
@@ -29,7 +30,7 @@ pub record KeepsKinds (Is : Terminal → Type 0) (K : Expr → Type 0) : Type 0 
   pub ref : (t : Terminal) (unique : Bool) (inner : Expr) → Is t → K (expr.Ref t.place unique inner)
   pub nonzero : (t : Terminal) → among (integer ∷ []) t.class ≡ true → Is t → K (expr.NonZero (primitive_of t))
   pub aliased : (t : Terminal) → among (alias ∷ []) t.class ≡ true → Is t → K (expr.NonZero (primitive_of t))
-  pub named : (t : Terminal) (ts : List Terminal) → Is t → All Is ts → K (expr.Named t.place (places ts))
+  pub named : (t : Terminal) (lifetimes : List Terminal) (ts : List Expr) → Is t → All Is lifetimes → K (expr.Named t.place (places lifetimes) ts)
 
 module _ (Is : Terminal → Type 0) (K : Expr → Type 0) (kinds : KeepsKinds Is K) where
   abbrev Each : Expr → Type 0
@@ -56,21 +57,16 @@ module _ (Is : Terminal → Type 0) (K : Expr → Type 0) (kinds : KeepsKinds Is
   nonzero : (t : Terminal) → K (expr.NonZero (primitive_of t)) → Each (expr.NonZero (primitive_of t))
   nonzero t h = alone (expr.NonZero (primitive_of t)) (written-NonZero (primitive_of t)) h
 
-  -- lifetimes, as their terminals
-  abbrev WithLifetimes : List ℕ → Type 0
-  WithLifetimes found = (ts : List Terminal) × All Is ts × (found ≡ places ts)
-
-  lifetimes-keep : Keeps Is WithLifetimes lifetimes.spells
-  lifetimes-keep = to_keeps (to_keeps {L = All Is} (seq_keeps skipped (seq_keeps (listed1_keeps word_keeps) skipped)) (λ v k. k.1.0)) (λ ts k. (ts, k, refl))
-
-  named : (t : Terminal) (found : Option (List ℕ)) → Is t → IfSome found WithLifetimes → Each (expr.Named t.place (or_none found))
-  named t None h k = alone (expr.Named t.place []) (written-Named t.place []) (kinds.named t [] h (All-nil Is))
-  named t (Some found) h (ts, k, e) = alone (expr.Named t.place found) (written-Named t.place found) (subst (λ x. K (expr.Named t.place x)) (sym e) (kinds.named t ts h k))
+  named : (t : Terminal) (given : List Terminal × List Expr) → Is t → KeptTwo Is Each given → Each (named_with t given)
+  named t given h k = around (named_with t given) (flat_map written given.1) (written-Named t.place (places given.0) given.1) (kinds.named t given.0 given.1 h k.0) (all-written given.1 k.1)
 
   module _ {S : Spells Expr} (inner : Keeps Is Each S) where
     behind-keeps : Keeps Is Each (behind_paren (type_part [] S read_none)).spells
     behind-keeps = or_keeps (to_keeps skipped (λ v k. tuple [] (All-nil Each)))
         (to_keeps (seq_keeps inner (seq_keeps (optional_keeps (seq_keeps skipped (listed_keeps inner))) skipped)) (λ v k. tuple-or v.0 v.1.0 k.0 k.1.0))
+
+    arguments-keep : Keeps Is (KeptTwo Is Each) (arguments (type_part [] S read_none)).spells
+    arguments-keep = to_keeps (seq_keeps skipped (seq_keeps (lifetimes_then_keeps word_keeps inner) skipped)) (λ v k. k.1.0)
 
     plain-keeps : Keeps Is Each (plain_type (type_part [] S read_none)).spells
     plain-keeps = or_keeps (to_keeps skipped (λ v k. alone _ (written-Prim _) (kinds.prim _))) (or_keeps (to_keeps skipped (λ v k. alone _ written-Never kinds.never))
@@ -79,7 +75,7 @@ module _ (Is : Terminal → Type 0) (K : Expr → Type 0) (kinds : KeepsKinds Is
         (or_keeps (to_keeps (seq_keeps skipped (to_keeps {L = λ t. K (expr.NonZero (primitive_of t))} (seq_keeps skipped (seq_keeps (one_keeps (integer ∷ []) kinds.nonzero) skipped)) (λ v k. k.1.0))) (λ v k. nonzero v.1 k.1))
         (or_keeps (to_keeps (one_keeps (alias ∷ []) {K = λ t. K (expr.NonZero (primitive_of t))} kinds.aliased) nonzero)
         (or_keeps (to_keeps (seq_keeps skipped (to_keeps {L = Each} (seq_keeps skipped (seq_keeps inner skipped)) (λ v k. k.1.0))) (λ v k. around _ (written v.1) (written-Wrap _ v.1) (kinds.wrap _ v.1) k.1.each))
-        (to_keeps (seq_keeps word_keeps (optional_keeps lifetimes-keep)) (λ v k. named v.0 v.1 k.0 k.1))))))))
+        (to_keeps (seq_keeps word_keeps (optional_keeps arguments-keep)) (λ v k. named v.0 (or_neither v.1) k.0 (kept-neither Is Each v.1 k.1)))))))))
 
     level-keeps : Keeps Is Each (one_level (type_part [] S read_none)).spells
     level-keeps = or_keeps (to_keeps (seq_keeps skipped behind-keeps) (λ v k. k.1)) plain-keeps

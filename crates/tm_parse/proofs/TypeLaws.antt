@@ -8,7 +8,7 @@ use Rattle.tm_parse.proofs.Lawful.{Clear, Front, Same, Form, Spelling, Begun, Is
 use Rattle.tm_parse.proofs.Levels.{at_limit}
 use Rattle.tm_parse.proofs.Marks.{mark_laws}
 use Rattle.tm_parse.proofs.ShapeLaws.{any_laws}
-use Rattle.tm_parse.proofs.TypeForms.{level_form, level_laws}
+use Rattle.tm_parse.proofs.TypeForms.{TellsTypes, level_form, level_laws}
 use Rattle.tm_parse.specs.Classes.{among, alike}
 use Rattle.tm_parse.specs.Combinators.{starts, counts_as}
 use Rattle.tm_parse.specs.Events.{a_type, mark, Event, terminals}
@@ -78,8 +78,11 @@ primitive-laws depth = widened (λ n. primitives depth) (λ n. primitive_part de
     free [] = tt
     free (t ∷ z) = refl
 
+tells-primitives : TellsTypes (integer ∷ scalar ∷ [])
+tells-primitives = record { comma = refl; unit = refl; unique = refl; closing = refl; lifetime = refl; argument = refl; arguments = refl }
+
 primitive-level : (depth : ℕ) → Laws (λ n. counts_as (a_type depth) (one_level (primitive_part (suc depth))))
-primitive-level depth = mark_laws (a_type depth) (level_laws (integer ∷ scalar ∷ []) (λ n. (primitives (suc depth)).spells) (primitives (suc depth)).read refl refl refl refl (primitive-laws (suc depth))) refl
+primitive-level depth = mark_laws (a_type depth) (level_laws (integer ∷ scalar ∷ []) (λ n. (primitives (suc depth)).spells) (primitives (suc depth)).read tells-primitives (primitive-laws (suc depth))) refl
 
 -- a type as a part, with any reader
 abbrev types : Reader Expr → ℕ → ℕ → Part Expr
@@ -170,11 +173,14 @@ clear-twice (t ∷ z) h = go (alike c.Less t.class) h
     go true h = h
     go false h = refl
 
+pub tells_types : TellsTypes type_first
+tells_types = record { comma = refl; unit = refl; unique = refl; closing = refl; lifetime = refl; argument = refl; arguments = refl }
+
 levels-laws : (g depth : ℕ) → 32 ≤ depth + g → Laws (λ n. types (read_type depth g) depth n)
 unfolding SpellsType read_type
 levels-laws zero depth l = none-laws depth (omega arith)
 levels-laws (suc g) depth l = widened (λ n. counts_as (a_type depth) (one_level (types (read_type (suc depth) g) (suc depth) n))) (λ n. types (read_type depth (suc g)) depth n)
-    (mark_laws (a_type depth) (level_laws type_first (SpellsType (suc depth)) (read_type (suc depth) g) refl refl refl refl (levels-laws g (suc depth) (omega arith))) refl)
+    (mark_laws (a_type depth) (level_laws type_first (SpellsType (suc depth)) (read_type (suc depth) g) tells_types (levels-laws g (suc depth) (omega arith))) refl)
     (types-form (read_type depth (suc g)) depth)
     (λ n v e h. (suc n, h)) (λ n v e h. (n, type-grow n depth v e h)) (λ c ts. refl) (λ t h. h) (λ z h. clear-twice z h) refl
 

@@ -22,7 +22,7 @@ kinds = record {
   ref = λ t unique inner h. refl;
   nonzero = λ t h is. refl;
   aliased = λ t h is. refl;
-  named = λ t ts h others. refl;
+  named = λ t lifetimes ts h others. refl;
 }
 
 pub keeps_lengths : KeepsTypes Any HasShortArrays

@@ -5,7 +5,7 @@ use Rattle.std.specs.Prelude.{nat_lt}
 use Rattle.tm_base.specs.declared.limit.LimitKind.{LimitKind}
 use Rattle.tm_base.specs.declared.limit.LimitKind.TheVariants as limit
 use Rattle.tm_base.specs.Limits.{limit_number}
-use Rattle.tm_parse.specs.Events.{Mark, a_definition, a_question, a_lifetime, a_parameter, a_field, a_variant, a_type, Role, plain, array_length, Event, terminal, mark}
+use Rattle.tm_parse.specs.Events.{Mark, a_definition, a_question, a_lifetime, a_parameter, a_type_parameter, a_field, a_variant, a_type, Role, plain, array_length, Event, terminal, mark}
 use Rattle.tm_parse.specs.Limits.{Step, Fine, Passes, within, and_then, name_bytes, number_of, is_number_or_sign, nodes_before, step, Within, counted, count}
 use Rattle.tm_parse.specs.declared.counts.Counts.{Counts}
 use Rattle.tm_parse.specs.declared.terminal.Terminal.{Terminal}
@@ -54,10 +54,11 @@ terminal-fine c d array_length t h = name-fine c d t (then-fine (within limit.Ar
 
 -- what a mark changes, and the number that it holds against a limit
 abbrev pub marked : Counts → Mark → Counts
-marked n a_definition = record n { definitions = n.definitions + 1; parameters = 0; fields = 0; variants = 0 }
+marked n a_definition = record n { definitions = n.definitions + 1; parameters = 0; type_parameters = 0; fields = 0; variants = 0 }
 marked n a_question = record n { questions = n.questions + 1 }
 marked n a_lifetime = record n { lifetimes = n.lifetimes + 1 }
 marked n a_parameter = record n { parameters = n.parameters + 1 }
+marked n a_type_parameter = record n { type_parameters = n.type_parameters + 1 }
 marked n a_field = record n { fields = n.fields + 1 }
 marked n a_variant = record n { variants = n.variants + 1 }
 marked n (a_type depth) = record n { nodes = nodes_before depth n + 1 }
@@ -67,6 +68,7 @@ Holds n a_definition = n.definitions ≤ 256
 Holds n a_question = n.questions ≤ 256
 Holds n a_lifetime = n.lifetimes ≤ 16
 Holds n a_parameter = n.parameters ≤ 4
+Holds n a_type_parameter = n.type_parameters ≤ 4
 Holds n a_field = n.fields ≤ 256
 Holds n a_variant = n.variants ≤ 256
 Holds n (a_type depth) = n.nodes ≤ 64
@@ -77,6 +79,7 @@ mark-fine c d a_definition h = within-fine limit.Definitions (c.definitions + 1)
 mark-fine c d a_question h = within-fine limit.Questions (c.questions + 1) (marked c a_question) d h
 mark-fine c d a_lifetime h = within-fine limit.Lifetimes (c.lifetimes + 1) (marked c a_lifetime) d h
 mark-fine c d a_parameter h = within-fine limit.Parameters (c.parameters + 1) (marked c a_parameter) d h
+mark-fine c d a_type_parameter h = within-fine limit.TypeParameters (c.type_parameters + 1) (marked c a_type_parameter) d h
 mark-fine c d a_field h = within-fine limit.Fields (c.fields + 1) (marked c a_field) d h
 mark-fine c d a_variant h = within-fine limit.Variants (c.variants + 1) (marked c a_variant) d h
 mark-fine c d (a_type depth) h = within-fine limit.TypeNodes (nodes_before depth c + 1) (marked c (a_type depth)) d (then-fine (within limit.Nesting (depth + 1) c) _ d h)

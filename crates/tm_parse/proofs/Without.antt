@@ -1,6 +1,6 @@
 -- A part has no mark that weighs anything: for each combinator, and for types.
 use Rattle.std.proofs.Common.{◌≡◌, ℕ, zero, suc, ◌≤◌, ap, ◌∙◌, Bool, true, false, ◌⊎◌, List, [], ◌∷◌, ◌++◌, inl, inr, arith}
-use Rattle.tm_parse.proofs.Least.{Spells, WithComma, MayBe, AndOthers}
+use Rattle.tm_parse.proofs.Least.{Spells, WithComma, MayBe, AndOthers, LifetimeOrItems, LifetimesThen}
 use Rattle.tm_parse.proofs.Weights.{weigh, weigh-append}
 use Rattle.tm_parse.specs.Combinators.{Others, Repeats}
 use Rattle.tm_parse.specs.Events.{Mark, a_type, Role, Event, terminal, mark}
@@ -53,6 +53,12 @@ module _ {weight : Mark → ℕ} where
   pub listed1_without : {V : Type 0} {P : Spells V} → Without weight P → Without weight (AndOthers P)
   listed1_without x = to_without (seq_without x (optional_without (seq_without one_without (listed_without x))))
 
+  pub lifetimes_then_without : {A V : Type 0} {P : Spells A} {Q : Spells V} → Without weight P → Without weight Q → Without weight (LifetimesThen P Q)
+  lifetimes_then_without {P = P} {Q = Q} x y = or_without (to_without (seq_without x (optional_without (seq_without one_without (repeat_without each))))) (to_without (listed1_without y))
+    where
+      each : Without weight (LifetimeOrItems P Q)
+      each = or_without (to_without (to_without (seq_without x (optional_without one_without)))) (to_without (listed1_without y))
+
   -- a type, where the marks of types weigh nothing from a depth on
 
   module _ {S : Spells Expr} (inner : Without weight S) where
@@ -72,7 +78,7 @@ module _ {weight : Mark → ℕ} where
     wrapped-without = to_without (seq_without one_without (to_without (seq_without one_without (seq_without inner one_without))))
 
     named-without : Without weight (named_type (type_part [] S read_none)).spells
-    named-without = to_without (seq_without one_without (optional_without (to_without (to_without (seq_without one_without (seq_without (listed1_without one_without) one_without))))))
+    named-without = to_without (seq_without one_without (optional_without (to_without (seq_without one_without (seq_without (lifetimes_then_without one_without inner) one_without)))))
 
     pub plain_without : Without weight (plain_type (type_part [] S read_none)).spells
     plain_without = or_without (to_without one_without) (or_without (to_without one_without) (or_without array-without (or_without reference-without

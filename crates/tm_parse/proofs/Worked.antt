@@ -69,6 +69,7 @@ braces : answer_of (from 0 (c.Hash ∷ c.OpenBracket ∷ c.Repr ∷ c.OpenParen 
         kind = kind.Struct;
         name = 23;
         params = 25 ∷ [];
+        type_params = [];
         reprs = record { token = 2; item = item.C } ∷ record { token = 2; item = item.Packed 2 } ∷ record { token = 2; item = item.Packed 1 } ∷ [];
         variants = record {
           name = None;
@@ -95,6 +96,7 @@ places : answer_of (from 0 (c.Struct ∷ c.Name ∷ c.OpenParen ∷ c.Pub ∷ c.
         kind = kind.Struct;
         name = 1;
         params = [];
+        type_params = [];
         reprs = [];
         variants = record {
           name = None;
@@ -103,7 +105,7 @@ places : answer_of (from 0 (c.Struct ∷ c.Name ∷ c.OpenParen ∷ c.Pub ∷ c.
           fields =
               record { name = None; public = true; ty = expr.Prim primitive.U8 }
               ∷ record { name = None; public = false; ty = expr.Tuple [] }
-              ∷ record { name = None; public = false; ty = expr.Wrap wrapper.Option (expr.Named 17 (19 ∷ [])) }
+              ∷ record { name = None; public = false; ty = expr.Wrap wrapper.Option (expr.Named 17 (19 ∷ []) []) }
               ∷ record { name = None; public = false; ty = expr.Never }
               ∷ record { name = None; public = true; ty = expr.NonZero primitive.U8 } ∷ [];
         } ∷ [];
@@ -123,6 +125,7 @@ union : answer_of (from 0 (c.Hash ∷ c.OpenBracket ∷ c.Repr ∷ c.OpenParen �
         kind = kind.Union;
         name = 11;
         params = [];
+        type_params = [];
         reprs = record { token = 2; item = item.Align 8 } ∷ [];
         variants = record { name = None; negative = false; value = None; fields = record { name = Some 13; public = false; ty = expr.Prim primitive.U8 } ∷ [] } ∷ [];
       } ∷ [];
@@ -142,6 +145,7 @@ enum : answer_of (from 0 (c.Hash ∷ c.OpenBracket ∷ c.Repr ∷ c.OpenParen �
         kind = kind.Enum;
         name = 8;
         params = [];
+        type_params = [];
         reprs = record { token = 2; item = item.Int primitive.U8 } ∷ [];
         variants = record { name = Some 10; negative = false; value = None; fields = [] }
             ∷ record { name = Some 12; negative = true; value = Some 3; fields = record { name = None; public = false; ty = expr.Prim primitive.U8 } ∷ [] }
@@ -164,3 +168,49 @@ narrow_field = refl
 ends_early : answer_of (from 0 (c.Ask ∷ u8 ∷ [])) ≡ Stuck []
 unfolding answer_of step read_most read_type
 ends_early = refl
+
+-- struct A<'a, T, C,>(B<'a, (T, C)>);
+parameters : answer_of (from 0 (c.Struct ∷ c.Name ∷ c.Less ∷ c.Lifetime ∷ c.Comma ∷ c.Name ∷ c.Comma ∷ c.C ∷ c.Comma ∷ c.Greater ∷ c.OpenParen
+    ∷ c.Name ∷ c.Less ∷ c.Lifetime ∷ c.Comma ∷ c.OpenParen ∷ c.Name ∷ c.Comma ∷ c.C ∷ c.CloseParen ∷ c.Greater ∷ c.CloseParen ∷ c.Semicolon ∷ []))
+    ≡ Done (record {
+      lifetimes = [];
+      bounds = [];
+      questions = [];
+      decls = record {
+        kind = kind.Struct;
+        name = 1;
+        params = 3 ∷ [];
+        type_params = 5 ∷ 7 ∷ [];
+        reprs = [];
+        variants = record {
+          name = None;
+          negative = false;
+          value = None;
+          fields = record {
+            name = None;
+            public = false;
+            ty = expr.Named 11 (13 ∷ []) (expr.Tuple (expr.Named 16 [] [] ∷ expr.Named 18 [] [] ∷ []) ∷ []);
+          } ∷ [];
+        } ∷ [];
+      } ∷ [];
+    })
+    (record none_yet { definitions = 1; parameters = 1; type_parameters = 2; fields = 1; nodes = 4 }) []
+unfolding answer_of step read_most read_type
+parameters = refl
+
+-- no lifetime follows a name or a type, with a comma or without one; what stands between `<` and `>` isn't empty
+lifetime_behind_name : answer_of (from 0 (c.Struct ∷ c.Name ∷ c.Less ∷ c.Name ∷ c.Comma ∷ c.Lifetime ∷ [])) ≡ Stuck (from 5 (c.Lifetime ∷ []))
+unfolding answer_of step read_most read_type
+lifetime_behind_name = refl
+
+lifetime_behind_type : answer_of (from 0 (c.Ask ∷ c.Name ∷ c.Less ∷ u8 ∷ c.Comma ∷ c.Lifetime ∷ [])) ≡ Stuck (from 5 (c.Lifetime ∷ []))
+unfolding answer_of step read_most read_type
+lifetime_behind_type = refl
+
+type_without_comma : answer_of (from 0 (c.Ask ∷ c.Name ∷ c.Less ∷ c.Lifetime ∷ u8 ∷ [])) ≡ Stuck (from 4 (u8 ∷ []))
+unfolding answer_of step read_most read_type
+type_without_comma = refl
+
+no_argument : answer_of (from 0 (c.Ask ∷ c.Name ∷ c.Less ∷ c.Greater ∷ [])) ≡ Stuck (from 3 (c.Greater ∷ []))
+unfolding answer_of step read_most read_type
+no_argument = refl

@@ -10,13 +10,13 @@ use Rattle.tm_parse.specs.declared.parsed.Expr.{Expr}
 use Rattle.tm_parse.specs.declared.parsed.Expr.TheBlock.{hidden-the_row-Expr-0, shape-the_row-Expr-1, hidden-the_row-Expr-1}
 use Rattle.tm_parse.specs.declared.parsed.Expr.TheVariants as expr
 
--- (&'a mut [NonZero<u8>; 4], Cell<bool>, A<'b>)
+-- (&'a mut [NonZero<u8>; 4], Cell<bool>, A<'b, [u8; 2]>)
 abbrev several : Expr
-several = expr.Tuple (expr.Ref 2 true (expr.Array (expr.NonZero primitive.U8) 4) ∷ expr.Wrap wrapper.Cell (expr.Prim primitive.Bool) ∷ expr.Named 18 (20 ∷ []) ∷ [])
+several = expr.Tuple (expr.Ref 2 true (expr.Array (expr.NonZero primitive.U8) 4) ∷ expr.Wrap wrapper.Cell (expr.Prim primitive.Bool) ∷ expr.Named 18 (20 ∷ []) (expr.Array (expr.Prim primitive.U8) 2 ∷ []) ∷ [])
 
-seven_types : length (written several) ≡ 7
+nine_types : length (written several) ≡ 9
 unfolding written hidden-the_row-Expr-0 shape-the_row-Expr-1 hidden-the_row-Expr-1 denote.Hole.Carrier.hidden
-seven_types = refl
+nine_types = refl
 
 three_places : flat_map own_places (written several) ≡ 2 ∷ 18 ∷ 20 ∷ []
 unfolding written hidden-the_row-Expr-0 shape-the_row-Expr-1 hidden-the_row-Expr-1 denote.Hole.Carrier.hidden

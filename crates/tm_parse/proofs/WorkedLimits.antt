@@ -76,6 +76,16 @@ parameters_5 : parameters.read none_yet (from 0 (c.Less ∷ c.Lifetime ∷ c.Com
 unfolding step read_most
 parameters_5 = refl
 
+-- <A, B, C, D> and one more
+type_parameters_4 : came (parameters.read none_yet (from 0 (c.Less ∷ c.Name ∷ c.Comma ∷ c.Name ∷ c.Comma ∷ c.Name ∷ c.Comma ∷ c.Name ∷ c.Comma ∷ c.Greater ∷ []))) ≡ done (record none_yet { type_parameters = 4 }) []
+unfolding step read_most
+type_parameters_4 = refl
+
+type_parameters_5 : parameters.read none_yet (from 0 (c.Less ∷ c.Name ∷ c.Comma ∷ c.Name ∷ c.Comma ∷ c.Name ∷ c.Comma ∷ c.Name ∷ c.Comma ∷ c.Name ∷ c.Greater ∷ []))
+    ≡ Passed limit.TypeParameters (from 9 (c.Name ∷ c.Greater ∷ []))
+unfolding step read_most
+type_parameters_5 = refl
+
 -- pub x: u8
 a_named_field : List Terminal
 a_named_field = from 0 (c.Pub ∷ c.Name ∷ c.Colon ∷ u8 ∷ [])
@@ -122,6 +132,19 @@ nodes_64 = refl
 nodes_65 : (type_at 0 0).read none_yet (from 0 (c.OpenParen ∷ row_of 64)) ≡ Passed limit.TypeNodes (from 127 (u8 ∷ c.Comma ∷ c.CloseParen ∷ []))
 unfolding step read_type read_most
 nodes_65 = refl
+
+-- `A<..>` with so many arguments
+abbrev arguments_of : ℕ → List Class
+arguments_of zero = c.Greater ∷ []
+arguments_of (suc n) = u8 ∷ c.Comma ∷ arguments_of n
+
+arguments_63 : came ((type_at 0 0).read none_yet (from 0 (c.Name ∷ c.Less ∷ arguments_of 63))) ≡ done (record none_yet { nodes = 64 }) []
+unfolding step read_type read_most
+arguments_63 = refl
+
+arguments_64 : (type_at 0 0).read none_yet (from 0 (c.Name ∷ c.Less ∷ arguments_of 64)) ≡ Passed limit.TypeNodes (from 128 (u8 ∷ c.Comma ∷ c.Greater ∷ []))
+unfolding step read_type read_most
+arguments_64 = refl
 
 -- [u8; 4294967295] and one more
 length_most : (type_at 0 0).read none_yet (from 0 (c.OpenBracket ∷ u8 ∷ c.Semicolon ∷ c.Number 4294967295 ∷ c.CloseBracket ∷ [])) ≡ Done (expr.Array (expr.Prim primitive.U8) 4294967295) (record none_yet { nodes = 2 }) []

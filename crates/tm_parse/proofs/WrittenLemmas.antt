@@ -37,9 +37,9 @@ pub written-Wrap : (w : Wrapper) (t : Expr) → written (expr.Wrap w t) ≡ expr
 unfolding written shape-the_row-Expr-1 hidden-the_row-Expr-1 denote.Hole.Carrier.hidden
 written-Wrap w t = ap (λ others. expr.Wrap w t ∷ others) (append-nil (written t))
 
-pub written-Named : (name : ℕ) (lifetimes : List ℕ) → written (expr.Named name lifetimes) ≡ expr.Named name lifetimes ∷ []
+pub written-Named : (name : ℕ) (lifetimes : List ℕ) (ts : List Expr) → written (expr.Named name lifetimes ts) ≡ expr.Named name lifetimes ts ∷ flat_map written ts
 unfolding written
-written-Named name lifetimes = refl
+written-Named name lifetimes ts = ap (λ others. expr.Named name lifetimes ts ∷ others) (row_written-row (hidden-the_row-Expr-0 ts) ∙ ap (flat_map written) (items_hidden-the_row-Expr-0 ts))
 
 pub written-Ref : (lifetime : ℕ) (unique : Bool) (t : Expr) → written (expr.Ref lifetime unique t) ≡ expr.Ref lifetime unique t ∷ written t
 unfolding written shape-the_row-Expr-1 hidden-the_row-Expr-1 denote.Hole.Carrier.hidden

@@ -36,9 +36,11 @@ pub record HasItsVariants (definition : Decl) : Type 0 where
 abbrev pub fields_of : List DeclVariant → List DeclField
 fields_of = flat_map (λ variant. variant.fields)
 
--- a definition's parameters, its variants, and the fields of all of them, are no more than the limits allow
+-- a definition's parameters of either sort, its variants, and the fields of all of them, are no more than the
+-- limits allow
 pub record HasFewParts (definition : Decl) : Type 0 where
   pub parameters : length definition.params ≤ limit_number limit.Parameters
+  pub type_params : length definition.type_params ≤ limit_number limit.TypeParameters
   pub variants : length definition.variants ≤ limit_number limit.Variants
   pub fields : length (fields_of definition.variants) ≤ limit_number limit.Fields
 

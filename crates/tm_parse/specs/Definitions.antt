@@ -3,10 +3,10 @@ use Rattle.std.specs.Prelude.{ℕ, Bool, true, false, Option, Some, None, List, 
 use Rattle.tm_base.specs.declared.definition.Kind.{Kind}
 use Rattle.tm_base.specs.declared.definition.Kind.TheVariants as kind
 use Rattle.tm_parse.specs.Combinators.{◌>>◌, ◌or◌, to, counts_as}
-use Rattle.tm_parse.specs.Events.{a_definition, a_parameter, a_field, a_variant, a_type}
+use Rattle.tm_parse.specs.Events.{a_definition, a_parameter, a_type_parameter, a_field, a_variant, a_type}
 use Rattle.tm_parse.specs.Limits.{number_of}
 use Rattle.tm_parse.specs.Parts.{Part}
-use Rattle.tm_parse.specs.Shapes.{any, the, optional, is_there, many, listed, listed1, between}
+use Rattle.tm_parse.specs.Shapes.{any, the, optional, is_there, many, listed, listed1, lifetimes_then, or_neither, between}
 use Rattle.tm_parse.specs.Types.{integer, number, names, definition_names, primitive_of, places, or_none, plain_type, behind_paren, type_at}
 use Rattle.tm_parse.specs.declared.class.Class.{Class}
 use Rattle.tm_parse.specs.declared.class.Class.TheVariants as c
@@ -132,8 +132,18 @@ variant levels = counts_as a_variant (to (λ v. variant_of v.0 v.1.0 v.1.1)
 
 -- definitions
 
-abbrev pub parameters : Part (List ℕ)
-parameters = to (λ v. places (or_none v)) (optional (between c.Less (listed1 (counts_as a_parameter (the c.Lifetime))) c.Greater))
+-- the parameters are lifetimes and names of types
+abbrev pub parameter : Part Terminal
+parameter = counts_as a_parameter (the c.Lifetime)
+
+abbrev pub type_parameter : Part Terminal
+type_parameter = counts_as a_type_parameter (any definition_names)
+
+abbrev pub both_places : List Terminal × List Terminal → List ℕ × List ℕ
+both_places v = (places v.0, places v.1)
+
+abbrev pub parameters : Part (List ℕ × List ℕ)
+parameters = to (λ v. both_places (or_neither v)) (optional (between c.Less (lifetimes_then parameter type_parameter) c.Greater))
 
 -- a struct or a union is one variant
 abbrev pub single : List DeclField → List DeclVariant
@@ -151,8 +161,8 @@ abbrev pub enum_body : ℕ → Part (List DeclVariant)
 enum_body levels = between c.OpenBrace (listed (variant levels)) c.CloseBrace
 
 -- the word, the name, the parameters and the variants, to which the attributes are put
-abbrev pub defined : Kind → Terminal × Terminal × List ℕ × List DeclVariant → List DeclRepr → Decl
-defined what v reprs = record { kind = what; name = v.1.place; reprs = reprs; params = v.2; variants = v.3 }
+abbrev pub defined : Kind → Terminal × Terminal × (List ℕ × List ℕ) × List DeclVariant → List DeclRepr → Decl
+defined what v reprs = record { kind = what; name = v.1.place; reprs = reprs; params = v.2.0; type_params = v.2.1; variants = v.3 }
 
 abbrev pub headed : Kind → Part Terminal → Part (List DeclVariant) → Part (List DeclRepr → Decl)
 headed what word body = counts_as a_definition (to (λ v. defined what (v.0, v.1.0, v.1.1.0, v.1.1.1)) (word >> any definition_names >> parameters >> body))
@@ -167,6 +177,10 @@ abbrev pub body_of : Kind → ℕ → Part (List DeclVariant)
 body_of kind.Struct levels = struct_body levels
 body_of kind.Union levels = union_body levels
 body_of kind.Enum levels = enum_body levels
+
+-- a definition of the kind, with the items of its attributes
+abbrev pub headed_with : Kind → List DeclRepr → Part Decl
+headed_with what reprs = to (λ make. make reprs) (headed what (the (word_of what)) (body_of what 0))
 
 -- each kind of definition, without its attributes and its visibility
 abbrev pub headed_struct : ℕ → Part (List DeclRepr → Decl)

@@ -4,7 +4,7 @@ use Rattle.std.specs.Prelude.{List, [], ◌∷◌}
 use Rattle.tm_parse.specs.declared.terminal.Terminal.{Terminal}
 -- what begins; a type has so many types around it
 pub use Rattle.tm_parse.specs.declared.mark.Mark.{Mark}
-pub use Rattle.tm_parse.specs.declared.mark.Mark.TheVariants.{Definition as a_definition, Question as a_question, Lifetime as a_lifetime, Parameter as a_parameter, Field as a_field, Variant as a_variant, TypeWithin as a_type}
+pub use Rattle.tm_parse.specs.declared.mark.Mark.TheVariants.{Definition as a_definition, Question as a_question, Lifetime as a_lifetime, Parameter as a_parameter, TypeParameter as a_type_parameter, Field as a_field, Variant as a_variant, TypeWithin as a_type}
 
 -- what a terminal stands for: the length of an array, or anything else
 pub data Role : Type 0 where

@@ -1,7 +1,7 @@
 -- The limits that are passed at a terminal.
 use Rattle.std.specs.Prelude.{ℕ, zero, suc, ◌+◌, Bool, nat_lt, if◌then◌else◌, List, [], ◌∷◌}
 use Rattle.tm_parse.specs.Classes.{among}
-use Rattle.tm_parse.specs.Events.{a_definition, a_question, a_lifetime, a_parameter, a_field, a_variant, a_type, plain, array_length, Event, terminal, mark}
+use Rattle.tm_parse.specs.Events.{a_definition, a_question, a_lifetime, a_parameter, a_type_parameter, a_field, a_variant, a_type, plain, array_length, Event, terminal, mark}
 use Rattle.tm_parse.specs.declared.class.Class.{Class}
 use Rattle.tm_parse.specs.declared.class.Class.TheVariants as c
 use Rattle.tm_parse.specs.declared.counts.Counts.{Counts}
@@ -47,10 +47,11 @@ nodes_before (suc depth) counts = counts.nodes
 
 -- the table of limits: what is counted at each event, and against which limit
 unfoldable pub step : Counts → Event → Step
-step n (mark a_definition) = within limit.Definitions (n.definitions + 1) (record n { definitions = n.definitions + 1; parameters = 0; fields = 0; variants = 0 })
+step n (mark a_definition) = within limit.Definitions (n.definitions + 1) (record n { definitions = n.definitions + 1; parameters = 0; type_parameters = 0; fields = 0; variants = 0 })
 step n (mark a_question) = within limit.Questions (n.questions + 1) (record n { questions = n.questions + 1 })
 step n (mark a_lifetime) = within limit.Lifetimes (n.lifetimes + 1) (record n { lifetimes = n.lifetimes + 1 })
 step n (mark a_parameter) = within limit.Parameters (n.parameters + 1) (record n { parameters = n.parameters + 1 })
+step n (mark a_type_parameter) = within limit.TypeParameters (n.type_parameters + 1) (record n { type_parameters = n.type_parameters + 1 })
 step n (mark a_field) = within limit.Fields (n.fields + 1) (record n { fields = n.fields + 1 })
 step n (mark a_variant) = within limit.Variants (n.variants + 1) (record n { variants = n.variants + 1 })
 step n (mark (a_type depth)) = and_then (within limit.Nesting (depth + 1) n)
@@ -73,4 +74,4 @@ count n (x ∷ events) = counted (step n x) (x ∷ events) (λ after. count afte
 
 -- before a file's first terminal
 abbrev pub none_yet : Counts
-none_yet = record { definitions = 0; questions = 0; lifetimes = 0; parameters = 0; fields = 0; variants = 0; nodes = 0 }
+none_yet = record { definitions = 0; questions = 0; lifetimes = 0; parameters = 0; type_parameters = 0; fields = 0; variants = 0; nodes = 0 }

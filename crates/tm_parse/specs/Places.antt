@@ -6,12 +6,12 @@ use Rattle.tm_parse.specs.declared.parsed.DeclAsk.{DeclAsk}
 use Rattle.tm_parse.specs.declared.parsed.DeclBound.{DeclBound}
 use Rattle.tm_parse.specs.declared.parsed.DeclField.{DeclField}
 use Rattle.tm_parse.specs.declared.parsed.DeclVariant.{DeclVariant}
-use Rattle.tm_parse.specs.declared.parsed.Expr.{Expr, Named, Ref'}
+use Rattle.tm_parse.specs.declared.parsed.Expr.{Expr, Named', Ref'}
 use Rattle.tm_parse.specs.declared.parsed.Parsed.{Parsed}
 
 -- those of a type, without the types in it
 abbrev pub own_places : Expr → List ℕ
-own_places (Named name lifetimes) = name ∷ lifetimes
+own_places (Named' name lifetimes shape row) = name ∷ lifetimes
 own_places (Ref' lifetime unique shape row) = lifetime ∷ []
 own_places other = []
 
@@ -32,6 +32,7 @@ module _ (IsPlace : ℕ → Type 0) where
     pub name : IsPlace definition.name
     pub reprs : All (λ repr. IsPlace repr.token) definition.reprs
     pub parameters : All IsPlace definition.params
+    pub type_parameters : All IsPlace definition.type_params
     pub variants : All PlacesOfVariant definition.variants
 
   pub record PlacesOfBound (bound : DeclBound) : Type 0 where

@@ -1,5 +1,6 @@
 -- Shapes that the rules are written in: one word or sign, what may be left out, and lists with commas.
-use Rattle.std.specs.Prelude.{Bool, true, false, Option, Some, None, List, [], ◌∷◌}
+use Rattle.std.specs.Prelude.{Bool, true, false, Option, Some, None, List, [], ◌∷◌, ◌++◌, ◌⊎◌, map}
+use Rattle.std.proofs.Common.{inl, inr}
 use Rattle.tm_parse.specs.Combinators.{one, ◌>>◌, ◌or◌, nothing, to, repeat}
 use Rattle.tm_parse.specs.Events.{plain}
 use Rattle.tm_parse.specs.Parts.{Part}
@@ -41,6 +42,42 @@ and_others (v, Some others) = v ∷ others.1
 
 abbrev pub listed1 : {V : Type 0} → Part V → Part (List V)
 listed1 p = to and_others (p >> optional (the c.Comma >> listed p))
+
+-- a lifetime, behind which more follows only where a comma comes, or all the items, behind which nothing does
+abbrev pub lifetime_or_items : {A V : Type 0} → Part A → Part V → Part ((A ⊎ List V) × Bool)
+lifetime_or_items lifetime item = to (λ v. (inl v.0, v.1)) (with_comma lifetime) or to (λ vs. (inr vs, false)) (listed1 item)
+
+abbrev pub in_two : {A V : Type 0} → List (A ⊎ List V) → List A × List V
+in_two [] = ([], [])
+in_two (inl lifetime ∷ others) = (lifetime ∷ (in_two others).0, (in_two others).1)
+in_two (inr items ∷ others) = ([], items)
+
+-- lifetimes and then items, one or several in all, with commas in the same way
+abbrev pub and_then_others : {A V : Type 0} → A × Option (Terminal × List (A ⊎ List V)) → List A × List V
+and_then_others (lifetime, None) = (lifetime ∷ [], [])
+and_then_others (lifetime, Some others) = in_two (inl lifetime ∷ others.1)
+
+abbrev pub lifetimes_then : {A V : Type 0} → Part A → Part V → Part (List A × List V)
+lifetimes_then lifetime item =
+    to and_then_others (lifetime >> optional (the c.Comma >> repeat (lifetime_or_items lifetime item)))
+    or to (λ items. ([], items)) (listed1 item)
+
+abbrev pub or_neither : {A V : Type 0} → Option (List A × List V) → List A × List V
+or_neither None = ([], [])
+or_neither (Some both) = both
+
+-- a list with commas as far as it is read, and whether another may follow: none is read, or a comma comes last
+abbrev pub is_open : {V : Type 0} → List (V × Bool) → Bool
+is_open [] = true
+is_open (v ∷ []) = v.1
+is_open (v ∷ w ∷ vs) = is_open (w ∷ vs)
+
+abbrev pub so_far : {V : Type 0} → Part V → Part (List V × Bool)
+so_far p = to (λ vs. (map (λ v. v.0) vs, is_open vs)) (repeat (to (λ v. (v, v.1)) (with_comma p)))
+
+-- what is found is put behind these
+abbrev pub behind : {V : Type 0} → List V → List V × Bool → List V × Bool
+behind before v = (before ++ v.0, v.1)
 
 -- a part between two signs
 abbrev pub between : {V : Type 0} → Class → Part V → Class → Part V

@@ -8,7 +8,7 @@ use Rattle.tm_parse.specs.Combinators.{starts, one, ◌>>◌, ◌or◌, to, coun
 use Rattle.tm_parse.specs.Events.{array_length, a_type, Event}
 use Rattle.tm_parse.specs.Limits.{number_of}
 use Rattle.tm_parse.specs.Parts.{Outcome, Stuck, Passed, Reader, Part}
-use Rattle.tm_parse.specs.Shapes.{any, the, optional, is_there, listed, listed1, between}
+use Rattle.tm_parse.specs.Shapes.{any, the, optional, is_there, listed, lifetimes_then, or_neither, between}
 use Rattle.tm_parse.specs.declared.class.Class.{Class}
 use Rattle.tm_parse.specs.declared.class.Class.TheVariants as c
 use Rattle.tm_base.specs.declared.limit.LimitKind.TheVariants as limit
@@ -64,10 +64,6 @@ wrapper_of t = carried t.class
 abbrev pub places : List Terminal → List ℕ
 places = map (λ t. t.place)
 
--- `<'a, 'b>`, as the lifetimes' places
-abbrev pub lifetimes : Part (List ℕ)
-lifetimes = to places (between c.Less (listed1 (the c.Lifetime)) c.Greater)
-
 abbrev pub or_none : {V : Type 0} → Option (List V) → List V
 or_none None = []
 or_none (Some vs) = vs
@@ -76,6 +72,10 @@ or_none (Some vs) = vs
 abbrev pub tuple_or_inner : Expr → Option (Terminal × List Expr) → Expr
 tuple_or_inner t None = t
 tuple_or_inner t (Some others) = expr.Tuple (t ∷ others.1)
+
+-- a definition by its name, with the lifetimes and the types that are given to it
+abbrev pub named_with : Terminal → List Terminal × List Expr → Expr
+named_with name given = expr.Named name.place (places given.0) given.1
 
 -- each kind of type, over the part for the types in it
 module _ (type : Part Expr) where
@@ -110,8 +110,12 @@ module _ (type : Part Expr) where
   abbrev pub wrapped_type : Part Expr
   wrapped_type = to (λ v. expr.Wrap (wrapper_of v.0) v.1) (the generic >> between c.Less type c.Greater)
 
+  -- `<'a, 'b, T, U>`
+  abbrev pub arguments : Part (List Terminal × List Expr)
+  arguments = between c.Less (lifetimes_then (the c.Lifetime) type) c.Greater
+
   abbrev pub named_type : Part Expr
-  named_type = to (λ v. expr.Named v.0.place (or_none v.1)) (any definition_names >> optional lifetimes)
+  named_type = to (λ v. named_with v.0 (or_neither v.1)) (any definition_names >> optional arguments)
 
   -- a type that doesn't begin with `(`
   abbrev pub plain_type : Part Expr

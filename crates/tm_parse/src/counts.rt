@@ -8,14 +8,16 @@ use tm_base::LimitKind;
 
 /// How many of each counted thing have begun.
 ///
-/// `definitions`, `questions` and `lifetimes` are the file's; `parameters`, `fields` and `variants` are
-/// those of the definition that began last; `nodes` are the types in the outermost type that began last.
+/// `definitions`, `questions` and `lifetimes` are the file's; `parameters` (lifetimes), `type_parameters`,
+/// `fields` and `variants` are those of the definition that began last; `nodes` are the types in the
+/// outermost type that began last.
 #[derive(Clone, Copy)]
 pub struct Counts {
     pub definitions: u32,
     pub questions: u32,
     pub lifetimes: u32,
     pub parameters: u32,
+    pub type_parameters: u32,
     pub fields: u32,
     pub variants: u32,
     pub nodes: u32,
@@ -41,6 +43,7 @@ impl Counts {
             questions: 0,
             lifetimes: 0,
             parameters: 0,
+            type_parameters: 0,
             fields: 0,
             variants: 0,
             nodes: 0,
@@ -57,6 +60,7 @@ impl Counts {
             Mark::Definition => Ok(Counts {
                 definitions: one_more(self.definitions, LimitKind::Definitions)?,
                 parameters: 0,
+                type_parameters: 0,
                 fields: 0,
                 variants: 0,
                 ..self
@@ -71,6 +75,10 @@ impl Counts {
             }),
             Mark::Parameter => Ok(Counts {
                 parameters: one_more(self.parameters, LimitKind::Parameters)?,
+                ..self
+            }),
+            Mark::TypeParameter => Ok(Counts {
+                type_parameters: one_more(self.type_parameters, LimitKind::TypeParameters)?,
                 ..self
             }),
             Mark::Field => Ok(Counts {

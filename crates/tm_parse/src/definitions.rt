@@ -3,12 +3,11 @@ ghost use Rattle.tm_parse.specs.Combinators.{to};
 ghost use Rattle.tm_parse.specs.Definitions.{
   body_of,
   definition as definition_rule,
-  headed as headed_rule,
   headed_any as headed_any_rule,
+  headed_with,
   word_of,
 };
 ghost use Rattle.tm_parse.specs.Reads.{Reads};
-ghost use Rattle.tm_parse.specs.Shapes.{the};
 
 use crate::class::Class;
 use crate::mark::Mark;
@@ -42,20 +41,21 @@ impl<'a> Reader<'a> {
 
     /// A definition of the kind, with the items of its attributes.
     fn headed(&mut self, kind: Kind, reprs: List<DeclRepr>) -> Result<Decl, Stop>
-        ensures { Reads (to (λ make. make reprs) (headed_rule kind (the (word_of kind)) (body_of kind 0))) self.old self.new result }
+        ensures { Reads (headed_with kind reprs) self.old self.new result }
     {
         let word = word_of(kind);
         let begins = self.is_next(word);
         self.begin(begins, Mark::Definition)?;
         self.take(word)?;
         let name = self.definition_name()?.place;
-        let params = self.parameters()?;
+        let (params, type_params) = self.parameters()?;
         let variants = self.body(kind)?;
         Ok(Decl {
             kind,
             name,
             reprs,
             params,
+            type_params,
             variants,
         })
     }

@@ -5,6 +5,7 @@ pub enum Mark {
     Question,
     Lifetime,
     Parameter,
+    TypeParameter,
     Field,
     Variant,
     /// A type, with how many types are around it.

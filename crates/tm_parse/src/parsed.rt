@@ -2,8 +2,8 @@ use tm_base::{Assume, Boxed, Kind, List, Primitive, Wrapper};
 
 /// A type as it is written. Names and lifetimes are places in the list of tokens.
 ///
-/// `Array` has the element's type and the length. `Named` has the name and the lifetimes. `Ref` has the
-/// lifetime, whether it is `&mut`, and what it points to. The empty `Tuple` is `()`.
+/// `Array` has the element's type and the length. `Named` has the name, the lifetimes and the types that
+/// are given. `Ref` has the lifetime, whether it is `&mut`, and what it points to. The empty `Tuple` is `()`.
 #[derive(Drop)]
 pub enum Expr {
     Prim(Primitive),
@@ -12,7 +12,7 @@ pub enum Expr {
     Array(Boxed<Expr>, u32),
     NonZero(Primitive),
     Wrap(Wrapper, Boxed<Expr>),
-    Named(u32, List<u32>),
+    Named(u32, List<u32>, List<Expr>),
     Ref(u32, bool, Boxed<Expr>),
 }
 
@@ -54,14 +54,15 @@ pub struct DeclRepr {
     pub item: ReprItem,
 }
 
-/// A definition: its name's place, the items of all its `repr` attributes, its parameters' places, and
-/// its variants.
+/// A definition: its name's place, the items of all its `repr` attributes, the places of its lifetimes and
+/// of its type parameters, and its variants.
 #[derive(Drop)]
 pub struct Decl {
     pub kind: Kind,
     pub name: u32,
     pub reprs: List<DeclRepr>,
     pub params: List<u32>,
+    pub type_params: List<u32>,
     pub variants: List<DeclVariant>,
 }
 

@@ -4,9 +4,11 @@ ghost use Rattle.tm_parse.specs.Parts.{Part};
 ghost use Rattle.tm_parse.specs.Reads.{Reads};
 ghost use Rattle.tm_parse.specs.Shapes.{
   any,
+  behind,
   listed as listed_rule,
   listed1 as listed1_rule,
   many as many_rule,
+  so_far as so_far_rule,
 };
 
 use crate::class::Class;
@@ -53,7 +55,28 @@ impl<'c> Rule for AnyOf<'c> {
 
 impl<'a> Reader<'a> {
     /// None, one or several, with commas between them, and perhaps one behind the last, put behind what
-    /// was found before.
+    /// was found before; and whether another one may follow.
+    pub fn so_far<R: Rule>(
+        &mut self,
+        found: List<R::Value>,
+        rule: &R,
+    ) -> Result<(List<R::Value>, bool), Stop>
+        ensures { Reads (to (behind found) (so_far_rule (R.rule rule.now))) self.old self.new result }
+    {
+        let mut found = found;
+        for _ in 0..self.rest.len() {
+            if !rule.begins(self) {
+                return Ok((found, true));
+            }
+            found.add(rule.read(self)?)?;
+            if !self.accept(Class::Comma)? {
+                return Ok((found, false));
+            }
+        }
+        Ok((found, true))
+    }
+
+    /// None, one or several, with commas in the same way, put behind what was found before.
     fn listed_behind<R: Rule>(
         &mut self,
         found: List<R::Value>,
@@ -61,16 +84,7 @@ impl<'a> Reader<'a> {
     ) -> Result<List<R::Value>, Stop>
         ensures { Reads (to (λ vs. found ++ vs) (listed_rule (R.rule rule.now))) self.old self.new result }
     {
-        let mut found = found;
-        for _ in 0..self.rest.len() {
-            if !rule.begins(self) {
-                return Ok(found);
-            }
-            found.add(rule.read(self)?)?;
-            if !self.accept(Class::Comma)? {
-                return Ok(found);
-            }
-        }
+        let (found, _) = self.so_far(found, rule)?;
         Ok(found)
     }
 

@@ -3,7 +3,12 @@ ghost use Rattle.tm_parse.specs.Combinators.{one, starts, to};
 ghost use Rattle.tm_parse.specs.Events.{array_length};
 ghost use Rattle.tm_parse.specs.Limits.{number_of};
 ghost use Rattle.tm_parse.specs.Reads.{Reads};
-ghost use Rattle.tm_parse.specs.Shapes.{listed as listed_rule};
+ghost use Rattle.tm_parse.specs.Shapes.{
+  lifetimes_then,
+  listed as listed_rule,
+  listed1 as listed1_rule,
+  the,
+};
 ghost use Rattle.tm_parse.specs.Types.{
   array_type,
   behind_paren as behind_paren_rule,
@@ -17,12 +22,16 @@ ghost use Rattle.tm_parse.specs.Types.{
   type_first,
   wrapped_type,
 };
+ghost use Rattle.tm_parse.specs.declared.class.Class.TheVariants.{Lifetime};
 
 use crate::class::Class;
 use crate::mark::Mark;
+use crate::parameters::places;
 use crate::parsed::Expr;
 use crate::reader::Reader;
+use crate::rule::AnyOf;
 use crate::stop::Stop;
+use crate::terminal::Terminal;
 use tm_base::{Boxed, LimitKind, List};
 
 impl<'a> Reader<'a> {
@@ -148,6 +157,21 @@ impl<'a> Reader<'a> {
         Ok(found)
     }
 
+    /// One or several types with commas.
+    #[cycle(ty)]
+    fn types1(&mut self, depth: u32) -> Result<List<Expr>, Stop>
+        requires { depth ≤ 32 }
+        ensures { Reads (listed1_rule (type_at depth 0)) self.old self.new result }
+    {
+        let mut found = List::new(self.alloc);
+        found.add(self.ty(depth)?)?;
+        if !self.is_next(Class::Comma) {
+            return Ok(found);
+        }
+        self.take(Class::Comma)?;
+        self.types(found, depth)
+    }
+
     /// A type that doesn't begin with `(`.
     #[cycle(ty)]
     pub fn plain(&mut self, depth: u32) -> Result<Expr, Stop>
@@ -177,7 +201,7 @@ impl<'a> Reader<'a> {
         if self.is_next(Class::GENERIC) {
             return self.wrapped(depth);
         }
-        self.named()
+        self.named(depth)
     }
 
     /// `[T; 3]`.
@@ -231,14 +255,37 @@ impl<'a> Reader<'a> {
         Ok(Expr::Wrap(word.wrapper(), Boxed::new(self.alloc, inner)?))
     }
 
-    /// A definition's name, with the lifetimes that are given to it.
-    fn named(&mut self) -> Result<Expr, Stop>
-        ensures { Reads (named_type (type_at 0 0)) self.old self.new result }
+    /// A definition's name, with the lifetimes and the types that are given to it.
+    #[cycle(ty)]
+    fn named(&mut self, depth: u32) -> Result<Expr, Stop>
+        requires { depth ≤ 32 }
+        ensures { Reads (named_type (type_at depth 0)) self.old self.new result }
     {
         let name = self.definition_name()?.place;
         if !self.is_next(Class::Less) {
-            return Ok(Expr::Named(name, List::new(self.alloc)));
+            return Ok(Expr::Named(name, List::new(self.alloc), List::new(self.alloc)));
         }
-        Ok(Expr::Named(name, self.lifetimes()?))
+        self.take(Class::Less)?;
+        let (lifetimes, types) = self.lifetimes_then_types(depth)?;
+        self.take(Class::Greater)?;
+        let lifetimes = places(self.alloc, lifetimes.as_slice())?;
+        Ok(Expr::Named(name, lifetimes, types))
+    }
+
+    /// Lifetimes and then types, one or several in all.
+    #[cycle(ty)]
+    fn lifetimes_then_types(&mut self, depth: u32) -> Result<(List<Terminal>, List<Expr>), Stop>
+        requires { depth ≤ 32 }
+        ensures { Reads (lifetimes_then (the Lifetime) (type_at depth 0)) self.old self.new result }
+    {
+        if !self.is_next(Class::Lifetime) {
+            return Ok((List::new(self.alloc), self.types1(depth)?));
+        }
+        let none = List::new(self.alloc);
+        let (lifetimes, is_open) = self.so_far(none, &AnyOf(&[Class::Lifetime]))?;
+        if !is_open || !self.is_type_next() {
+            return Ok((lifetimes, List::new(self.alloc)));
+        }
+        Ok((lifetimes, self.types1(depth)?))
     }
 }
