@@ -139,11 +139,14 @@ parameter = counts_as a_parameter (the c.Lifetime)
 abbrev pub type_parameter : Part Terminal
 type_parameter = counts_as a_type_parameter (any definition_names)
 
+abbrev pub parameter_list : Part (List Terminal × List Terminal)
+parameter_list = lifetimes_then parameter type_parameter
+
 abbrev pub both_places : List Terminal × List Terminal → List ℕ × List ℕ
 both_places v = (places v.0, places v.1)
 
 abbrev pub parameters : Part (List ℕ × List ℕ)
-parameters = to (λ v. both_places (or_neither v)) (optional (between c.Less (lifetimes_then parameter type_parameter) c.Greater))
+parameters = to (λ v. both_places (or_neither v)) (optional (between c.Less parameter_list c.Greater))
 
 -- a struct or a union is one variant
 abbrev pub single : List DeclField → List DeclVariant

@@ -75,9 +75,15 @@ is_open (v ∷ w ∷ vs) = is_open (w ∷ vs)
 abbrev pub so_far : {V : Type 0} → Part V → Part (List V × Bool)
 so_far p = to (λ vs. (map (λ v. v.0) vs, is_open vs)) (repeat (to (λ v. (v, v.1)) (with_comma p)))
 
--- what is found is put behind these
+-- what is read is put behind what was found before
 abbrev pub behind : {V : Type 0} → List V → List V × Bool → List V × Bool
-behind before v = (before ++ v.0, v.1)
+behind found v = (found ++ v.0, v.1)
+
+abbrev pub so_far_behind : {V : Type 0} → List V → Part V → Part (List V × Bool)
+so_far_behind found p = to (behind found) (so_far p)
+
+abbrev pub listed_behind : {V : Type 0} → List V → Part V → Part (List V)
+listed_behind found p = to (λ vs. found ++ vs) (listed p)
 
 -- a part between two signs
 abbrev pub between : {V : Type 0} → Class → Part V → Class → Part V

@@ -111,8 +111,11 @@ module _ (type : Part Expr) where
   wrapped_type = to (λ v. expr.Wrap (wrapper_of v.0) v.1) (the generic >> between c.Less type c.Greater)
 
   -- `<'a, 'b, T, U>`
+  abbrev pub argument_list : Part (List Terminal × List Expr)
+  argument_list = lifetimes_then (the c.Lifetime) type
+
   abbrev pub arguments : Part (List Terminal × List Expr)
-  arguments = between c.Less (lifetimes_then (the c.Lifetime) type) c.Greater
+  arguments = between c.Less argument_list c.Greater
 
   abbrev pub named_type : Part Expr
   named_type = to (λ v. named_with v.0 (or_neither v.1)) (any definition_names >> optional arguments)

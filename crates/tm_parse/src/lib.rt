@@ -21,6 +21,7 @@ mod reader;
 mod rule;
 mod stop;
 mod terminal;
+mod type_lists;
 mod types;
 mod variants;
 mod vocabulary;

@@ -1,11 +1,11 @@
 ghost use Rattle.std.specs.Prelude.{◌≡◌, IfOk, refl};
 ghost use Rattle.tm_parse.specs.Definitions.{
   parameter as parameter_rule,
+  parameter_list as parameter_list_rule,
   parameters as parameters_rule,
   type_parameter as type_parameter_rule,
 };
 ghost use Rattle.tm_parse.specs.Reads.{Reads};
-ghost use Rattle.tm_parse.specs.Shapes.{lifetimes_then};
 ghost use Rattle.tm_parse.specs.Types.{places as places_of};
 
 use crate::class::Class;
@@ -72,14 +72,14 @@ impl Rule for TypeParameter {
 
 impl<'a> Reader<'a> {
     /// Lifetimes and then names of types, one or several in all.
-    fn lifetimes_then_names(&mut self) -> Result<(List<Terminal>, List<Terminal>), Stop>
-        ensures { Reads (lifetimes_then parameter_rule type_parameter_rule) self.old self.new result }
+    fn parameter_list(&mut self) -> Result<(List<Terminal>, List<Terminal>), Stop>
+        ensures { Reads parameter_list_rule self.old self.new result }
     {
         if !self.is_next(Class::Lifetime) {
             return Ok((List::new(self.alloc), self.listed1(&TypeParameter)?));
         }
         let none = List::new(self.alloc);
-        let (lifetimes, is_open) = self.so_far(none, &Parameter)?;
+        let (lifetimes, is_open) = self.so_far_behind(none, &Parameter)?;
         if !is_open || !self.is_definition_name_next() {
             return Ok((lifetimes, List::new(self.alloc)));
         }
@@ -95,7 +95,7 @@ impl<'a> Reader<'a> {
             return Ok((List::new(self.alloc), List::new(self.alloc)));
         }
         self.take(Class::Less)?;
-        let (lifetimes, types) = self.lifetimes_then_names()?;
+        let (lifetimes, types) = self.parameter_list()?;
         self.take(Class::Greater)?;
         let lifetimes = places(self.alloc, lifetimes.as_slice())?;
         Ok((lifetimes, places(self.alloc, types.as_slice())?))

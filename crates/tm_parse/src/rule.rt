@@ -1,14 +1,14 @@
-ghost use Rattle.std.specs.Prelude.{◌≡◌, ◌++◌, false, refl};
-ghost use Rattle.tm_parse.specs.Combinators.{starts, to};
+ghost use Rattle.std.specs.Prelude.{◌≡◌, false, refl};
+ghost use Rattle.tm_parse.specs.Combinators.{starts};
 ghost use Rattle.tm_parse.specs.Parts.{Part};
 ghost use Rattle.tm_parse.specs.Reads.{Reads};
 ghost use Rattle.tm_parse.specs.Shapes.{
   any,
-  behind,
   listed as listed_rule,
   listed1 as listed1_rule,
+  listed_behind as listed_behind_rule,
   many as many_rule,
-  so_far as so_far_rule,
+  so_far_behind,
 };
 
 use crate::class::Class;
@@ -56,12 +56,12 @@ impl<'c> Rule for AnyOf<'c> {
 impl<'a> Reader<'a> {
     /// None, one or several, with commas between them, and perhaps one behind the last, put behind what
     /// was found before; and whether another one may follow.
-    pub fn so_far<R: Rule>(
+    pub fn so_far_behind<R: Rule>(
         &mut self,
         found: List<R::Value>,
         rule: &R,
     ) -> Result<(List<R::Value>, bool), Stop>
-        ensures { Reads (to (behind found) (so_far_rule (R.rule rule.now))) self.old self.new result }
+        ensures { Reads (so_far_behind found (R.rule rule.now)) self.old self.new result }
     {
         let mut found = found;
         for _ in 0..self.rest.len() {
@@ -82,9 +82,9 @@ impl<'a> Reader<'a> {
         found: List<R::Value>,
         rule: &R,
     ) -> Result<List<R::Value>, Stop>
-        ensures { Reads (to (λ vs. found ++ vs) (listed_rule (R.rule rule.now))) self.old self.new result }
+        ensures { Reads (listed_behind_rule found (R.rule rule.now)) self.old self.new result }
     {
-        let (found, _) = self.so_far(found, rule)?;
+        let (found, _) = self.so_far_behind(found, rule)?;
         Ok(found)
     }
 

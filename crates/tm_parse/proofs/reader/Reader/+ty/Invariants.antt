@@ -13,8 +13,8 @@ decreases-types l = 12 * (32 - l.depth) + 2
 abbrev pub decreases-types1 : goal.decreases-types1
 decreases-types1 l = 12 * (32 - l.depth) + 3
 
-abbrev pub decreases-lifetimes_then_types : goal.decreases-lifetimes_then_types
-decreases-lifetimes_then_types l = 12 * (32 - l.depth) + 4
+abbrev pub decreases-argument_list : goal.decreases-argument_list
+decreases-argument_list l = 12 * (32 - l.depth) + 4
 
 abbrev pub decreases-named : goal.decreases-named
 decreases-named l = 12 * (32 - l.depth) + 5

@@ -5,7 +5,7 @@ use Rattle.tm_parse.specs.Combinators.{mapped}
 
 pub returns-in_err-found : goal.returns-in_err-found
 returns-in_err-found g c =
-    let stops = listed_stops (g.R.Rule.rule c.args.rule.now) c.args.found c.args.self.now.counts c.args.self.now.rest.now c.so_far.new.self _ c.in_err-found.ensures in
+    let stops = listed_stops (g.R.Rule.rule c.args.rule.now) c.args.found c.args.self.now.counts c.args.self.now.rest.now c.so_far_behind.new.self _ c.in_err-found.ensures in
     search (rules, stops)
 
 pub returns : goal.returns

@@ -1,14 +1,14 @@
 use Rattle.std.proofs.Common.{rules, ap, ◌∙◌, sym}
 use Rattle.tm_parse.proofs.LifetimesThen.{parameters_read, then_stops, then_closed, then_none, then_some, then_some_stops}
-use Rattle.tm_parse.proofs.reader.Reader.lifetimes_then_names.Goals as goal
-use Rattle.tm_parse.proofs.reader.Reader.lifetimes_then_names.Goals.{then-not-is_open-via-then-not-is_open, then-not-is_open-via-else-not-is_open+then-not-is_definition_name_next}
+use Rattle.tm_parse.proofs.reader.Reader.parameter_list.Goals as goal
+use Rattle.tm_parse.proofs.reader.Reader.parameter_list.Goals.{then-not-is_open-via-then-not-is_open, then-not-is_open-via-else-not-is_open+then-not-is_definition_name_next}
 use Rattle.tm_parse.specs.Combinators.{mapped}
 use Rattle.tm_parse.specs.Definitions.{type_parameter}
 
 pub returns-in_err-lifetimes : goal.returns-in_err-lifetimes
 returns-in_err-lifetimes c =
     let told = parameters_read c.new-none.result c.new-none.ensures c.args.self.now.counts c.args.self.now.rest.now (sym c.is_next.ensures ∙ c.if-not-is_next.false) in
-    let stops = then_stops type_parameter _ _ told c.so_far.new.self _ c.in_err-lifetimes.ensures in
+    let stops = then_stops type_parameter _ _ told c.so_far_behind.new.self _ c.in_err-lifetimes.ensures in
     search (rules, stops)
 
 pub returns-then-not-is_open : goal.returns-then-not-is_open
