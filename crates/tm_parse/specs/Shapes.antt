@@ -43,28 +43,35 @@ and_others (v, Some others) = v ∷ others.1
 abbrev pub listed1 : {V : Type 0} → Part V → Part (List V)
 listed1 p = to and_others (p >> optional (the c.Comma >> listed p))
 
--- a lifetime, behind which more follows only where a comma comes, or all the items, behind which nothing does
+-- a lifetime, behind which more follows only where a comma comes; or all the items, behind which nothing does
 abbrev pub lifetime_or_items : {A V : Type 0} → Part A → Part V → Part ((A ⊎ List V) × Bool)
 lifetime_or_items lifetime item = to (λ v. (inl v.0, v.1)) (with_comma lifetime) or to (λ vs. (inr vs, false)) (listed1 item)
 
+-- the lifetimes, and the items behind them
 abbrev pub in_two : {A V : Type 0} → List (A ⊎ List V) → List A × List V
 in_two [] = ([], [])
 in_two (inl lifetime ∷ others) = (lifetime ∷ (in_two others).0, (in_two others).1)
 in_two (inr items ∷ others) = ([], items)
 
--- lifetimes and then items, one or several in all, with commas in the same way
 abbrev pub and_then_others : {A V : Type 0} → A × Option (Terminal × List (A ⊎ List V)) → List A × List V
 and_then_others (lifetime, None) = (lifetime ∷ [], [])
 and_then_others (lifetime, Some others) = in_two (inl lifetime ∷ others.1)
 
+-- Lifetimes and then items, one or several in all, with commas in the same way: a lifetime, and what follows it
+-- where a comma comes; or items alone. No lifetime follows an item.
 abbrev pub lifetimes_then : {A V : Type 0} → Part A → Part V → Part (List A × List V)
 lifetimes_then lifetime item =
     to and_then_others (lifetime >> optional (the c.Comma >> repeat (lifetime_or_items lifetime item)))
     or to (λ items. ([], items)) (listed1 item)
 
+-- where such a list is left out it has neither
 abbrev pub or_neither : {A V : Type 0} → Option (List A × List V) → List A × List V
 or_neither None = ([], [])
 or_neither (Some both) = both
+
+-- a part between two signs
+abbrev pub between : {V : Type 0} → Class → Part V → Class → Part V
+between opening p closing = to (λ v. v.1.0) (the opening >> p >> the closing)
 
 -- a list with commas as far as it is read, and whether another may follow: none is read, or a comma comes last
 abbrev pub is_open : {V : Type 0} → List (V × Bool) → Bool
@@ -84,7 +91,3 @@ so_far_behind found p = to (behind found) (so_far p)
 
 abbrev pub listed_behind : {V : Type 0} → List V → Part V → Part (List V)
 listed_behind found p = to (λ vs. found ++ vs) (listed p)
-
--- a part between two signs
-abbrev pub between : {V : Type 0} → Class → Part V → Class → Part V
-between opening p closing = to (λ v. v.1.0) (the opening >> p >> the closing)

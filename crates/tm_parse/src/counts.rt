@@ -8,9 +8,9 @@ use tm_base::LimitKind;
 
 /// How many of each counted thing have begun.
 ///
-/// `definitions`, `questions` and `lifetimes` are the file's; `parameters` (lifetimes), `type_parameters`,
-/// `fields` and `variants` are those of the definition that began last; `nodes` are the types in the
-/// outermost type that began last.
+/// `definitions`, `questions` and `lifetimes` are the file's; `parameters` (which are lifetimes),
+/// `type_parameters`, `fields` and `variants` are those of the definition that began last; `nodes` are
+/// the types in the outermost type that began last.
 #[derive(Clone, Copy)]
 pub struct Counts {
     pub definitions: u32,

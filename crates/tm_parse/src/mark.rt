@@ -4,7 +4,9 @@ pub enum Mark {
     Definition,
     Question,
     Lifetime,
+    /// A lifetime among a definition's parameters.
     Parameter,
+    /// A type's name among a definition's parameters.
     TypeParameter,
     Field,
     Variant,

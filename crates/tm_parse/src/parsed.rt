@@ -2,8 +2,9 @@ use tm_base::{Assume, Boxed, Kind, List, Primitive, Wrapper};
 
 /// A type as it is written. Names and lifetimes are places in the list of tokens.
 ///
-/// `Array` has the element's type and the length. `Named` has the name, the lifetimes and the types that
-/// are given. `Ref` has the lifetime, whether it is `&mut`, and what it points to. The empty `Tuple` is `()`.
+/// `Array` has the element's type and the length. `Named` has the name, and the lifetimes and the types
+/// that are given to it. `Ref` has the lifetime, whether it is `&mut`, and what it points to. The empty
+/// `Tuple` is `()`.
 #[derive(Drop)]
 pub enum Expr {
     Prim(Primitive),
@@ -54,8 +55,8 @@ pub struct DeclRepr {
     pub item: ReprItem,
 }
 
-/// A definition: its name's place, the items of all its `repr` attributes, the places of its lifetimes and
-/// of its type parameters, and its variants.
+/// A definition: its name's place, the items of all its `repr` attributes, the places of its parameters,
+/// lifetimes and types, and its variants.
 #[derive(Drop)]
 pub struct Decl {
     pub kind: Kind,
