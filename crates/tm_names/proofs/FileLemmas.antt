@@ -7,7 +7,6 @@ use Rattle.tm_base.specs.declared.limit.NameWhy.{NameWhy}
 use Rattle.tm_base.specs.declared.limit.NameWhy.TheVariants.{Twice, Unknown, Arity, Lifetime, Discriminant, Infinite, BadRepr}
 use Rattle.tm_base.specs.declared.profile.Profile.{Profile}
 use Rattle.tm_names.proofs.DiscriminantLemmas.{value_listed, values_stand}
-use Rattle.tm_names.proofs.HoldingLemmas.{cyclic_holds, holds_cyclic}
 use Rattle.tm_names.proofs.ListedLemmas.{arity_listed, hidden_listed, repr_listed, reserved_listed, unknown_listed}
 use Rattle.tm_names.proofs.Members.{Member, behind, either, from_flat_map, from_numbered, front, into_flat_map, into_map, member, numbered}
 use Rattle.tm_names.proofs.PartLemmas.{fault, from_where, into_repeats, into_where}
@@ -16,35 +15,29 @@ use Rattle.tm_names.proofs.StandingLemmas.{Stands, repeats_stand, repr_stands, r
 use Rattle.tm_names.specs.declared.least.NameFault.{NameFault}
 use Rattle.tm_names.specs.declared.mentions.Mention.TheVariants.{Name, Life}
 use Rattle.tm_names.specs.declared.value.Value.TheVariants.{AtLeastZero}
-use Rattle.tm_names.specs.Closures.{bit_at, closure, infinite_fault, infinite_faults, row_at, rows_of}
+use Rattle.tm_names.specs.Closures.{TellsInfinite, infinite_fault, infinite_faults}
 use Rattle.tm_names.specs.Faults.{IsNameFault, IsTwice, IsUnknown, IsArity, IsOutOfSight, IsReserved, IsDiscriminant, IsInfinite, IsBadRepr, decl_lists, lifetime_lists, name_lists}
 use Rattle.tm_names.specs.FileFaults.{file_faults}
 use Rattle.tm_names.specs.Found.{decl_faults, repeats, repr_faults, reserved, scope_faults, value_faults}
-use Rattle.tm_names.specs.Holding.{first_named}
+use Rattle.tm_names.specs.Meanings.{meaning_of}
 use Rattle.tm_names.specs.Representations.{tag_of}
 use Rattle.tm_names.specs.Scopes.{decl_scope, outer_scope, scopes_of}
 use Rattle.tm_parse.specs.declared.parsed.Decl.{Decl}
 use Rattle.tm_parse.specs.declared.parsed.Parsed.{Parsed}
 
-module _ (profile : Profile) (name : ℕ → List ℕ) (file : Parsed) where
-  abbrev rows : List (List Bool)
-  rows = rows_of name file.decls
-
-  abbrev closed : List (List Bool)
-  closed = closure 0 (length rows) rows
-
-  infinite_stand : (f : NameFault) → Member f (infinite_faults name file.decls) → Stands profile name file f
+module _ (profile : Profile) (name : ℕ → List ℕ) (file : Parsed) (infinite : ℕ → Bool) (told : TellsInfinite name file.decls infinite) where
+  infinite_stand : (f : NameFault) → Member f (infinite_faults infinite file.decls) → Stands profile name file f
   infinite_stand f m =
-      let (pair, listed, here) = from_flat_map (infinite_fault closed) f (enumerate_from 0 file.decls) m in
+      let (pair, listed, here) = from_flat_map (infinite_fault infinite) f (enumerate_from 0 file.decls) m in
       let (k, at, same) = from_numbered pair.0 pair.1 file.decls 0 listed in
       let number : pair.0 ≡ k = omega (arith, same) in
-      from_where (Stands profile name file) (bit_at (row_at closed pair.0) pair.0) Infinite pair.1.name f
+      from_where (Stands profile name file) (infinite pair.0) Infinite pair.1.name f
       (λ t. record {
         number = k;
         decl = pair.1;
         at = at;
         named = refl;
-        holds = cyclic_holds name file.decls k (slice_get_within file.decls k pair.1 at) (subst (λ i. bit_at (row_at closed i) i ≡ true) number t);
+        holds = (told.tells k (slice_get_within file.decls k pair.1 at)).0 (subst (λ i. infinite i ≡ true) number t);
       }) here
 
   lists_stand : (d : Decl) → Member d file.decls → (f : NameFault) → Member f (flat_map (repeats name) (decl_lists d)) → Stands profile name file f
@@ -70,67 +63,67 @@ module _ (profile : Profile) (name : ℕ → List ℕ) (file : Parsed) where
       scope_stands profile name file (outer_scope file) (behind (outer_scope file) (map decl_scope file.decls) (outer_scope file ∷ []) (inl refl)) f m
 
   -- each fault that is listed stands in the file
-  pub listed_stands : (f : NameFault) → Member f (file_faults profile name file) → Stands profile name file f
+  pub listed_stands : (f : NameFault) → Member f (file_faults profile name file infinite) → Stands profile name file f
   listed_stands f m =
       in_row f (repeats name (map (λ d. d.name) file.decls)) (repeats name file.lifetimes) (reserved name file.lifetimes)
       (flat_map (decl_faults profile name file.decls) file.decls)
-      (scope_faults name file.decls (outer_scope file) ++ infinite_faults name file.decls) (Stands profile name file f)
+      (scope_faults name file.decls (outer_scope file) ++ infinite_faults infinite file.decls) (Stands profile name file f)
       (repeats_stand profile name file (map (λ d. d.name) file.decls) (inl refl) f)
       (repeats_stand profile name file file.lifetimes (inr (inl refl)) f)
       (reserved_stand profile name file file.lifetimes (inl refl) f)
       (decls_stand f)
-      (λ n. ⊎_elim (outer_stands f) (infinite_stand f) (either f (scope_faults name file.decls (outer_scope file)) (infinite_faults name file.decls) n)) m
+      (λ n. ⊎_elim (outer_stands f) (infinite_stand f) (either f (scope_faults name file.decls (outer_scope file)) (infinite_faults infinite file.decls) n)) m
 
   abbrev Listed : NameWhy → ℕ → Type 0
-  Listed why place = Member (fault why place) (file_faults profile name file)
+  Listed why place = Member (fault why place) (file_faults profile name file infinite)
 
   twice_listed : (place : ℕ) → IsTwice name file place → Listed Twice place
   twice_listed place h =
       let places = h.before ++ (place ∷ h.after) in
-      at_list profile name file (fault Twice place) places (member places (name_lists file) h.listed) (into_repeats name [] h.before h.after place h.again)
+      at_list profile name file infinite (fault Twice place) places (member places (name_lists file) h.listed) (into_repeats name [] h.before h.after place h.again)
 
   unknown_is_listed : (place : ℕ) → IsUnknown name file place → Listed Unknown place
   unknown_is_listed place h =
       subst (λ p. Listed Unknown p) h.here
-      (at_scope profile name file (fault Unknown h.mention.place) h.scope (member h.scope (scopes_of file) h.mentioned.part)
+      (at_scope profile name file infinite (fault Unknown h.mention.place) h.scope (member h.scope (scopes_of file) h.mentioned.part)
       (unknown_listed name file.decls h.scope h.mention (member (Name h.mention) h.scope.mentions h.mentioned.mentioned)
-      (subst (λ p. IsNone (first_named name file.decls p)) (sym h.here) h.unknown)))
+      (subst (λ p. IsNone (meaning_of name file.decls h.scope.types p)) (sym h.here) h.unknown)))
 
   arity_is_listed : (place : ℕ) → IsArity name file place → Listed Arity place
   arity_is_listed place h =
       subst (λ p. Listed Arity p) h.here
-      (at_scope profile name file (fault Arity h.mention.place) h.scope (member h.scope (scopes_of file) h.mentioned.part)
-      (arity_listed name file.decls h.scope h.mention h.number h.decl (member (Name h.mention) h.scope.mentions h.mentioned.mentioned)
-      (subst (λ p. first_named name file.decls p ≡ Some h.number) (sym h.here) h.meant) h.at h.differs))
+      (at_scope profile name file infinite (fault Arity h.mention.place) h.scope (member h.scope (scopes_of file) h.mentioned.part)
+      (arity_listed name file.decls h.scope h.mention h.meaning (member (Name h.mention) h.scope.mentions h.mentioned.mentioned)
+      (subst (λ p. meaning_of name file.decls h.scope.types p ≡ Some h.meaning) (sym h.here) h.meant) h.differs))
 
   hidden_is_listed : (place : ℕ) → IsOutOfSight name file place → Listed Lifetime place
   hidden_is_listed place h =
-      at_scope profile name file (fault Lifetime place) h.scope (member h.scope (scopes_of file) h.mentioned.part)
+      at_scope profile name file infinite (fault Lifetime place) h.scope (member h.scope (scopes_of file) h.mentioned.part)
       (hidden_listed name file.decls h.scope place (member (Life place) h.scope.mentions h.mentioned.mentioned) h.hidden)
 
   reserved_is_listed : (place : ℕ) → IsReserved name file place → Listed Lifetime place
   reserved_is_listed place h =
-      at_lifetimes profile name file (fault Lifetime place) h.places (member h.places (lifetime_lists file) h.listed)
+      at_lifetimes profile name file infinite (fault Lifetime place) h.places (member h.places (lifetime_lists file) h.listed)
       (reserved_listed name h.places place (member place h.places h.among) h.reserved)
 
   value_is_listed : (place : ℕ) → IsDiscriminant profile name file place → Listed Discriminant place
   value_is_listed place h =
-      at_values profile name file (fault Discriminant place) h.decl (member h.decl file.decls h.declared)
+      at_values profile name file infinite (fault Discriminant place) h.decl (member h.decl file.decls h.declared)
       (value_listed profile h.decl h.before h.after h.here place h.listed h.named h.wrong)
 
   infinite_is_listed : (place : ℕ) → IsInfinite name file place → Listed Infinite place
   infinite_is_listed place h =
       subst (λ p. Listed Infinite p) h.named
-      (at_infinite profile name file (fault Infinite h.decl.name)
-      (into_flat_map (infinite_fault closed) (fault Infinite h.decl.name) (h.number, h.decl) (enumerate_from 0 file.decls)
+      (at_infinite profile name file infinite (fault Infinite h.decl.name)
+      (into_flat_map (infinite_fault infinite) (fault Infinite h.decl.name) (h.number, h.decl) (enumerate_from 0 file.decls)
       (numbered h.decl file.decls h.number 0 h.number h.at (omega arith))
-      (into_where (bit_at (row_at closed h.number) h.number) Infinite h.decl.name
-      (holds_cyclic name file.decls h.number (slice_get_within file.decls h.number h.decl h.at) h.holds))))
+      (into_where (infinite h.number) Infinite h.decl.name
+      ((told.tells h.number (slice_get_within file.decls h.number h.decl h.at)).1 h.holds))))
 
   repr_is_listed : (place : ℕ) → IsBadRepr name file place → Listed BadRepr place
   repr_is_listed place h =
       subst (λ p. Listed BadRepr p) h.here
-      (at_repr profile name file (fault BadRepr h.first.token) h.decl (member h.decl file.decls h.declared)
+      (at_repr profile name file infinite (fault BadRepr h.first.token) h.decl (member h.decl file.decls h.declared)
       (repr_listed h.decl h.first h.others h.reprs h.wrong))
 
   -- and each that stands in the file is listed

@@ -1,5 +1,5 @@
 -- The earliest of the listed faults is the first fault of the file, and there is one where a fault stands.
-use Rattle.std.proofs.Common.{◌≡◌, ℕ, ◌<◌, ◌≤◌, refl, sym, ap, ◌∙◌, arith, ◌⊎◌, if◌then◌else◌, List}
+use Rattle.std.proofs.Common.{◌≡◌, ℕ, ◌<◌, ◌≤◌, refl, sym, ap, ◌∙◌, arith, ◌⊎◌, if◌then◌else◌, Bool, Option, List}
 use Rattle.std.specs.Prelude.{Some, None, ◌==◌}
 use Rattle.tm_base.specs.declared.limit.NameWhy.{NameWhy}
 use Rattle.tm_base.specs.declared.limit.NameWhy.TheVariants.{Twice, Unknown, Arity, Lifetime, Discriminant, Infinite, BadRepr}
@@ -8,23 +8,28 @@ use Rattle.tm_names.proofs.FileLemmas.{listed_stands, standing_listed}
 use Rattle.tm_names.proofs.LeastLaws.{NoLater, earliest_is_least, no_earliest}
 use Rattle.tm_names.proofs.PartLemmas.{fault}
 use Rattle.tm_names.specs.declared.least.NameFault.{NameFault}
-use Rattle.tm_names.specs.Faults.{IsFirstFault, HasNoFault}
-use Rattle.tm_names.specs.FileFaults.{file_faults}
+use Rattle.tm_names.specs.Closures.{TellsInfinite}
+use Rattle.tm_names.specs.Faults.{IsFirstFault}
+use Rattle.tm_names.specs.FileFaults.{IsFirst, file_faults}
 use Rattle.tm_names.specs.Least.{earliest}
 use Rattle.tm_names.specs.Ranks.{rank}
 use Rattle.tm_parse.specs.declared.parsed.Parsed.{Parsed}
 
-module _ (profile : Profile) (name : ℕ → List ℕ) (file : Parsed) where
-  pub nothing_stands : earliest None (file_faults profile name file) ≡ None → HasNoFault profile name file
-  nothing_stands e = record { none = λ why place h. no_earliest (file_faults profile name file) e (fault why place) (standing_listed profile name file why place h) }
+module _ (profile : Profile) (name : ℕ → List ℕ) (file : Parsed) (infinite : ℕ → Bool) (told : TellsInfinite name file.decls infinite) where
+  abbrev listed : List NameFault
+  listed = file_faults profile name file infinite
 
-  pub first_stands : (f : NameFault) → earliest None (file_faults profile name file) ≡ Some f → IsFirstFault profile name file f.why f.place
-  first_stands f e =
-      let least = earliest_is_least (file_faults profile name file) f e in
-      record { fault = listed_stands profile name file f least.among; first = λ other there h. least.least (fault other there) (standing_listed profile name file other there h) }
-
-  pub no_first : (why : NameWhy) (place : ℕ) → IsFirstFault profile name file why place → earliest None (file_faults profile name file) ≡ None → ⊥
-  no_first why place h e = no_earliest (file_faults profile name file) e (fault why place) (standing_listed profile name file why place h.fault)
+  -- what is found first is the first that stands in the file
+  pub first_found : (found : Option NameFault) → found ≡ earliest None listed → IsFirst profile name file found
+  first_found None e = record {
+    none = λ why place h. no_earliest listed (sym e) (fault why place) (standing_listed profile name file infinite told why place h);
+  }
+  first_found (Some f) e =
+      let least = earliest_is_least listed f (sym e) in
+      record {
+        fault = listed_stands profile name file infinite told f least.among;
+        first = λ other there h. least.least (fault other there) (standing_listed profile name file infinite told other there h);
+      }
 
 -- a kind is known by its number
 kind_at : ℕ → NameWhy
@@ -56,7 +61,6 @@ same_fault f g a b =
 
 -- a file has one first fault
 pub one_first : (profile : Profile) (name : ℕ → List ℕ) (file : Parsed) (why : NameWhy) (place : ℕ) → IsFirstFault profile name file why place
-    → (f : NameFault) → earliest None (file_faults profile name file) ≡ Some f → (f.why ≡ why) × (f.place ≡ place)
-one_first profile name file why place h f e =
-    let least = first_stands profile name file f e in
+    → (f : NameFault) → IsFirstFault profile name file f.why f.place → (f.why ≡ why) × (f.place ≡ place)
+one_first profile name file why place h f least =
     same_fault f (fault why place) (least.first why place h.fault) (h.first f.why f.place least.fault)

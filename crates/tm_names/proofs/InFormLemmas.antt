@@ -13,7 +13,7 @@ use Rattle.tm_names.proofs.TypeFormLemmas.{asks_in_form, each_passes, fields_in_
 use Rattle.tm_names.specs.Discriminants.{valued_from, value_of}
 use Rattle.tm_names.specs.Faults.{HasNoFault}
 use Rattle.tm_names.specs.InForm.{IsInForm, are_defs_typed, is_variant_typed}
-use Rattle.tm_names.specs.Resolutions.{ask_of, decl_types, def_of, field_of, param_of, resolved_of, type_of, variant_of, variant_types}
+use Rattle.tm_names.specs.Resolutions.{ask_of, decl_types, def_of, field_of, field_type, resolved_of, variant_of, variant_types}
 use Rattle.tm_lex.specs.declared.token.Token.{Token}
 use Rattle.tm_parse.proofs.Carried.{terminals_carry}
 use Rattle.tm_parse.proofs.PlaceBounds.{places_kept, terminals_placed}
@@ -37,16 +37,16 @@ spelled_placed text tokens file h =
 
 module _ (profile : Profile) (name : ℕ → List ℕ) (file : Parsed) where
   -- each field has its type
-  variants_typed : (params : List ℕ) (z : ℤ) (vs : List DeclVariant) → is_variant_typed (map (variant_of name) (valued_from z vs)) (map (variant_types name file.decls params) vs) ≡ true
-  variants_typed params z [] = refl
-  variants_typed params z (v ∷ vs) =
-      and_from _ _ (eq-eqb (length (map (field_of name) v.fields)) (length (map (λ field. type_of name file.decls (param_of name params) field.ty) v.fields))
-      (omega (arith, length-map v.fields (field_of name), length-map v.fields (λ field. type_of name file.decls (param_of name params) field.ty))))
-      (variants_typed params (value_of z v +ℤ pos 1) vs)
+  variants_typed : (d : Decl) (z : ℤ) (vs : List DeclVariant) → is_variant_typed (map (variant_of name) (valued_from z vs)) (map (variant_types name file.decls d) vs) ≡ true
+  variants_typed d z [] = refl
+  variants_typed d z (v ∷ vs) =
+      and_from _ _ (eq-eqb (length (map (field_of name) v.fields)) (length (map (λ field. field_type name file.decls d field.ty) v.fields))
+      (omega (arith, length-map v.fields (field_of name), length-map v.fields (λ field. field_type name file.decls d field.ty))))
+      (variants_typed d (value_of z v +ℤ pos 1) vs)
 
   defs_typed : (ds : List Decl) → are_defs_typed (map (def_of name) ds) (map (decl_types name file.decls) ds) ≡ true
   defs_typed [] = refl
-  defs_typed (d ∷ ds) = and_from _ _ (variants_typed d.params (pos 0) d.variants) (defs_typed ds)
+  defs_typed (d ∷ ds) = and_from _ _ (variants_typed d (pos 0) d.variants) (defs_typed ds)
 
   module _ (sound : HasNoFault profile name file) (within : IsWithinLimits file) where
     defs_in_form : are_defs_in_form profile (map (def_of name) file.decls) ≡ true

@@ -1,6 +1,6 @@
 -- The number of what is found is below that of what there is.
 use Rattle.std.proofs.Common.{◌≡◌, ℕ, suc, ◌+◌, ◌<◌, refl, arith, Bool, true, false, if◌then◌else◌, List, [], ◌∷◌, length, map, sym}
-use Rattle.std.specs.Prelude.{Option, Some, None, IsNone, cond, nat_lt, unwrap_or, option_map, IfSome}
+use Rattle.std.specs.Prelude.{Option, Some, None, cond, nat_lt, unwrap_or, option_map, IfSome}
 use Rattle.std.specs.List.{list_all, position_from}
 use Rattle.std.proofs.lemmas.Bool.{and_from, lt-ltb}
 use Rattle.std.proofs.lemmas.List.{length-map}
@@ -64,8 +64,3 @@ module _ (name : ℕ → List ℕ) where
   bounds_known lifetimes [] = refl
   bounds_known lifetimes (b ∷ bs) =
       and_from _ _ (and_from _ _ (region_known lifetimes b.longer) (region_known lifetimes b.shorter)) (bounds_known lifetimes bs)
-
--- a number that is found, or 0 where some is
-pub number_within : (o : Option ℕ) (n : ℕ) → (IsNone o → ⊥) → ((k : ℕ) → o ≡ Some k → k < n) → nat_lt (unwrap_or o 0) n ≡ true
-number_within None n some within = absurd (some refl)
-number_within (Some k) n some within = lt-ltb k n (within k refl)

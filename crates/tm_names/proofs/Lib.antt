@@ -1,4 +1,6 @@
 pub mod MentionLemmas
+pub mod HeldLemmas
+pub mod MeaningLemmas
 pub mod TypeLemmas
 pub mod LeastLemmas
 pub mod Members
@@ -11,7 +13,10 @@ pub mod ValueLemmas
 pub mod DiscriminantLemmas
 pub mod ThroughLemmas
 pub mod RowLemmas
+pub mod NewsLemmas
 pub mod HoldingLemmas
+pub mod OwnLemmas
+pub mod CyclicLemmas
 pub mod FileLemmas
 pub mod FirstLemmas
 mod Worked

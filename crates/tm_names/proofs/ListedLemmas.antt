@@ -1,15 +1,16 @@
 -- Each fault of a part of a file is listed for it.
-use Rattle.std.proofs.Common.{◌≡◌, ℕ, refl, sym, ap, subst, inl, Bool, true, false, List, ◌∷◌, length}
-use Rattle.std.specs.Prelude.{Option, Some, None, not, ◌==◌, slice_get, is_some}
+use Rattle.std.proofs.Common.{◌≡◌, ℕ, refl, sym, ap, subst, inl, Bool, true, false, List, ◌∷◌}
+use Rattle.std.specs.Prelude.{Option, Some, None, not, is_some}
 use Rattle.std.proofs.lemmas.Bool.{false≢true}
 use Rattle.tm_base.specs.declared.limit.NameWhy.TheVariants as why
 use Rattle.tm_names.proofs.Members.{Member, into_flat_map}
 use Rattle.tm_names.proofs.PartLemmas.{fault, into_where}
+use Rattle.tm_names.specs.declared.meaning.Meaning.{Meaning}
 use Rattle.tm_names.specs.declared.mentions.Mention.TheVariants.{Name, Life}
 use Rattle.tm_names.specs.declared.mentions.NameMention.{NameMention}
-use Rattle.tm_names.specs.Found.{arity_faults, first_repr, mention_faults, name_faults, repr_faults, reserved, scope_faults}
-use Rattle.tm_names.specs.Holding.{first_named}
+use Rattle.tm_names.specs.Found.{first_repr, mention_faults, name_faults, repr_faults, reserved, scope_faults}
 use Rattle.tm_names.specs.Least.{fault_where}
+use Rattle.tm_names.specs.Meanings.{meaning_of, takes}
 use Rattle.tm_names.specs.Representations.{is_repr_in_form}
 use Rattle.tm_names.specs.Scopes.{Scope, is_in_sight}
 use Rattle.tm_names.specs.Written.{is_reserved}
@@ -32,26 +33,26 @@ module _ (name : ℕ → List ℕ) where
       (into_where (is_reserved name place) why.Lifetime place t)
 
   module _ (decls : List Decl) where
-    unknown_in : (n : NameMention) (o : Option ℕ) → is_some o ≡ false → Member (fault why.Unknown n.place) (name_faults decls n o)
+    unknown_in : (n : NameMention) (o : Option Meaning) → is_some o ≡ false → Member (fault why.Unknown n.place) (name_faults decls n o)
     unknown_in n None e = inl refl
-    unknown_in n (Some k) e = absurd (false≢true (sym e))
+    unknown_in n (Some meaning) e = absurd (false≢true (sym e))
 
-    pub unknown_listed : (scope : Scope) (n : NameMention) → Member (Name n) scope.mentions → is_some (first_named name decls n.place) ≡ false
+    pub unknown_listed : (scope : Scope) (n : NameMention) → Member (Name n) scope.mentions → is_some (meaning_of name decls scope.types n.place) ≡ false
         → Member (fault why.Unknown n.place) (scope_faults name decls scope)
     unknown_listed scope n m e =
-        into_flat_map (mention_faults name decls scope.sight) (fault why.Unknown n.place) (Name n) scope.mentions m (unknown_in n (first_named name decls n.place) e)
+        into_flat_map (mention_faults name decls scope.sight scope.types) (fault why.Unknown n.place) (Name n) scope.mentions m
+        (unknown_in n (meaning_of name decls scope.types n.place) e)
 
-    pub arity_listed : (scope : Scope) (n : NameMention) (k : ℕ) (d : Decl) → Member (Name n) scope.mentions
-        → first_named name decls n.place ≡ Some k → slice_get decls k ≡ Some d → (n.lifetimes == length d.params) ≡ false
+    pub arity_listed : (scope : Scope) (n : NameMention) (meaning : Meaning) → Member (Name n) scope.mentions
+        → meaning_of name decls scope.types n.place ≡ Some meaning → takes decls meaning n ≡ false
         → Member (fault why.Arity n.place) (scope_faults name decls scope)
-    arity_listed scope n k d m meant at t =
-        into_flat_map (mention_faults name decls scope.sight) (fault why.Arity n.place) (Name n) scope.mentions m
+    arity_listed scope n meaning m meant t =
+        into_flat_map (mention_faults name decls scope.sight scope.types) (fault why.Arity n.place) (Name n) scope.mentions m
         (subst (λ o. Member (fault why.Arity n.place) (name_faults decls n o)) (sym meant)
-        (subst (λ o. Member (fault why.Arity n.place) (arity_faults n o)) (sym at)
-        (into_where (not (n.lifetimes == length d.params)) why.Arity n.place (not_false (n.lifetimes == length d.params) t))))
+        (into_where (not (takes decls meaning n)) why.Arity n.place (not_false (takes decls meaning n) t)))
 
     pub hidden_listed : (scope : Scope) (place : ℕ) → Member (Life place) scope.mentions → is_in_sight name scope.sight place ≡ false
         → Member (fault why.Lifetime place) (scope_faults name decls scope)
     hidden_listed scope place m t =
-        into_flat_map (mention_faults name decls scope.sight) (fault why.Lifetime place) (Life place) scope.mentions m
+        into_flat_map (mention_faults name decls scope.sight scope.types) (fault why.Lifetime place) (Life place) scope.mentions m
         (into_where (not (is_in_sight name scope.sight place)) why.Lifetime place (not_false (is_in_sight name scope.sight place) t))

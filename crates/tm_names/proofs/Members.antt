@@ -1,5 +1,5 @@
 -- The members of lists that are made of other lists.
-use Rattle.std.proofs.Common.{◌≡◌, ℕ, zero, suc, ◌+◌, ◌<◌, refl, sym, ap, ◌∙◌, subst, arith, inl, inr, ◌⊎◌, ⊎_elim, List, [], ◌∷◌, ◌++◌, length, map}
+use Rattle.std.proofs.Common.{◌≡◌, ℕ, zero, suc, ◌+◌, ◌<◌, refl, sym, ap, ◌∙◌, subst, arith, inl, inr, ◌⊎◌, ⊎_elim, List, [], ◌∷◌, ◌++◌, length, map, append_assoc, drop, get_or}
 use Rattle.std.specs.Prelude.{Contains, slice_index_or, Option, Some, None, slice_get}
 use Rattle.std.specs.List.{flat_map, filter_map, cons_option, enumerate_from}
 use Rattle.std.proofs.lemmas.Option.{none-some, same_Some}
@@ -69,6 +69,16 @@ put_in h y x z zs (Some w) f e m rest = ⊎_elim (λ p. inl (same_Some w y (sym 
 pub into_filter_map : {X Y : Type 0} (h : X → Option Y) (y : Y) (x : X) (xs : List X) → Member x xs → h x ≡ Some y → Member y (filter_map h xs)
 into_filter_map h y x [] m e = absurd m
 into_filter_map h y x (z ∷ zs) m e = put_in h y x z zs (h z) refl e m (λ n. into_filter_map h y x zs n e)
+
+-- one turn of a loop that takes each item of a list to another one
+first_left : {X Y : Type 0} (f : X → Y) (xs : List X) (i n : ℕ) (x : X) → i < length xs → n ≡ suc i → x ≡ get_or xs i x → f x ∷ map f (drop n xs) ≡ map f (drop i xs)
+first_left f [] i n x h e at = absurd (omega arith)
+first_left f (y ∷ ys) zero n x h e at = ap (λ k. f x ∷ map f (drop k (y ∷ ys))) e ∙ ap (λ z. f z ∷ map f ys) at
+first_left f (y ∷ ys) (suc i) n x h e at = ap (λ k. f x ∷ map f (drop k (y ∷ ys))) e ∙ first_left f ys i (suc i) x (omega arith) refl at
+
+pub one_taken : {X Y : Type 0} (f : X → Y) (found : List Y) (xs : List X) (i n : ℕ) (x : X) → i < length xs → n ≡ suc i → x ≡ get_or xs i x
+    → (found ++ (f x ∷ [])) ++ map f (drop n xs) ≡ found ++ map f (drop i xs)
+one_taken f found xs i n x h e at = append_assoc found (f x ∷ []) (map f (drop n xs)) ∙ ap (λ left. found ++ left) (first_left f xs i n x h e at)
 
 -- the item at a place is one of the list
 pub member_from_get : {X : Type 0} (x : X) (xs : List X) (k : ℕ) → slice_get xs k ≡ Some x → Member x xs

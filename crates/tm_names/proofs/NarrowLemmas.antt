@@ -126,6 +126,7 @@ module _ (profile : Profile) (name : ℕ → List ℕ) (file : Parsed) (sound : 
   decl_narrow d among = record {
     items = placed_narrow d.reprs (form_narrow d.kind d.variants (items_of d) (items_go_together profile name file sound d among));
     params = let few = (of_member HasFewParts file.decls d within.parts among).parameters in omega (arith, few);
+    types = let few = (of_member HasFewParts file.decls d within.parts among).type_params in omega (arith, few);
     values = each_passes (λ v. is_value_narrow v.value) (valued d.variants) each;
   }
     where

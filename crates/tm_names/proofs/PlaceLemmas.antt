@@ -1,5 +1,5 @@
 -- Where the parts of a file are listed.
-use Rattle.std.proofs.Common.{ℕ, sym, subst, ⊎_elim, List, [], ◌∷◌, ◌++◌, map}
+use Rattle.std.proofs.Common.{ℕ, sym, subst, ⊎_elim, Bool, List, [], ◌∷◌, ◌++◌, map}
 use Rattle.std.specs.List.{flat_map}
 use Rattle.tm_base.specs.declared.profile.Profile.{Profile}
 use Rattle.tm_names.proofs.Members.{Member, behind, either, front, from_flat_map, from_map, into_flat_map}
@@ -38,9 +38,9 @@ module _ {X : Type 0} (x : X) (u v w y z : List X) where
   in_row P a b c d e m =
       ⊎_elim a (λ n. ⊎_elim b (λ o. ⊎_elim c (λ p. ⊎_elim d e (either x y z p)) (either x w (y ++ z) o)) (either x v (w ++ (y ++ z)) n)) (either x u (v ++ (w ++ (y ++ z))) m)
 
-module _ (profile : Profile) (name : ℕ → List ℕ) (file : Parsed) (f : NameFault) where
+module _ (profile : Profile) (name : ℕ → List ℕ) (file : Parsed) (infinite : ℕ → Bool) (f : NameFault) where
   abbrev Listed : Type 0
-  Listed = Member f (file_faults profile name file)
+  Listed = Member f (file_faults profile name file infinite)
 
   abbrev names_part : List NameFault
   names_part = repeats name (map (λ d. d.name) file.decls)
@@ -58,7 +58,7 @@ module _ (profile : Profile) (name : ℕ → List ℕ) (file : Parsed) (f : Name
   outer_part = scope_faults name file.decls (outer_scope file)
 
   abbrev infinite_part : List NameFault
-  infinite_part = infinite_faults name file.decls
+  infinite_part = infinite_faults infinite file.decls
 
   abbrev rest_part : List NameFault
   rest_part = outer_part ++ infinite_part

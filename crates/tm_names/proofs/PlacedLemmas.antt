@@ -1,5 +1,5 @@
 -- What holds of each place of a file holds of the place at which a fault stands.
-use Rattle.std.proofs.Common.{ℕ, refl, sym, subst, inl, inr, ⊎_elim, Bool, true, false, ◌&&◌, List, [], ◌∷◌, ◌++◌, map, All}
+use Rattle.std.proofs.Common.{ℕ, refl, sym, subst, inl, inr, ⊎_elim, List, [], ◌∷◌, ◌++◌, map, All}
 use Rattle.std.specs.Prelude.{Option, Some, None, IfSome, pos, option_to_list}
 use Rattle.std.specs.List.{flat_map}
 use Rattle.std.proofs.lemmas.List.Elements.{All-head}
@@ -12,13 +12,13 @@ use Rattle.tm_names.proofs.TypeFormLemmas.{of_member}
 use Rattle.tm_names.specs.declared.mentions.Mention.{Mention}
 use Rattle.tm_names.specs.declared.mentions.Mention.TheVariants.{Name, Life}
 use Rattle.tm_names.specs.Faults.{IsBadRepr, IsDiscriminant, IsMentioned, IsNameFault, IsReserved, IsTwice, decl_lists, field_names, lifetime_lists, name_lists, variant_names}
-use Rattle.tm_names.specs.Mentions.{is_holder, mentions_of, row_mentions}
+use Rattle.tm_names.specs.Mentions.{mentions_of, row_mentions}
 use Rattle.tm_names.specs.Scopes.{Scope, ask_mentions, bound_mentions, decl_mentions, decl_scope, outer_scope, scopes_of, variant_mentions}
 use Rattle.tm_parse.specs.Places.{EachPlace, PlacesOfBound, PlacesOfDefinition, PlacesOfField, PlacesOfQuestion, PlacesOfType, PlacesOfVariant, own_places}
 use Rattle.tm_parse.specs.Written.{written, row_written}
 use Rattle.tm_parse.specs.declared.parsed.Decl.{Decl}
 use Rattle.tm_parse.specs.declared.parsed.DeclVariant.{DeclVariant}
-use Rattle.tm_parse.specs.declared.parsed.Expr.{Expr, Row_of-Expr, end_of-Expr, more_of-Expr, Prim, Never, Tuple', Array', NonZero, Wrap', Named, Ref'}
+use Rattle.tm_parse.specs.declared.parsed.Expr.{Expr, Row_of-Expr, end_of-Expr, more_of-Expr, Prim, Never, Tuple', Array', NonZero, Wrap', Named', Ref'}
 use Rattle.tm_parse.specs.declared.parsed.Parsed.{Parsed}
 
 -- where a mention stands
@@ -38,29 +38,30 @@ module _ (IsPlace : ℕ → Type 0) where
   mutual
     unfolding mentions_of written
 
-    mention_placed : (held : Bool) (e : Expr) → EachOf (written e) → (m : Mention) → Member m (mentions_of held e) → IsPlace (place_of m)
-    mention_placed held (Prim p) h m n = absurd n
-    mention_placed held Never h m n = absurd n
-    mention_placed held (Tuple' shape row) h m n = among_placed held row (λ x k. h x (inr k)) m n
-    mention_placed held (Array' shape row l) h m n = among_placed held row (λ x k. h x (inr k)) m n
-    mention_placed held (NonZero p) h m n = absurd n
-    mention_placed held (Wrap' w shape row) h m n = among_placed (held && is_holder w) row (λ x k. h x (inr k)) m n
-    mention_placed held (Named place places) h m n =
-        let own = h (Named place places) (inl refl) in
-        ⊎_elim (λ e. subst (λ u. IsPlace (place_of u)) e (All-head IsPlace place places own)) (own_placed place places own m) n
-    mention_placed held (Ref' life mutable shape row) h m n =
+    mention_placed : (e : Expr) → EachOf (written e) → (m : Mention) → Member m (mentions_of e) → IsPlace (place_of m)
+    mention_placed (Prim p) h m n = absurd n
+    mention_placed Never h m n = absurd n
+    mention_placed (Tuple' shape row) h m n = among_placed row (λ x k. h x (inr k)) m n
+    mention_placed (Array' shape row l) h m n = among_placed row (λ x k. h x (inr k)) m n
+    mention_placed (NonZero p) h m n = absurd n
+    mention_placed (Wrap' w shape row) h m n = among_placed row (λ x k. h x (inr k)) m n
+    mention_placed (Named' place places shape row) h m n =
+        let own = h (Named' place places shape row) (inl refl) in
+        ⊎_elim (λ e. subst (λ u. IsPlace (place_of u)) e (All-head IsPlace place places own))
+        (λ k. ⊎_elim (own_placed place places own m) (among_placed row (λ x l. h x (inr l)) m) (either m (map Life places) (row_mentions row) k)) n
+    mention_placed (Ref' life mutable shape row) h m n =
         ⊎_elim (λ e. subst (λ u. IsPlace (place_of u)) e (All-head IsPlace life [] (h (Ref' life mutable shape row) (inl refl))))
-        (among_placed false row (λ x k. h x (inr k)) m) n
+        (among_placed row (λ x k. h x (inr k)) m) n
 
-    among_placed : {l : _} (held : Bool) (row : Row_of-Expr l) → EachOf (row_written row) → (m : Mention) → Member m (row_mentions held row) → IsPlace (place_of m)
-    among_placed held end_of-Expr h m n = absurd n
-    among_placed held (more_of-Expr e es) h m n =
-        ⊎_elim (mention_placed held e (λ x k. h x (front x (written e) (row_written es) k)) m)
-        (among_placed held es (λ x k. h x (behind x (written e) (row_written es) k)) m)
-        (either m (mentions_of held e) (row_mentions held es) n)
+    among_placed : {l : _} (row : Row_of-Expr l) → EachOf (row_written row) → (m : Mention) → Member m (row_mentions row) → IsPlace (place_of m)
+    among_placed end_of-Expr h m n = absurd n
+    among_placed (more_of-Expr e es) h m n =
+        ⊎_elim (mention_placed e (λ x k. h x (front x (written e) (row_written es) k)) m)
+        (among_placed es (λ x k. h x (behind x (written e) (row_written es) k)) m)
+        (either m (mentions_of e) (row_mentions es) n)
 
-  type_placed : (held : Bool) (e : Expr) → PlacesOfType IsPlace e → (m : Mention) → Member m (mentions_of held e) → IsPlace (place_of m)
-  type_placed held e h = mention_placed held e (λ x k. of_member (λ inner. All IsPlace (own_places inner)) (written e) x h.each k)
+  type_placed : (e : Expr) → PlacesOfType IsPlace e → (m : Mention) → Member m (mentions_of e) → IsPlace (place_of m)
+  type_placed e h = mention_placed e (λ x k. of_member (λ inner. All IsPlace (own_places inner)) (written e) x h.each k)
 
   name_placed : (o : Option ℕ) → IfSome o IsPlace → (place : ℕ) → Member place (option_to_list o) → IsPlace place
   name_placed None h place m = absurd m
@@ -87,10 +88,11 @@ module _ (IsPlace : ℕ → Type 0) where
     in_decl_list : (d : Decl) → Member d file.decls → (places : List ℕ) → Member places (decl_lists d) → (place : ℕ) → Member place places → IsPlace place
     in_decl_list d among places m place here =
         ⊎_elim (λ e. of_member IsPlace d.params place (decl_placed d among).parameters (subst (Member place) (sym e) here))
+        (λ o. ⊎_elim (λ e. of_member IsPlace d.type_params place (decl_placed d among).type_params (subst (Member place) (sym e) here))
         (λ n. ⊎_elim (λ e. variant_name_placed d among place (subst (Member place) (sym e) here))
         (λ k.
         let (v, within, e) = from_map field_names places d.variants k in
-        field_name_placed v (variant_placed d among v within) place (subst (Member place) (sym e) here)) n) m
+        field_name_placed v (variant_placed d among v within) place (subst (Member place) (sym e) here)) n) o) m
 
     definition_name_placed : (place : ℕ) → Member place (map (λ d. d.name) file.decls) → IsPlace place
     definition_name_placed place m =
@@ -116,8 +118,8 @@ module _ (IsPlace : ℕ → Type 0) where
     in_decl_scope : (d : Decl) → Member d file.decls → (m : Mention) → Member m (decl_mentions d) → IsPlace (place_of m)
     in_decl_scope d among m n =
         let (v, within, k) = from_flat_map variant_mentions m d.variants n in
-        let (field, here, at) = from_flat_map (λ field. mentions_of true field.ty) m v.fields k in
-        type_placed true field.ty (of_member (PlacesOfField IsPlace) v.fields field (variant_placed d among v within).fields here).type m at
+        let (field, here, at) = from_flat_map (λ field. mentions_of field.ty) m v.fields k in
+        type_placed field.ty (of_member (PlacesOfField IsPlace) v.fields field (variant_placed d among v within).fields here).type m at
 
     in_bounds : (m : Mention) → Member m (flat_map bound_mentions file.bounds) → IsPlace (place_of m)
     in_bounds m n =
@@ -130,7 +132,7 @@ module _ (IsPlace : ℕ → Type 0) where
     in_questions m n =
         let (ask, among, at) = from_flat_map ask_mentions m file.questions n in
         let h = of_member (PlacesOfQuestion IsPlace) file.questions ask placed.questions among in
-        ⊎_elim (type_placed true ask.src h.source m) (type_placed true ask.dst h.target m) (either m (mentions_of true ask.src) (mentions_of true ask.dst) at)
+        ⊎_elim (type_placed ask.src h.source m) (type_placed ask.dst h.target m) (either m (mentions_of ask.src) (mentions_of ask.dst) at)
 
     in_scope : (scope : Scope) → Member scope (scopes_of file) → (m : Mention) → Member m scope.mentions → IsPlace (place_of m)
     in_scope scope part m n =

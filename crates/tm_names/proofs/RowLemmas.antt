@@ -4,7 +4,8 @@ use Rattle.std.specs.Prelude.{slice_get, unwrap_or, Option, Some, None}
 use Rattle.std.specs.List.{enumerate_from}
 use Rattle.std.proofs.lemmas.Bool.{false≢true}
 use Rattle.std.proofs.lemmas.Option.{none-some}
-use Rattle.tm_names.specs.Closures.{bit_at, closure, joined_flag, next_row, next_rows, row_at, through}
+use Rattle.tm_names.specs.Closures.{closure, joined_flag, next_row, next_rows, through}
+use Rattle.tm_names.specs.Held.{bit_at, row_at}
 
 -- what stands at a place
 pub some_at : {X : Type 0} (xs : List X) (i : ℕ) → i < length xs → (x : X) × (slice_get xs i ≡ Some x)
@@ -38,11 +39,11 @@ row_within (x ∷ xs) (suc i) j e = let h = row_within xs i j e in omega (arith,
 pub row_of_map : {X : Type 0} (f : X → List Bool) (xs : List X) (i : ℕ) (x : X) → slice_get xs i ≡ Some x → row_at (map f xs) i ≡ f x
 row_of_map f xs i x e = ap (λ o. unwrap_or o []) (get_map f xs i x e)
 
-next_length : (joins : Bool) (other : List Bool) (from : ℕ) (row : List Bool) → length (map (joined_flag joins other) (enumerate_from from row)) ≡ length row
+pub next_length : (joins : Bool) (other : List Bool) (from : ℕ) (row : List Bool) → length (map (joined_flag joins other) (enumerate_from from row)) ≡ length row
 next_length joins other from [] = refl
 next_length joins other from (x ∷ xs) = ap (λ n. suc n) (next_length joins other (from + 1) xs)
 
-next_bit : (joins : Bool) (other : List Bool) (from : ℕ) (row : List Bool) (j n : ℕ) → j < length row → n ≡ from + j
+pub next_bit : (joins : Bool) (other : List Bool) (from : ℕ) (row : List Bool) (j n : ℕ) → j < length row → n ≡ from + j
     → bit_at (map (joined_flag joins other) (enumerate_from from row)) j ≡ (bit_at row j || (joins && bit_at other n))
 next_bit joins other from [] j n h e = absurd (omega arith)
 next_bit joins other from (x ∷ xs) zero n h e =

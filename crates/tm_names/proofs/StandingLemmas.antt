@@ -1,18 +1,19 @@
 -- Each fault that is listed for a part of a file stands in the file.
-use Rattle.std.proofs.Common.{◌≡◌, ℕ, refl, sym, subst, inl, inr, Bool, true, false, List, [], ◌∷◌, ◌++◌, length}
-use Rattle.std.specs.Prelude.{Option, Some, None, IsNone, not, ◌==◌, slice_get}
+use Rattle.std.proofs.Common.{◌≡◌, ℕ, refl, sym, subst, inl, inr, Bool, true, false, List, [], ◌∷◌, ◌++◌}
+use Rattle.std.specs.Prelude.{Option, Some, None, IsNone, not}
 use Rattle.std.proofs.lemmas.Bool.{false≢true}
 use Rattle.tm_base.specs.declared.limit.NameWhy.TheVariants as why
 use Rattle.tm_base.specs.declared.profile.Profile.{Profile}
 use Rattle.tm_names.proofs.Members.{Member, contained, from_flat_map}
 use Rattle.tm_names.proofs.PartLemmas.{from_repeats, from_where}
 use Rattle.tm_names.specs.declared.least.NameFault.{NameFault}
+use Rattle.tm_names.specs.declared.meaning.Meaning.{Meaning}
 use Rattle.tm_names.specs.declared.mentions.Mention.{Mention}
 use Rattle.tm_names.specs.declared.mentions.Mention.TheVariants.{Name, Life}
 use Rattle.tm_names.specs.declared.mentions.NameMention.{NameMention}
 use Rattle.tm_names.specs.Faults.{IsNameFault, IsMentioned, name_lists, lifetime_lists}
-use Rattle.tm_names.specs.Found.{arity_faults, first_repr, mention_faults, name_faults, repeats, repr_faults, reserved, scope_faults}
-use Rattle.tm_names.specs.Holding.{first_named}
+use Rattle.tm_names.specs.Found.{first_repr, mention_faults, name_faults, repeats, repr_faults, reserved, scope_faults}
+use Rattle.tm_names.specs.Meanings.{meaning_of, takes}
 use Rattle.tm_names.specs.Least.{fault_where}
 use Rattle.tm_names.specs.Representations.{is_repr_in_form}
 use Rattle.tm_names.specs.Scopes.{Scope, scopes_of, is_in_sight}
@@ -40,30 +41,25 @@ module _ (profile : Profile) (name : ℕ → List ℕ) (file : Parsed) where
       from_where Stands (is_reserved name place) why.Lifetime place f
       (λ t. inr (record { places = places; listed = contained places (lifetime_lists file) listed; among = contained place places among; reserved = t })) here
 
-  arity_stands : (scope : Scope) (n : NameMention) → IsMentioned name file scope (Name n) → (k : ℕ) → first_named name file.decls n.place ≡ Some k
-      → (o : Option Decl) → slice_get file.decls k ≡ o → (f : NameFault) → Member f (arity_faults n o) → Stands f
-  arity_stands scope n mentioned k meant None at f m = absurd m
-  arity_stands scope n mentioned k meant (Some d) at f m =
-      from_where Stands (not (n.lifetimes == length d.params)) why.Arity n.place f
-      (λ t. record { scope = scope; mention = n; mentioned = mentioned; here = refl; number = k; decl = d; meant = meant; at = at; differs = not_true (n.lifetimes == length d.params) t }) m
-
   name_stands : (scope : Scope) (n : NameMention) → IsMentioned name file scope (Name n)
-      → (o : Option ℕ) → first_named name file.decls n.place ≡ o → (f : NameFault) → Member f (name_faults file.decls n o) → Stands f
+      → (o : Option Meaning) → meaning_of name file.decls scope.types n.place ≡ o → (f : NameFault) → Member f (name_faults file.decls n o) → Stands f
   name_stands scope n mentioned None e f m =
       from_where Stands true why.Unknown n.place f
       (λ t. record { scope = scope; mention = n; mentioned = mentioned; here = refl; unknown = subst (λ o. IsNone o) (sym e) refl }) m
-  name_stands scope n mentioned (Some k) e f m = arity_stands scope n mentioned k e (slice_get file.decls k) refl f m
+  name_stands scope n mentioned (Some meaning) e f m =
+      from_where Stands (not (takes file.decls meaning n)) why.Arity n.place f
+      (λ t. record { scope = scope; mention = n; mentioned = mentioned; here = refl; meaning = meaning; meant = e; differs = not_true (takes file.decls meaning n) t }) m
 
   mention_stands : (scope : Scope) (mention : Mention) → IsMentioned name file scope mention → (f : NameFault)
-      → Member f (mention_faults name file.decls scope.sight mention) → Stands f
-  mention_stands scope (Name n) mentioned f m = name_stands scope n mentioned (first_named name file.decls n.place) refl f m
+      → Member f (mention_faults name file.decls scope.sight scope.types mention) → Stands f
+  mention_stands scope (Name n) mentioned f m = name_stands scope n mentioned (meaning_of name file.decls scope.types n.place) refl f m
   mention_stands scope (Life place) mentioned f m =
       from_where Stands (not (is_in_sight name scope.sight place)) why.Lifetime place f
       (λ t. inl (record { scope = scope; mentioned = mentioned; hidden = not_true (is_in_sight name scope.sight place) t })) m
 
   pub scope_stands : (scope : Scope) → Member scope (scopes_of file) → (f : NameFault) → Member f (scope_faults name file.decls scope) → Stands f
   scope_stands scope part f m =
-      let (mention, among, here) = from_flat_map (mention_faults name file.decls scope.sight) f scope.mentions m in
+      let (mention, among, here) = from_flat_map (mention_faults name file.decls scope.sight scope.types) f scope.mentions m in
       mention_stands scope mention (record { part = contained scope (scopes_of file) part; mentioned = contained mention scope.mentions among }) f here
 
   first_stands : (d : Decl) → Member d file.decls → (reprs : List DeclRepr) → d.reprs ≡ reprs → (f : NameFault)

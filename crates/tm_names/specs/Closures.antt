@@ -1,22 +1,14 @@
--- Which definition holds which by value, as rows of flags: the flag at place j of row i says it of i and
--- j. Ways of several steps are found by admitting one number after another on the way.
-use Rattle.std.specs.Prelude.{ℕ, zero, suc, ◌+◌, ◌==◌, Bool, false, ◌&&◌, ◌||◌, if◌then◌else◌, Option, None, unwrap_or, List, [], length, map, filter_map, flat_map, slice_get}
-use Rattle.std.specs.List.{enumerate_from, list_any, range_with_len}
+-- Rows of flags that tell where ways lead: the flag at place j of row i says it of a way from i to j.
+-- Ways of several steps are found by admitting one number after another on the way.
+use Rattle.std.specs.Prelude.{◌≡◌, ℕ, zero, suc, ◌+◌, ◌<◌, Bool, true, ◌&&◌, ◌||◌, ◌↔◌, Option, List, length, map, flat_map}
+use Rattle.std.specs.List.{enumerate_from}
 use Rattle.tm_base.specs.declared.limit.NameWhy.TheVariants.{Infinite}
 use Rattle.tm_names.specs.declared.least.NameFault.{NameFault}
-use Rattle.tm_names.specs.declared.mentions.Mention.{Mention}
-use Rattle.tm_names.specs.declared.mentions.Mention.TheVariants.{Name, Life}
-use Rattle.tm_names.specs.Holding.{first_named}
-use Rattle.tm_names.specs.Least.{fault_where}
-use Rattle.tm_names.specs.Scopes.{decl_mentions}
+use Rattle.tm_names.specs.declared.meaning.Meaning.TheVariants.{Parameter}
+use Rattle.tm_names.specs.Held.{bit_at, row_at}
+use Rattle.tm_names.specs.Holding.{Holds, HoldsItself}
+use Rattle.tm_names.specs.Least.{earliest, fault_where}
 use Rattle.tm_parse.specs.declared.parsed.Decl.{Decl}
-
--- the flag at a place, and the row at one
-abbrev pub bit_at : List Bool → ℕ → Bool
-bit_at row place = unwrap_or (slice_get row place) false
-
-abbrev pub row_at : List (List Bool) → ℕ → List Bool
-row_at rows place = unwrap_or (slice_get rows place) []
 
 -- a way leads from i to j, where only numbers below a bound are admitted on it
 abbrev pub through : (ℕ → ℕ → Bool) → ℕ → ℕ → ℕ → Bool
@@ -39,27 +31,32 @@ abbrev pub closure : ℕ → ℕ → List (List Bool) → List (List Bool)
 closure k zero rows = rows
 closure k (suc n) rows = closure (k + 1) n (next_rows k rows)
 
--- the number is one of these
-abbrev pub is_number_among : List ℕ → ℕ → Bool
-is_number_among numbers number = list_any (λ other. other == number) numbers
+-- rows, each joined with the one at the same place
+abbrev pub joined_row : List (List Bool) → ℕ × List Bool → List Bool
+joined_row others (place, row) = next_row true row (row_at others place)
 
--- a definition from which a way leads back
-abbrev pub infinite_fault : List (List Bool) → ℕ × Decl → List NameFault
-infinite_fault closed (number, d) = fault_where (bit_at (row_at closed number) number) Infinite d.name
+abbrev pub joined_rows : List (List Bool) → List (List Bool) → List (List Bool)
+joined_rows rows others = map (joined_row others) (enumerate_from 0 rows)
+
+-- the faults of definitions that hold themselves, where this tells which do
+abbrev pub infinite_fault : (ℕ → Bool) → ℕ × Decl → List NameFault
+infinite_fault infinite (number, d) = fault_where (infinite number) Infinite d.name
+
+abbrev pub infinite_faults : (ℕ → Bool) → List Decl → List NameFault
+infinite_faults infinite decls = flat_map (infinite_fault infinite) (enumerate_from 0 decls)
 
 module _ (name : ℕ → List ℕ) (decls : List Decl) where
-  -- the definition that a mention holds by value
-  abbrev pub held_number : Mention → Option ℕ
-  held_number (Name mention) = if mention.held then first_named name decls mention.place else None
-  held_number (Life place) = None
+  -- the flags tell which definition holds which of its own parameters
+  pub record TellsOwn (own : List (List Bool)) : Type 0 where
+    pub sound : (i k : ℕ) → bit_at (row_at own i) k ≡ true → Holds name decls i (Parameter k)
+    pub whole : (i k : ℕ) → Holds name decls i (Parameter k) → bit_at (row_at own i) k ≡ true
 
-  -- those that a definition holds, as a row, and all rows
-  abbrev pub row_of : Decl → List Bool
-  row_of d = map (is_number_among (filter_map held_number (decl_mentions d))) (range_with_len 0 (length decls))
+  -- this tells which definitions hold themselves
+  pub record TellsInfinite (infinite : ℕ → Bool) : Type 0 where
+    pub tells : (i : ℕ) → i < length decls → (infinite i ≡ true) ↔ HoldsItself name decls i
 
-  abbrev pub rows_of : List (List Bool)
-  rows_of = map row_of decls
-
-  -- the faults of definitions that hold themselves
-  abbrev pub infinite_faults : List NameFault
-  infinite_faults = flat_map (infinite_fault (closure 0 (length rows_of) rows_of)) (enumerate_from 0 decls)
+  -- the first of some faults, and of those of definitions that hold themselves
+  pub record WithInfinite (first found : Option NameFault) : Type 0 where
+    pub infinite : ℕ → Bool
+    pub told : TellsInfinite infinite
+    pub earliest_is : found ≡ earliest first (infinite_faults infinite decls)

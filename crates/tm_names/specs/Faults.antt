@@ -1,15 +1,17 @@
 -- The name faults of a file under a profile, each with the token at which it stands.
-use Rattle.std.specs.Prelude.{◌≡◌, ℕ, ◌<◌, ◌≤◌, ◌⊎◌, ◌==◌, ◌||◌, not, IsTrue, IsFalse, IsNone, Some, List, ◌∷◌, ◌++◌, length, map, flat_map, Contains, slice_get, option_to_list}
+use Rattle.std.specs.Prelude.{◌≡◌, ℕ, ◌<◌, ◌≤◌, ◌⊎◌, ◌||◌, not, IsTrue, IsFalse, IsNone, Some, List, ◌∷◌, ◌++◌, map, flat_map, Contains, slice_get, option_to_list}
 use Rattle.std.specs.List.{list_any}
 use Rattle.std.specs.Ordering.{int_eq}
 use Rattle.tm_base.specs.declared.limit.NameWhy.{NameWhy}
 use Rattle.tm_base.specs.declared.limit.NameWhy.TheVariants.{Twice, Unknown, Arity, Lifetime, Discriminant, Infinite, BadRepr}
 use Rattle.tm_base.specs.declared.profile.Profile.{Profile}
+use Rattle.tm_names.specs.declared.meaning.Meaning.{Meaning}
 use Rattle.tm_names.specs.declared.mentions.Mention.{Mention}
 use Rattle.tm_names.specs.declared.mentions.Mention.TheVariants.{Name, Life}
 use Rattle.tm_names.specs.declared.mentions.NameMention.{NameMention}
 use Rattle.tm_names.specs.Discriminants.{Valued, valued, is_in_range}
-use Rattle.tm_names.specs.Holding.{first_named, HoldsItself}
+use Rattle.tm_names.specs.Holding.{HoldsItself}
+use Rattle.tm_names.specs.Meanings.{meaning_of, takes}
 use Rattle.tm_names.specs.Ranks.{rank}
 use Rattle.tm_names.specs.Representations.{is_repr_in_form, tag_of}
 use Rattle.tm_names.specs.Scopes.{Scope, scopes_of, is_in_sight}
@@ -27,14 +29,14 @@ abbrev pub variant_names : Decl → List ℕ
 variant_names d = flat_map (λ v. option_to_list v.name) d.variants
 
 -- the lists in which no name may stand twice: definitions, declared lifetimes, and in each definition its
--- parameters, its variants and the fields of each variant
+-- lifetime parameters, its type parameters, its variants and the fields of each variant
 abbrev pub decl_lists : Decl → List (List ℕ)
-decl_lists d = d.params ∷ variant_names d ∷ map field_names d.variants
+decl_lists d = d.params ∷ d.type_params ∷ variant_names d ∷ map field_names d.variants
 
 abbrev pub name_lists : Parsed → List (List ℕ)
 name_lists file = map (λ d. d.name) file.decls ∷ file.lifetimes ∷ flat_map decl_lists file.decls
 
--- the lists of declared lifetimes and of parameters
+-- the lists of declared lifetimes and of lifetime parameters
 abbrev pub lifetime_lists : Parsed → List (List ℕ)
 lifetime_lists file = file.lifetimes ∷ map (λ d. d.params) file.decls
 
@@ -51,25 +53,23 @@ module _ (name : ℕ → List ℕ) (file : Parsed) where
     pub part : Contains (scopes_of file) scope
     pub mentioned : Contains scope.mentions mention
 
-  -- no definition has the name
+  -- no definition and no parameter in sight has the name
   pub record IsUnknown (place : ℕ) : Type 0 where
     pub scope : Scope
     pub mention : NameMention
     pub mentioned : IsMentioned scope (Name mention)
     pub here : mention.place ≡ place
-    pub unknown : IsNone (first_named name file.decls place)
+    pub unknown : IsNone (meaning_of name file.decls scope.types place)
 
-  -- the definition has another number of parameters
+  -- the name takes another number of lifetimes or of types
   pub record IsArity (place : ℕ) : Type 0 where
     pub scope : Scope
     pub mention : NameMention
     pub mentioned : IsMentioned scope (Name mention)
     pub here : mention.place ≡ place
-    pub number : ℕ
-    pub decl : Decl
-    pub meant : first_named name file.decls place ≡ Some number
-    pub at : slice_get file.decls number ≡ Some decl
-    pub differs : IsFalse (mention.lifetimes == length decl.params)
+    pub meaning : Meaning
+    pub meant : meaning_of name file.decls scope.types place ≡ Some meaning
+    pub differs : IsFalse (takes file.decls meaning mention)
 
   -- the lifetime isn't in sight
   pub record IsOutOfSight (place : ℕ) : Type 0 where

@@ -1,5 +1,5 @@
 -- The name faults of a file under a profile, listed part by part.
-use Rattle.std.specs.Prelude.{ℕ, ◌==◌, Bool, true, not, ◌||◌, Option, Some, None, List, [], ◌∷◌, ◌++◌, length, flat_map, slice_get}
+use Rattle.std.specs.Prelude.{ℕ, Bool, true, not, ◌||◌, Option, Some, None, List, [], ◌∷◌, ◌++◌, flat_map}
 use Rattle.std.specs.List.{list_any}
 use Rattle.std.specs.Ordering.{int_eq}
 use Rattle.tm_base.specs.declared.ground.Primitive.{Primitive}
@@ -7,6 +7,7 @@ use Rattle.tm_base.specs.declared.limit.NameWhy.{NameWhy}
 use Rattle.tm_base.specs.declared.limit.NameWhy.TheVariants.{Twice, Unknown, Arity, Lifetime, Discriminant, BadRepr}
 use Rattle.tm_base.specs.declared.profile.Profile.{Profile}
 use Rattle.tm_names.specs.declared.least.NameFault.{NameFault}
+use Rattle.tm_names.specs.declared.meaning.Meaning.{Meaning}
 use Rattle.tm_names.specs.declared.mentions.Mention.{Mention}
 use Rattle.tm_names.specs.declared.mentions.Mention.TheVariants.{Name, Life}
 use Rattle.tm_names.specs.declared.mentions.NameMention.{NameMention}
@@ -14,8 +15,8 @@ use Rattle.tm_names.specs.declared.value.Value.{Value}
 use Rattle.tm_names.specs.declared.value.Value.TheVariants.{AtLeastZero}
 use Rattle.tm_names.specs.Discriminants.{is_in_range}
 use Rattle.tm_names.specs.Faults.{decl_lists}
-use Rattle.tm_names.specs.Holding.{first_named}
 use Rattle.tm_names.specs.Least.{fault_where}
+use Rattle.tm_names.specs.Meanings.{meaning_of, takes}
 use Rattle.tm_names.specs.Representations.{is_repr_in_form, tag_of}
 use Rattle.tm_names.specs.Scopes.{Scope, decl_scope, is_in_sight}
 use Rattle.tm_names.specs.Values.{int_of, next_of, value_in}
@@ -48,14 +49,10 @@ first_repr wrong (repr ∷ reprs) = fault_where wrong BadRepr repr.token
 abbrev pub repr_faults : Decl → List NameFault
 repr_faults d = first_repr (not (is_repr_in_form d)) d.reprs
 
--- a name in a type, with its definition where there is one
-abbrev pub arity_faults : NameMention → Option Decl → List NameFault
-arity_faults mention None = []
-arity_faults mention (Some decl) = fault_where (not (mention.lifetimes == length decl.params)) Arity mention.place
-
-abbrev pub name_faults : List Decl → NameMention → Option ℕ → List NameFault
+-- a name in a type, with what it means
+abbrev pub name_faults : List Decl → NameMention → Option Meaning → List NameFault
 name_faults decls mention None = fault_where true Unknown mention.place
-name_faults decls mention (Some number) = arity_faults mention (slice_get decls number)
+name_faults decls mention (Some meaning) = fault_where (not (takes decls meaning mention)) Arity mention.place
 
 module _ (name : ℕ → List ℕ) where
   -- the names of a list that stand before in it, where these stand before the list
@@ -71,13 +68,13 @@ module _ (name : ℕ → List ℕ) where
   reserved = flat_map (λ place. fault_where (is_reserved name place) Lifetime place)
 
   module _ (decls : List Decl) where
-    -- what is mentioned where these lifetimes are in sight
-    abbrev pub mention_faults : List ℕ → Mention → List NameFault
-    mention_faults sight (Name mention) = name_faults decls mention (first_named name decls mention.place)
-    mention_faults sight (Life place) = fault_where (not (is_in_sight name sight place)) Lifetime place
+    -- what is mentioned where these lifetimes and type parameters are in sight
+    abbrev pub mention_faults : List ℕ → List ℕ → Mention → List NameFault
+    mention_faults sight types (Name mention) = name_faults decls mention (meaning_of name decls types mention.place)
+    mention_faults sight types (Life place) = fault_where (not (is_in_sight name sight place)) Lifetime place
 
     abbrev pub scope_faults : Scope → List NameFault
-    scope_faults scope = flat_map (mention_faults scope.sight) scope.mentions
+    scope_faults scope = flat_map (mention_faults scope.sight scope.types) scope.mentions
 
 -- all faults of a definition but that it holds itself
 abbrev pub decl_faults : Profile → (ℕ → List ℕ) → List Decl → Decl → List NameFault

@@ -11,16 +11,17 @@ use Rattle.tm_base.specs.Limits.{limit_number}
 use Rattle.tm_base.specs.Whole.{are_defs_in_form, is_bound_known, AreValuesDistinct}
 use Rattle.tm_names.specs.declared.resolved.Life.{Life}
 use Rattle.tm_names.specs.declared.resolved.Life.TheVariants.{Static, Declared, Param}
-use Rattle.tm_names.specs.declared.resolved.Open.{Open, Row_of-Open, end_of-Open, more_of-Open, Tuple', Array', NonZero, Wrap', Named, Ref'}
+use Rattle.tm_names.specs.declared.resolved.Open.{Open, Row_of-Open, end_of-Open, more_of-Open, Tuple', Array', NonZero, Wrap', Named', Ref'}
 use Rattle.tm_names.specs.declared.resolved.Resolved.{Resolved}
 
--- the types that are written in a type: itself, its elements, its argument or what it points to, those of
+-- the types that are written in a type: itself, its elements, its arguments or what it points to, those of
 -- these, and so on
 unfoldable mutual
   pub written : Open → List Open
   written (Tuple' shape row) = Tuple' shape row ∷ row_written row
   written (Array' shape row n) = Array' shape row n ∷ row_written row
   written (Wrap' w shape row) = Wrap' w shape row ∷ row_written row
+  written (Named' def lives shape row) = Named' def lives shape row ∷ row_written row
   written (Ref' life mutable shape row) = Ref' life mutable shape row ∷ row_written row
   written t = t ∷ []
 
@@ -39,7 +40,7 @@ is_life_known regions (Param k) = true
 abbrev pub is_head_known : ℕ → ℕ → Open → Bool
 is_head_known defs regions (Array' shape row n) = nat_lt n (2 ^ 32)
 is_head_known defs regions (NonZero p) = is_integer p
-is_head_known defs regions (Named def lives) = nat_lt def.0 defs && list_all (is_life_known regions) lives
+is_head_known defs regions (Named' def lives shape row) = nat_lt def.0 defs && list_all (is_life_known regions) lives
 is_head_known defs regions (Ref' life mutable shape row) = is_life_known regions life
 is_head_known defs regions t = true
 

@@ -1,4 +1,5 @@
 pub mod Written
+pub mod Meanings
 pub mod Mentions
 pub mod Scopes
 pub mod Discriminants
@@ -15,6 +16,7 @@ pub mod Values
 pub mod Ranks
 pub mod Least
 pub mod Found
+pub mod Held
 pub mod Closures
 pub mod FileFaults
 pub mod Checking

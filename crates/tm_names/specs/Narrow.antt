@@ -21,4 +21,5 @@ is_value_narrow (negsuc n) = nat_lt n (2 ^ 64)
 pub record IsNarrow (definition : Decl) : Type 0 where
   pub items : All (λ repr. IsItemNarrow repr.item) definition.reprs
   pub params : length definition.params ≤ 16
+  pub types : length definition.type_params ≤ 16
   pub values : IsTrue (list_all (λ v. is_value_narrow v.value) (valued definition.variants))

@@ -1,12 +1,13 @@
 ghost use Rattle.std.specs.Prelude.{◌≡◌, IfOk, length};
-ghost use Rattle.tm_names.specs.Closures.{bit_at, closure, next_row, next_rows, row_at};
+ghost use Rattle.tm_names.specs.Closures.{closure, joined_rows, next_row, next_rows};
+ghost use Rattle.tm_names.specs.Held.{bit_at, has_news, have_news, row_at};
 
 use crate::adding::add;
 use std::alloc::Global;
 use tm_base::{List, Memory};
 
 /// The flag at a place, and `false` behind the last one.
-fn bit(row: &[bool], place: usize) -> bool
+pub fn bit(row: &[bool], place: usize) -> bool
     ensures { result ≡ bit_at row.now place }
 {
     match row.get(place) {
@@ -28,13 +29,53 @@ fn next_row(alloc: Global, joins: bool, row: &[bool], other: &[bool]) -> Result<
 }
 
 /// The row at a place, and the empty one behind the last.
-fn row_at(rows: &[List<bool>], place: usize) -> &[bool]
+pub fn row_at(rows: &[List<bool>], place: usize) -> &[bool]
     ensures { result.now ≡ row_at rows.now place }
 {
     match rows.get(place) {
         None => &[],
         Some(row) => row.as_slice(),
     }
+}
+
+/// Rows, each joined with the one at the same place.
+pub fn joined_rows(
+    alloc: Global,
+    rows: &[List<bool>],
+    others: &[List<bool>],
+) -> Result<List<List<bool>>, Memory>
+    ensures { IfOk result (λ joined. joined ≡ joined_rows rows.now others.now) }
+{
+    let mut joined = List::new(alloc);
+    for (place, row) in rows.iter().enumerate() {
+        let row = next_row(alloc, true, row.as_slice(), row_at(others, place))?;
+        add(&mut joined, row)?;
+    }
+    Ok(joined)
+}
+
+/// Whether a flag that isn't set is in another row.
+fn has_news(row: &[bool], other: &[bool]) -> bool
+    ensures { result ≡ has_news row.now other.now }
+{
+    for (place, flag) in row.iter().enumerate() {
+        if !*flag && bit(other, place) {
+            return true;
+        }
+    }
+    false
+}
+
+/// Whether some row has news in the one at the same place.
+pub fn have_news(rows: &[List<bool>], others: &[List<bool>]) -> bool
+    ensures { result ≡ have_news rows.now others.now }
+{
+    for (place, row) in rows.iter().enumerate() {
+        if has_news(row.as_slice(), row_at(others, place)) {
+            return true;
+        }
+    }
+    false
 }
 
 /// For each two numbers whether a way leads from the first to the second, also through a further number.

@@ -3,11 +3,12 @@ ghost use Rattle.std.specs.HashMap.{get_by};
 ghost use Rattle.std.specs.Option.{option_or};
 ghost use Rattle.std.specs.Str.{bytes_eq};
 ghost use Rattle.tm_names.specs.Indexing.{IsIndexed};
-ghost use Rattle.tm_names.specs.Holding.{first_named};
+ghost use Rattle.tm_names.specs.Meanings.{IsAtPlace, first_named, meaning_of};
 ghost use Rattle.tm_names.specs.Source.{names_in};
 
 use crate::indexed::Definitions;
-use crate::source::{Source, name};
+use crate::meaning::Meaning;
+use crate::source::{Source, first_among, name};
 use indexmap::IndexMap;
 use std::alloc::Global;
 use tm_base::Memory;
@@ -58,4 +59,24 @@ pub fn first_named(source: &Source, definitions: &Definitions, place: u32) -> Op
     ensures within { IfSome result (λ number. number < length definitions.now.decls.now) }
 {
     definitions.firsts.get(name(source, place)).copied()
+}
+
+/// What the name of the token at a place means, where these type parameters are in sight.
+pub fn meaning(
+    source: &Source,
+    definitions: &Definitions,
+    types: &[u32],
+    place: u32,
+) -> Option<Meaning>
+    requires { IsIndexed (names_in source.now) definitions.now }
+    ensures meant { result ≡ meaning_of (names_in source.now) definitions.now.decls.now types.now place }
+    ensures within { IfSome result (IsAtPlace definitions.now.decls.now types.now) }
+{
+    if let Some(number) = first_among(source, types, place) {
+        return Some(Meaning::Parameter(number));
+    }
+    match first_named(source, definitions, place) {
+        None => None,
+        Some(number) => Some(Meaning::Definition(number)),
+    }
 }

@@ -1,7 +1,7 @@
 ghost use Rattle.std.specs.Prelude.{◌≡◌, ◌++◌, IfOk, OnOk, flat_map};
-ghost use Rattle.std.specs.List.{enumerate_from};
-ghost use Rattle.tm_names.specs.Closures.{infinite_fault, infinite_faults};
-ghost use Rattle.tm_names.specs.FileFaults.{file_faults};
+ghost use Rattle.tm_names.specs.Closures.{WithInfinite, infinite_faults};
+ghost use Rattle.tm_names.specs.FileFaults.{IsFirst};
+ghost use Rattle.tm_names.specs.Held.{bit_at, row_at};
 ghost use Rattle.tm_names.specs.Found.{decl_faults, scope_faults};
 ghost use Rattle.tm_names.specs.Least.{earliest};
 ghost use Rattle.tm_names.specs.Scopes.{ask_mentions, bound_mentions, outer_scope};
@@ -11,13 +11,13 @@ ghost use Rattle.tm_names.specs.Source.{names_in};
 use crate::adding::add;
 use crate::closure::{closure, is_cyclic};
 use crate::forms::{items, note_repr, tag};
-use crate::holding::{mentions, rows};
 use crate::indexed::Definitions;
 use crate::least::{NameFault, note};
 use crate::listing::{decl_names, note_lists};
-use crate::mentioning::add_mentions;
+use crate::mentioning::{add_mentions, mentions};
 use crate::mentions::Mention;
 use crate::noting::{note_mentions, note_repeats, note_reserved};
+use crate::own::{own_rows, rows};
 use crate::ranges::note_values;
 use crate::source::Source;
 use std::alloc::Global;
@@ -40,7 +40,15 @@ fn note_decl(
     let params = decl.params.as_slice();
     let first = note_lists(alloc, first, source, decl)?;
     let first = note_reserved(first, source, params);
-    let first = note_mentions(first, source, definitions, params, mentions.as_slice());
+    let types = decl.type_params.as_slice();
+    let first = note_mentions(
+        first,
+        source,
+        definitions,
+        params,
+        types,
+        mentions.as_slice(),
+    );
     let tag = tag(items.as_slice());
     let first = note_values(alloc, first, source.profile, tag, decl.variants.as_slice())?;
     Ok(note_repr(first, decl, items.as_slice()))
@@ -79,8 +87,8 @@ fn add_asks(found: &mut List<Mention>, asks: &[DeclAsk]) -> Result<(), Memory>
     ensures { OnOk result (found.new ≡ found.old ++ flat_map ask_mentions asks.now) }
 {
     for ask in asks {
-        add_mentions(found, true, &ask.src)?;
-        add_mentions(found, true, &ask.dst)?;
+        add_mentions(found, &ask.src)?;
+        add_mentions(found, &ask.dst)?;
     }
     Ok(())
 }
@@ -100,12 +108,12 @@ fn note_outer(
     add_bounds(&mut mentions, parsed.bounds.as_slice())?;
     add_asks(&mut mentions, parsed.questions.as_slice())?;
     let sight = parsed.lifetimes.as_slice();
-    Ok(note_mentions(first, source, definitions, sight, mentions.as_slice()))
+    Ok(note_mentions(first, source, definitions, sight, &[], mentions.as_slice()))
 }
 
 /// The first of some faults, and of those of definitions from which a way leads back.
 fn note_cyclic(first: Option<NameFault>, decls: &[Decl], closed: &[List<bool>]) -> Option<NameFault>
-    ensures { result ≡ earliest first (flat_map (infinite_fault closed.now) (enumerate_from 0 decls.now)) }
+    ensures { result ≡ earliest first (infinite_faults (λ i. bit_at (row_at closed.now i) i) decls.now) }
 {
     let mut first = first;
     for (number, decl) in decls.iter().enumerate() {
@@ -123,9 +131,10 @@ fn note_infinite(
     definitions: &Definitions,
 ) -> Result<Option<NameFault>, Memory>
     requires { IsIndexed (names_in source.now) definitions.now }
-    ensures { IfOk result (λ found. found ≡ earliest first (infinite_faults (names_in source.now) definitions.now.decls.now)) }
+    ensures { IfOk result (WithInfinite (names_in source.now) definitions.now.decls.now first) }
 {
-    let rows = rows(alloc, source, definitions)?;
+    let own = own_rows(alloc, source, definitions)?;
+    let rows = rows(alloc, source, definitions, own.as_slice())?;
     let closed = closure(alloc, rows)?;
     Ok(note_cyclic(first, definitions.decls, closed.as_slice()))
 }
@@ -139,7 +148,7 @@ pub fn first_fault(
 ) -> Result<Option<NameFault>, Memory>
     requires indexed { IsIndexed (names_in source.now) definitions.now }
     requires same { definitions.now.decls.now ≡ parsed.now.decls }
-    ensures { IfOk result (λ found. found ≡ earliest None (file_faults source.now.profile (names_in source.now) parsed.now)) }
+    ensures { IfOk result (IsFirst source.now.profile (names_in source.now) parsed.now) }
 {
     let lifetimes = parsed.lifetimes.as_slice();
     let names = decl_names(alloc, definitions.decls)?;

@@ -83,6 +83,7 @@ pub fn note_lists(
 {
     let variants = variant_names(alloc, decl)?;
     let first = note_repeats(first, source, decl.params.as_slice());
+    let first = note_repeats(first, source, decl.type_params.as_slice());
     let first = note_repeats(first, source, variants.as_slice());
     note_fields(alloc, first, source, decl.variants.as_slice())
 }

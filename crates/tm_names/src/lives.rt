@@ -4,7 +4,7 @@ ghost use Rattle.tm_names.specs.Sights.{life_in};
 ghost use Rattle.tm_names.specs.Source.{names_in};
 
 use crate::resolved::Life;
-use crate::sight::{Lifetimes, Sight};
+use crate::sight::{Names, Sight};
 use crate::source::{Source, first_among, is_static};
 use tm_base::{Bound, RegionId};
 use tm_parse::DeclBound;
@@ -17,7 +17,7 @@ pub fn life(source: &Source, sight: &Sight, place: u32) -> Life
         return Life::Static;
     }
     match sight {
-        Sight::Params(params) => match first_among(source, params.places, place) {
+        Sight::Params(params, _) => match first_among(source, params.places, place) {
             None => Life::Static,
             Some(number) => Life::Param(number as u32),
         },
@@ -29,7 +29,7 @@ pub fn life(source: &Source, sight: &Sight, place: u32) -> Life
 }
 
 /// The region of the declared lifetime at a place, or of `'static`.
-fn region(source: &Source, lifetimes: &Lifetimes, place: u32) -> RegionId
+fn region(source: &Source, lifetimes: &Names, place: u32) -> RegionId
     ensures { result ≡ region_of (names_in source.now) lifetimes.now.places.now place }
 {
     if is_static(source, place) {
@@ -42,7 +42,7 @@ fn region(source: &Source, lifetimes: &Lifetimes, place: u32) -> RegionId
 }
 
 /// The regions of an item `outlives`.
-pub fn bound(source: &Source, lifetimes: &Lifetimes, bound: &DeclBound) -> Bound
+pub fn bound(source: &Source, lifetimes: &Names, bound: &DeclBound) -> Bound
     ensures { result ≡ bound_of (names_in source.now) lifetimes.now.places.now bound.now }
 {
     Bound {

@@ -11,11 +11,12 @@ pub enum Life {
     Param(u32),
 }
 
-/// A type whose names are resolved and whose lifetimes may be parameters.
+/// A type whose names are resolved, in which lifetimes and types may be parameters.
 ///
 /// `Array` has the element's type and the length. `NonZero` holds an integer type. `Named` has the
-/// definition and a lifetime for each of its parameters. `Ref` has the lifetime, whether it is `&mut`,
-/// and what it points to. The empty `Tuple` is `()`.
+/// definition, and a lifetime and a type for each of its parameters. `Ref` has the lifetime, whether it is
+/// `&mut`, and what it points to. `Param` is the type parameter at a place, from 0, of the definition in
+/// whose field it stands. The empty `Tuple` is `()`.
 #[derive(Debug, Drop)]
 pub enum Open {
     Prim(Primitive),
@@ -24,12 +25,13 @@ pub enum Open {
     Array(Boxed<Open>, u32),
     NonZero(Primitive),
     Wrap(Wrapper, Boxed<Open>),
-    Named(DefId, List<Life>),
+    Named(DefId, List<Life>, List<Open>),
     Ref(Life, bool, Boxed<Open>),
+    Param(u32),
 }
 
-/// A question: may a value of `src` be taken as one of `dst`, where so much is assumed? No lifetime in it
-/// is a parameter.
+/// A question: may a value of `src` be taken as one of `dst`, where so much is assumed? No lifetime and no
+/// type in it is a parameter.
 #[derive(Debug, Drop)]
 pub struct OpenAsk {
     pub src: Open,

@@ -13,7 +13,7 @@ use crate::indexed::Definitions;
 use crate::lives::bound;
 use crate::reprs::repr;
 use crate::resolved::{Open, OpenAsk, Resolved};
-use crate::sight::{Lifetimes, Sight};
+use crate::sight::{Names, Sight};
 use crate::source::Source;
 use crate::typing::resolve;
 use crate::value::Value;
@@ -106,19 +106,26 @@ fn definition(alloc: Global, source: &Source, declared: &Decl) -> Result<Def, Me
     })
 }
 
-/// The types of a variant's fields, in a definition with these parameters.
+/// The types of the fields of a definition's variant.
 fn field_types(
     alloc: Global,
     source: &Source,
     definitions: &Definitions,
-    params: &[u32],
+    definition: &Decl,
     declared: &DeclVariant,
 ) -> Result<List<Open>, Memory>
     requires indexed { IsIndexed (names_in source.now) definitions.now }
-    requires few { length params.now ≤ 16 }
-    ensures { IfOk result (λ types. types ≡ variant_types (names_in source.now) definitions.now.decls.now params.now declared.now) }
+    requires few { length definition.now.params ≤ 16 }
+    requires few_types { length definition.now.type_params ≤ 16 }
+    ensures { IfOk result (λ types. types ≡ variant_types (names_in source.now) definitions.now.decls.now definition.now declared.now) }
 {
-    let sight = Sight::Params(Lifetimes { places: params });
+    let lifetimes = Names {
+        places: definition.params.as_slice(),
+    };
+    let types = Names {
+        places: definition.type_params.as_slice(),
+    };
+    let sight = Sight::Params(lifetimes, types);
     let mut types = List::new(alloc);
     for field in declared.fields.as_slice() {
         let ty = resolve(alloc, source, definitions, &sight, &field.ty)?;
@@ -136,17 +143,12 @@ fn types(
 ) -> Result<List<List<Open>>, Memory>
     requires indexed { IsIndexed (names_in source.now) definitions.now }
     requires few { length declared.now.params ≤ 16 }
+    requires few_types { length declared.now.type_params ≤ 16 }
     ensures { IfOk result (λ types. types ≡ decl_types (names_in source.now) definitions.now.decls.now declared.now) }
 {
     let mut types = List::new(alloc);
     for variant in declared.variants.as_slice() {
-        let fields = field_types(
-            alloc,
-            source,
-            definitions,
-            declared.params.as_slice(),
-            variant,
-        )?;
+        let fields = field_types(alloc, source, definitions, declared, variant)?;
         add(&mut types, fields)?;
     }
     Ok(types)
@@ -204,7 +206,7 @@ fn all_regions(alloc: Global, source: &Source, lifetimes: &[u32]) -> Result<List
 fn all_bounds(
     alloc: Global,
     source: &Source,
-    lifetimes: &Lifetimes,
+    lifetimes: &Names,
     declared: &[DeclBound],
 ) -> Result<List<Bound>, Memory>
     ensures { IfOk result (λ bounds. bounds ≡ map (bound_of (names_in source.now) lifetimes.now.places.now) declared.now) }
@@ -229,7 +231,7 @@ fn question(
     requires few { length parsed.now.lifetimes ≤ 16 }
     ensures { IfOk result (λ ask. ask ≡ ask_of (names_in source.now) parsed.now declared.now) }
 {
-    let sight = Sight::Declared(Lifetimes {
+    let sight = Sight::Declared(Names {
         places: parsed.lifetimes.as_slice(),
     });
     Ok(OpenAsk {
@@ -282,7 +284,7 @@ pub fn resolved(
         bounds: all_bounds(
             alloc,
             source,
-            &Lifetimes { places: lifetimes },
+            &Names { places: lifetimes },
             parsed.bounds.as_slice(),
         )?,
         asks: all_questions(alloc, source, definitions, parsed)?,

@@ -1,16 +1,16 @@
 ghost use Rattle.std.specs.Prelude.{◌≤◌, length};
 
-/// Lifetimes by their places, no more than a file may declare.
+/// Names or lifetimes by their places, no more than a file may declare lifetimes.
 #[derive(Clone, Copy)]
-pub struct Lifetimes<'a> {
+pub struct Names<'a> {
     pub places: &'a [u32],
     pub ghost few: { length places.now ≤ 16 },
 }
 
-/// The lifetimes in sight besides `'static`: a definition's parameters, or the declared lifetimes of the
-/// file.
+/// What is in sight besides `'static` and the definitions: a definition's lifetime and type parameters, or
+/// the declared lifetimes of the file.
 #[derive(Clone, Copy)]
 pub enum Sight<'a> {
-    Params(Lifetimes<'a>),
-    Declared(Lifetimes<'a>),
+    Params(Names<'a>, Names<'a>),
+    Declared(Names<'a>),
 }

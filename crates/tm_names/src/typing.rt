@@ -1,13 +1,15 @@
-ghost use Rattle.std.specs.Prelude.{◌≡◌, IfOk, map};
-ghost use Rattle.tm_names.specs.Resolutions.{def_id, type_of};
-ghost use Rattle.tm_names.specs.Sights.{life_in};
+ghost use Rattle.std.specs.Prelude.{◌≡◌, ◌≤◌, IfOk, length, map};
+ghost use Rattle.tm_names.specs.Meanings.{meaning_of};
+ghost use Rattle.tm_names.specs.Resolutions.{named, type_of};
+ghost use Rattle.tm_names.specs.Sights.{life_in, types_in};
 ghost use Rattle.tm_names.specs.Indexing.{IsIndexed};
 ghost use Rattle.tm_names.specs.Source.{names_in};
 
 use crate::adding::add;
-use crate::definitions::first_named;
+use crate::definitions::meaning;
 use crate::indexed::Definitions;
 use crate::lives::life;
+use crate::meaning::Meaning;
 use crate::resolved::{Life, Open};
 use crate::sight::Sight;
 use crate::source::Source;
@@ -15,14 +17,33 @@ use std::alloc::Global;
 use tm_base::{Boxed, DefId, List, Memory};
 use tm_parse::Expr;
 
-/// The first definition that has the name of the token at a place.
-fn definition(source: &Source, definitions: &Definitions, place: u32) -> DefId
-    requires { IsIndexed (names_in source.now) definitions.now }
-    ensures { result ≡ def_id (names_in source.now) definitions.now.decls.now place }
+/// The type parameters in sight.
+fn types_in<'a>(sight: &Sight<'a>) -> &'a [u32]
+    ensures types { result.now ≡ types_in sight.now }
+    ensures few { length result.now ≤ 16 }
 {
-    match first_named(source, definitions, place) {
-        None => DefId(0),
-        Some(number) => DefId(number as u32),
+    match sight {
+        Sight::Params(_, types) => types.places,
+        Sight::Declared(_) => &[],
+    }
+}
+
+/// The type that a name at a place stands for, with the lifetimes and the types that are given to it.
+fn named(
+    source: &Source,
+    definitions: &Definitions,
+    sight: &Sight,
+    place: u32,
+    lives: List<Life>,
+    types: List<Open>,
+) -> Open
+    requires { IsIndexed (names_in source.now) definitions.now }
+    ensures { result ≡ named (meaning_of (names_in source.now) definitions.now.decls.now (types_in sight.now) place) lives types }
+{
+    match meaning(source, definitions, types_in(sight), place) {
+        None => Open::Named(DefId(0), lives, types),
+        Some(Meaning::Definition(number)) => Open::Named(DefId(number as u32), lives, types),
+        Some(Meaning::Parameter(number)) => Open::Param(number as u32),
     }
 }
 
@@ -53,7 +74,7 @@ pub fn resolve(
     ty: &Expr,
 ) -> Result<Open, Memory>
     requires { IsIndexed (names_in source.now) definitions.now }
-    ensures { IfOk result (λ found. found ≡ type_of (names_in source.now) definitions.now.decls.now (life_in (names_in source.now) sight.now) ty.now) }
+    ensures { IfOk result (λ found. found ≡ type_of (meaning_of (names_in source.now) definitions.now.decls.now (types_in sight.now)) (life_in (names_in source.now) sight.now) ty.now) }
 {
     match ty {
         Expr::Prim(primitive) => Ok(Open::Prim(*primitive)),
@@ -71,10 +92,10 @@ pub fn resolve(
             let argument = resolve(alloc, source, definitions, sight, argument.get())?;
             Ok(Open::Wrap(*wrapper, Boxed::new(alloc, argument)?))
         }
-        Expr::Named(place, lifetimes) => {
-            let definition = definition(source, definitions, *place);
+        Expr::Named(place, lifetimes, arguments) => {
             let lives = lives(alloc, source, sight, lifetimes.as_slice())?;
-            Ok(Open::Named(definition, lives))
+            let types = resolve_all(alloc, source, definitions, sight, arguments.as_slice())?;
+            Ok(named(source, definitions, sight, *place, lives, types))
         }
         Expr::Ref(place, mutable, pointee) => {
             let life = life(source, sight, *place);
@@ -94,7 +115,7 @@ fn resolve_all(
     types: &[Expr],
 ) -> Result<List<Open>, Memory>
     requires { IsIndexed (names_in source.now) definitions.now }
-    ensures { IfOk result (λ found. found ≡ map (type_of (names_in source.now) definitions.now.decls.now (life_in (names_in source.now) sight.now)) types.now) }
+    ensures { IfOk result (λ found. found ≡ map (type_of (meaning_of (names_in source.now) definitions.now.decls.now (types_in sight.now)) (life_in (names_in source.now) sight.now)) types.now) }
 {
     let mut found = List::new(alloc);
     for ty in types {

@@ -1,5 +1,6 @@
 use Rattle.std.proofs.Common.{◌≡◌, ◌++◌, drop, map}
-use Rattle.tm_names.specs.Closures.{bit_at, next_row, next_rows, row_at}
+use Rattle.tm_names.specs.Closures.{next_row, next_rows}
+use Rattle.tm_names.specs.Held.{bit_at, row_at}
 use Rattle.tm_names.proofs.closure.next_rows.Given as goal
 
 abbrev pub invariant-loop-row : goal.invariant-loop-row

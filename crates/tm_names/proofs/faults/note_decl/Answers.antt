@@ -12,9 +12,10 @@ use Rattle.tm_names.proofs.faults.note_decl.Goals as goal
 pub returns : goal.returns
 returns c =
     let params = c.as_slice-params.ensures in
+    let types = c.as_slice-types.ensures in
     let listed = c.in_ok-first.ensures in
     let reserved_ones = rw params at c.note_reserved-first.ensures in
-    let mentioned = rw (c.as_slice.ensures, c.in_ok-mentions.ensures, params) at c.note_mentions-first.ensures in
+    let mentioned = rw (c.as_slice.ensures, c.in_ok-mentions.ensures, params, types) at c.note_mentions-first.ensures in
     let values = rw (c.tag-tag.ensures, c.as_slice-2.ensures, c.in_ok-items.ensures, c.as_slice-3.ensures) at c.in_ok-first-2.ensures in
     let name = names_in c.args.source.now in
     let d = c.args.decl.now in

@@ -1,6 +1,6 @@
 use Rattle.std.proofs.Common.{arith, refl}
 use Rattle.std.proofs.lemmas.List.FromFn.{map-range_with_len_more}
-use Rattle.tm_names.specs.Closures.{is_number_among}
+use Rattle.tm_names.specs.Held.{is_number_among}
 use Rattle.tm_names.proofs.holding.flags.Goals as goal
 
 pub loop-number-preserved : goal.loop-number-preserved

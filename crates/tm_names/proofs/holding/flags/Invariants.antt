@@ -1,6 +1,6 @@
 use Rattle.std.proofs.Common.{◌≡◌, map}
 use Rattle.std.specs.List.{range_with_len}
-use Rattle.tm_names.specs.Closures.{is_number_among}
+use Rattle.tm_names.specs.Held.{is_number_among}
 use Rattle.tm_names.proofs.holding.flags.Given as goal
 
 abbrev pub invariant-loop-number : goal.invariant-loop-number

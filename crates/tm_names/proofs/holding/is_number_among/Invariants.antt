@@ -1,5 +1,5 @@
 use Rattle.std.proofs.Common.{◌≡◌, drop}
-use Rattle.tm_names.specs.Closures.{is_number_among}
+use Rattle.tm_names.specs.Held.{is_number_among}
 use Rattle.tm_names.proofs.holding.is_number_among.Given as goal
 
 abbrev pub invariant-loop-other : goal.invariant-loop-other

@@ -5,4 +5,4 @@ use Rattle.tm_names.proofs.mentioning.+mentioning.Given as goal
 
 abbrev pub invariant-add_all-loop-ty : goal.invariant-add_all-loop-ty
 invariant-add_all-loop-ty l =
-    l.found ++ flat_map (mentions_of l.held) (drop l.ty-index l.types) ≡ l.initial.found ++ flat_map (mentions_of l.held) l.types
+    l.found ++ flat_map mentions_of (drop l.ty-index l.types) ≡ l.initial.found ++ flat_map mentions_of l.types

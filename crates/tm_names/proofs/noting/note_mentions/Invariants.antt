@@ -7,5 +7,5 @@ use Rattle.tm_names.proofs.noting.note_mentions.Given as goal
 
 abbrev pub invariant-loop-mention : goal.invariant-loop-mention
 invariant-loop-mention l =
-    earliest l.first (flat_map (mention_faults (names_in l.source) l.definitions.decls.now l.sight) (drop l.mention-index l.mentions))
-    ≡ earliest l.fn.first (flat_map (mention_faults (names_in l.fn.source) l.fn.definitions.decls.now l.fn.sight) l.fn.mentions)
+    earliest l.first (flat_map (mention_faults (names_in l.source) l.definitions.decls.now l.sight l.types) (drop l.mention-index l.mentions))
+    ≡ earliest l.fn.first (flat_map (mention_faults (names_in l.fn.source) l.fn.definitions.decls.now l.fn.sight l.fn.types) l.fn.mentions)

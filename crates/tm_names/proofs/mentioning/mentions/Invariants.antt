@@ -1,7 +1,7 @@
 use Rattle.std.proofs.Common.{◌≡◌, ◌++◌, drop}
 use Rattle.std.specs.List.{flat_map}
 use Rattle.tm_names.specs.Scopes.{decl_mentions, variant_mentions}
-use Rattle.tm_names.proofs.holding.mentions.Given as goal
+use Rattle.tm_names.proofs.mentioning.mentions.Given as goal
 
 abbrev pub invariant-loop-variant : goal.invariant-loop-variant
 invariant-loop-variant l =
