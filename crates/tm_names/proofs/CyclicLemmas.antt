@@ -1,8 +1,8 @@
 -- The closure of the rows of flags tells which definitions hold themselves.
-use Rattle.std.proofs.Common.{◌≡◌, ℕ, zero, suc, ◌<◌, refl, sym, ap, ◌∙◌, subst, arith, Bool, true, List, [], length, map}
-use Rattle.std.specs.Prelude.{slice_get, Some, None}
+use Rattle.std.proofs.Common.{◌≡◌, ℕ, zero, suc, ◌<◌, refl, sym, ap, ◌∙◌, subst, arith, Bool, true, List, length, map}
+use Rattle.std.specs.Prelude.{slice_get, Some}
 use Rattle.std.specs.List.{filter_map}
-use Rattle.std.proofs.lemmas.Option.{none-some, same_Some, slice_get_within}
+use Rattle.std.proofs.lemmas.Option.{none-some, same_Some}
 use Rattle.tm_base.specs.Reaches.{ChainIn}
 use Rattle.tm_names.proofs.HoldingLemmas.{Edge, decl_stands, held_within, kept, way_holds}
 use Rattle.tm_names.proofs.Members.{Member, from_filter_map, into_filter_map}

@@ -1,5 +1,5 @@
 -- What each kind of type holds, as it is listed.
-use Rattle.std.proofs.Common.{◌≡◌, ℕ, ◌+◌, refl, ap, ◌∙◌, if◌then◌else◌, Bool, true, false, Option, List, [], ◌++◌, append-nil}
+use Rattle.std.proofs.Common.{◌≡◌, ℕ, ◌+◌, refl, ap, ◌∙◌, if◌then◌else◌, Bool, Option, List, [], ◌++◌, append-nil}
 use Rattle.std.specs.List.{enumerate_from, flat_map}
 use Rattle.tm_base.specs.declared.ground.Wrapper.{Wrapper}
 use Rattle.tm_names.proofs.MentionLemmas.{items_of_row}

@@ -1,22 +1,19 @@
 -- What is listed as held is what is held.
-use Rattle.std.proofs.Common.{◌≡◌, ℕ, zero, suc, ◌+◌, ◌<◌, refl, sym, ap, ◌∙◌, subst, arith, inl, inr, ⊎_elim, if◌then◌else◌, Bool, true, false, List, [], ◌∷◌, ◌++◌, length, map}
+use Rattle.std.proofs.Common.{◌≡◌, ℕ, zero, suc, ◌+◌, refl, sym, ap, ◌∙◌, subst, arith, inl, inr, ⊎_elim, if◌then◌else◌, Bool, true, false, List, [], map}
 use Rattle.std.specs.Prelude.{slice_get, Option, Some, None, Contains}
-use Rattle.std.specs.List.{flat_map}
 use Rattle.std.proofs.lemmas.Bool.{false≢true}
 use Rattle.std.proofs.lemmas.Option.{none-some, same_Some}
-use Rattle.tm_base.specs.Reaches.{Chain, ChainIn}
+use Rattle.tm_base.specs.Reaches.{ChainIn}
 use Rattle.tm_names.proofs.MeaningLemmas.{meant_within}
 use Rattle.tm_names.proofs.Members.{Member, behind, contained, either, from_flat_map, from_map, front, into_flat_map, into_map, member}
 use Rattle.tm_names.proofs.ThroughLemmas.{Way, way_of_step, ways}
 use Rattle.tm_names.specs.declared.meaning.Meaning.{Meaning}
 use Rattle.tm_names.specs.declared.meaning.Meaning.TheVariants.{Definition, Parameter}
-use Rattle.tm_names.specs.Closures.{TellsOwn}
 use Rattle.tm_names.specs.Held.{arguments_held, bit_at, decl_held, held_in, is_open, row_at, row_held, variant_held, with_meaning}
-use Rattle.tm_names.specs.Holding.{Holds, Means, TypeHolds, by_argument, by_definition, by_field, by_name, by_part, arguments_of, is_holder, name_of, parts_of, types_of}
+use Rattle.tm_names.specs.Holding.{Holds, TypeHolds, by_argument, by_definition, by_field, by_name, by_part, arguments_of, is_holder, name_of, parts_of, types_of}
 use Rattle.tm_names.specs.Meanings.{IsAtPlace, meaning_of}
 use Rattle.tm_names.specs.Mentions.{row_items}
 use Rattle.tm_parse.specs.declared.parsed.Decl.{Decl}
-use Rattle.tm_parse.specs.declared.parsed.DeclField.{DeclField}
 use Rattle.tm_parse.specs.declared.parsed.Expr.{Expr, Row_of-Expr, end_of-Expr, more_of-Expr, Prim, Never, Tuple', Array', NonZero, Wrap', Named', Ref'}
 
 -- what is found behind a condition

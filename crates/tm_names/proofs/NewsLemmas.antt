@@ -1,8 +1,8 @@
 -- Joining rows of flags leaves no more of them unset, and fewer where there is news.
-use Rattle.std.proofs.Common.{◌≡◌, ℕ, zero, suc, ◌+◌, ◌<◌, ◌≤◌, refl, sym, ap, ◌∙◌, subst, arith, inl, inr, ⊎_elim, Bool, true, false, ◌||◌, List, [], ◌∷◌, length, map}
+use Rattle.std.proofs.Common.{◌≡◌, ℕ, zero, suc, ◌+◌, ◌<◌, ◌≤◌, refl, sym, ap, ◌∙◌, subst, arith, ⊎_elim, Bool, true, false, ◌||◌, List, [], ◌∷◌, length, map}
 use Rattle.std.specs.List.{enumerate_from, list_any}
 use Rattle.std.proofs.lemmas.Bool.{false≢true, or_cases, or_left}
-use Rattle.tm_names.specs.Closures.{joined_flag, joined_row, joined_rows, next_row}
+use Rattle.tm_names.specs.Closures.{joined_flag, joined_row, next_row}
 use Rattle.tm_names.specs.Held.{bit_at, has_news, have_news, is_news, is_row_news, row_at}
 
 -- how many flags aren't set

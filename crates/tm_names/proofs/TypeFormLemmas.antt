@@ -1,5 +1,5 @@
 -- A type that a file without faults writes is resolved to one in form.
-use Rattle.std.proofs.Common.{◌≡◌, ◌^◌, ℕ, refl, sym, ap, ◌∙◌, subst, arith, inl, inr, ⊎_elim, Bool, true, List, [], ◌∷◌, length, map, All}
+use Rattle.std.proofs.Common.{◌≡◌, ◌^◌, ℕ, refl, sym, subst, arith, inl, inr, ⊎_elim, Bool, true, List, [], ◌∷◌, length, map, All}
 use Rattle.std.specs.Prelude.{nat_lt, Option, Some, None, IsNone, ⊤}
 use Rattle.std.specs.List.{list_all, flat_map}
 use Rattle.std.proofs.lemmas.Bool.{and_from, le-leb, leb-true, lt-ltb}

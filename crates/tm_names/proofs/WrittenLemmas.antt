@@ -7,7 +7,7 @@ use Rattle.tm_names.proofs.Members.{Member, behind, either, front}
 use Rattle.tm_names.specs.declared.meaning.Meaning.{Meaning}
 use Rattle.tm_names.specs.declared.meaning.Meaning.TheVariants.{Definition, Parameter}
 use Rattle.tm_names.specs.declared.resolved.Life.{Life}
-use Rattle.tm_names.specs.declared.resolved.Open.{Open, Row_of-Open, end_of-Open, more_of-Open, items-the_row-Open, items_hidden-the_row-Open-0, Tuple, Array, Wrap, Named, Ref, Param}
+use Rattle.tm_names.specs.declared.resolved.Open.{Open, Row_of-Open, end_of-Open, more_of-Open, items-the_row-Open, items_hidden-the_row-Open-0, Tuple, Array, Wrap, Named, Ref}
 use Rattle.tm_names.specs.declared.resolved.Open.TheBlock.{hidden-the_row-Open-0, shape-the_row-Open-1, hidden-the_row-Open-1}
 use Rattle.tm_names.specs.InForm.{written, row_written}
 use Rattle.tm_names.specs.Resolutions.{named, type_of, row_types}

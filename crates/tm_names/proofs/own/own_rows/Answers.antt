@@ -1,4 +1,4 @@
-use Rattle.std.proofs.Common.{◌≡◌, ◌∙◌, ◌<◌, sym, ap, subst, map}
+use Rattle.std.proofs.Common.{◌∙◌, ◌<◌, sym, ap, subst, map}
 use Rattle.tm_names.proofs.NewsLemmas.{all_unset, fewer_unset}
 use Rattle.tm_names.proofs.OwnLemmas.{IsPartOfOwn, goes_on, starts, tells_own}
 use Rattle.tm_names.specs.Closures.{joined_rows}
