@@ -1,5 +1,5 @@
 -- The rows of flags say which ways there are.
-use Rattle.std.proofs.Common.{◌≡◌, ℕ, zero, suc, ◌+◌, ◌<◌, refl, sym, ap, ◌∙◌, subst, arith, Bool, true, ◌||◌, ◌&&◌, List, [], ◌∷◌, length, map}
+use Rattle.std.proofs.Common.{◌≡◌, ℕ, zero, suc, ◌+◌, ◌<◌, refl, sym, ap, ◌∙◌, subst, arith, Bool, true, false, ◌||◌, ◌&&◌, List, [], ◌∷◌, length, map}
 use Rattle.std.specs.Prelude.{slice_get, unwrap_or, Option, Some, None}
 use Rattle.std.specs.List.{enumerate_from}
 use Rattle.std.proofs.lemmas.Bool.{false≢true}
@@ -49,6 +49,12 @@ next_bit joins other from [] j n h e = absurd (omega arith)
 next_bit joins other from (x ∷ xs) zero n h e =
     let same : from ≡ n = omega (arith, e) in ap (λ k. x || (joins && bit_at other k)) same
 next_bit joins other from (x ∷ xs) (suc j) n h e = next_bit joins other (from + 1) xs j n (omega arith) (omega (arith, e))
+
+-- a row that leads on from nowhere is as it was
+pub same_row : (other : List Bool) (from : ℕ) (row : List Bool) → map (joined_flag false other) (enumerate_from from row) ≡ row
+same_row other from [] = refl
+same_row other from (true ∷ row) = ap (λ those. true ∷ those) (same_row other (from + 1) row)
+same_row other from (false ∷ row) = ap (λ those. false ∷ those) (same_row other (from + 1) row)
 
 -- rows of one size that say which ways lead through numbers below a bound
 pub record Admits (n : ℕ) (edge : ℕ → ℕ → Bool) (k : ℕ) (rows : List (List Bool)) : Type 0 where

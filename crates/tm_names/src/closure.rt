@@ -1,4 +1,4 @@
-ghost use Rattle.std.specs.Prelude.{◌≡◌, IfOk, length};
+ghost use Rattle.std.specs.Prelude.{◌≡◌, IfOk, length, map};
 ghost use Rattle.tm_names.specs.Closures.{closure, joined_rows, next_row, next_rows};
 ghost use Rattle.tm_names.specs.Held.{bit_at, has_news, have_news, row_at};
 
@@ -78,28 +78,58 @@ pub fn have_news(rows: &[List<bool>], others: &[List<bool>]) -> bool
     false
 }
 
-/// For each two numbers whether a way leads from the first to the second, also through a further number.
-fn next_rows(alloc: Global, through: usize, rows: &[List<bool>]) -> Result<List<List<bool>>, Memory>
-    ensures { IfOk result (λ next. next ≡ next_rows through rows.now) }
+/// A row that leads on from a number where it reaches that, which another row tells.
+fn led_on(
+    alloc: Global,
+    row: List<bool>,
+    through: usize,
+    other: &[bool],
+) -> Result<List<bool>, Memory>
+    ensures { IfOk result (λ next. next ≡ next_row (bit_at row through) row other.now) }
 {
-    let other = row_at(rows, through);
-    let mut next = List::new(alloc);
+    if bit(row.as_slice(), through) {
+        return next_row(alloc, true, row.as_slice(), other);
+    }
+    Ok(row)
+}
+
+/// All rows, of which those lead on from a number that reach it. The others stay as they are.
+fn all_led_on(
+    alloc: Global,
+    rows: Vec<List<bool>>,
+    through: usize,
+    other: &[bool],
+) -> Result<Vec<List<bool>>, Memory>
+    ensures { IfOk result (λ next. next.items ≡ map (λ row. next_row (bit_at row through) row other.now) rows.items) }
+{
+    let mut next = Vec::new(alloc);
     for row in rows {
-        let row = row.as_slice();
-        let joined = next_row(alloc, bit(row, through), row, other)?;
-        add(&mut next, joined)?;
+        let row = led_on(alloc, row, through, other)?;
+        next.push(row)?;
     }
     Ok(next)
 }
 
+/// For each two numbers whether a way leads from the first to the second, also through a further number.
+fn next_rows(
+    alloc: Global,
+    through: usize,
+    rows: Vec<List<bool>>,
+) -> Result<Vec<List<bool>>, Memory>
+    ensures { IfOk result (λ next. next.items ≡ next_rows through rows.items) }
+{
+    let other = next_row(alloc, false, row_at(rows.as_slice(), through), &[])?;
+    all_led_on(alloc, rows, through, other.as_slice())
+}
+
 /// For each two numbers whether a way leads from the first to the second, where the rows say it of ways of
 /// one step.
-pub fn closure(alloc: Global, rows: List<List<bool>>) -> Result<List<List<bool>>, Memory>
-    ensures { IfOk result (λ closed. closed ≡ closure 0 (length rows) rows) }
+pub fn closure(alloc: Global, rows: Vec<List<bool>>) -> Result<Vec<List<bool>>, Memory>
+    ensures { IfOk result (λ closed. closed.items ≡ closure 0 (length rows.items) rows.items) }
 {
     let mut closed = rows;
-    for through in 0..closed.len() {
-        closed = next_rows(alloc, through, closed.as_slice())?;
+    for through in 0..closed.as_slice().len() {
+        closed = next_rows(alloc, through, closed)?;
     }
     Ok(closed)
 }

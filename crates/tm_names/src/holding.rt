@@ -215,6 +215,9 @@ pub fn parameter_flags(
     requires { IsIndexed (names_in source.now) definitions.now }
     ensures { IfOk result (λ row. row ≡ parameter_flags (names_in source.now) definitions.now.decls.now own.now decl.now) }
 {
+    if decl.type_params.len() == 0 {
+        return Ok(List::new(alloc));
+    }
     let held = held(alloc, source, definitions, own, decl)?;
     let numbers = parameter_numbers(alloc, held.as_slice())?;
     flags(alloc, numbers.as_slice(), decl.type_params.len())

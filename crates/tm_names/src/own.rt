@@ -70,14 +70,14 @@ pub fn rows(
     source: &Source,
     definitions: &Definitions,
     own: &[List<bool>],
-) -> Result<List<List<bool>>, Memory>
+) -> Result<Vec<List<bool>>, Memory>
     requires { IsIndexed (names_in source.now) definitions.now }
-    ensures { IfOk result (λ rows. rows ≡ map (definition_flags (names_in source.now) definitions.now.decls.now own.now) definitions.now.decls.now) }
+    ensures { IfOk result (λ rows. rows.items ≡ map (definition_flags (names_in source.now) definitions.now.decls.now own.now) definitions.now.decls.now) }
 {
-    let mut rows = List::new(alloc);
+    let mut rows = Vec::new(alloc);
     for decl in definitions.decls {
         let row = definition_flags(alloc, source, definitions, own, decl)?;
-        add(&mut rows, row)?;
+        rows.push(row)?;
     }
     Ok(rows)
 }

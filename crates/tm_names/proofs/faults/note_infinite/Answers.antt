@@ -10,7 +10,7 @@ returns c =
     let name = names_in c.args.source.now in
     let decls = c.args.definitions.now.decls.now in
     let rows = c.in_ok-rows.ensures ∙ ap (λ own. map (definition_flags name decls own) decls) c.as_slice.ensures in
-    let closed = c.as_slice-2.ensures ∙ (c.in_ok-closed.ensures ∙ ap (λ those. closure 0 (length those) those) rows) in
+    let closed = c.as_slice-2.ensures.value ∙ (c.in_ok-closed.ensures ∙ ap (λ those. closure 0 (length those) those) rows) in
     record {
       infinite = λ i. bit_at (row_at c.as_slice-2.result.now i) i;
       told = subst (λ those. TellsInfinite name decls (λ i. bit_at (row_at those i) i)) (sym closed) (tells_infinite name decls c.in_ok-own.own c.in_ok-own.ensures);

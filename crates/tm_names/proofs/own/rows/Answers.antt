@@ -9,5 +9,5 @@ loop-decl-preserved c =
     let decls = c.args.definitions.now.decls.now in
     let flags = definition_flags (names_in c.args.source.now) decls c.args.own.now in
     let at = c.loop-decl.decl-index in
-    ap (λ rows. rows ++ map flags (drop (at + 1) decls)) (c.in_ok-add.ensures ∙ ap (λ row. c.loop-decl.rows ++ (row ∷ [])) c.in_ok-row.ensures)
-    ∙ (one_taken flags c.loop-decl.rows decls at (at + 1) c.decl-item.result c.loop-decl-test.true (omega arith) c.decl-item.is ∙ c.loop-decl.invariant)
+    ap (λ rows. rows ++ map flags (drop (at + 1) decls)) (c.in_ok-push.ensures.items ∙ ap (λ row. c.loop-decl.rows.items ++ (row ∷ [])) c.in_ok-row.ensures)
+    ∙ (one_taken flags c.loop-decl.rows.items decls at (at + 1) c.decl-item.result c.loop-decl-test.true (omega arith) c.decl-item.is ∙ c.loop-decl.invariant)
