@@ -10,7 +10,7 @@ use Rattle.tm_names.proofs.ThroughLemmas.{Way, way_of_step, ways}
 use Rattle.tm_names.specs.declared.meaning.Meaning.{Meaning}
 use Rattle.tm_names.specs.declared.meaning.Meaning.TheVariants.{Definition, Parameter}
 use Rattle.tm_names.specs.Held.{arguments_held, bit_at, decl_held, held_in, is_open, row_at, row_held, variant_held, with_meaning}
-use Rattle.tm_names.specs.Holding.{Holds, TypeHolds, by_argument, by_definition, by_field, by_name, by_part, arguments_of, is_holder, name_of, parts_of, types_of}
+use Rattle.tm_names.specs.Holding.{Holds, Means, TypeHolds, by_argument, by_definition, by_field, by_part, is_definition, is_parameter, arguments_of, is_holder, name_of, parts_of, types_of}
 use Rattle.tm_names.specs.Meanings.{IsAtPlace, meaning_of}
 use Rattle.tm_names.specs.Mentions.{row_items}
 use Rattle.tm_parse.specs.declared.parsed.Decl.{Decl}
@@ -63,7 +63,8 @@ module _ (name : ℕ → List ℕ) (decls : List Decl) (own : List (List Bool)) 
 module _ (name : ℕ → List ℕ) (decls : List Decl) where
   -- what a type holds is there
   type_within : (types : List ℕ) (e : Expr) (x : Meaning) → TypeHolds name decls types e x → IsAtPlace decls types x
-  type_within _ _ _ (by_name types e x means) = meant_within name decls types means.place x means.meant
+  type_within _ _ _ (is_parameter types e k means) = meant_within name decls types means.place (Parameter k) means.meant
+  type_within _ _ _ (is_definition types e j means) = meant_within name decls types means.place (Definition j) means.meant
   type_within _ _ _ (by_part types e part x among h) = type_within types part x h
   type_within _ _ _ (by_argument types e argument j k x means h at g) = type_within types argument x g
 
@@ -95,6 +96,10 @@ module _ (name : ℕ → List ℕ) (decls : List Decl) where
       abbrev OfArgument : Option Meaning → ℕ → List Expr → Meaning → Type 0
       OfArgument o k es x = (n : ℕ) × (argument : Expr) × (slice_get es n ≡ Some argument) × (is_open own o (k + n) ≡ true) × Stands argument x
 
+      by_meaning : (e : Expr) (x : Meaning) → Means name decls types e x → Stands e x
+      by_meaning e (Definition j) means = is_definition types e j means
+      by_meaning e (Parameter k) means = is_parameter types e k means
+
       by_open : (e : Expr) (place : ℕ) (o : Option Meaning) (x : Meaning) → name_of e ≡ Some place → meaning_of name decls types place ≡ o
           → OfArgument o 0 (arguments_of e) x → Stands e x
       by_open e place None x named meant (n, argument, at, opens, h) = absurd (false≢true opens)
@@ -119,7 +124,7 @@ module _ (name : ℕ → List ℕ) (decls : List Decl) where
             by_part types (Wrap' w shape row) part x (contained part (if is_holder w then row_items row else []) (put_behind (is_holder w) part (row_items row) holds among)) h
         held_stands (Named' place lifetimes shape row) x m =
             with_meaning_cases (meaning_of name decls types place) x (arguments_held name decls own types (meaning_of name decls types place) 0 row) m (Stands (Named' place lifetimes shape row) x)
-            (λ meant. by_name types (Named' place lifetimes shape row) x (record { place = place; named = refl; meant = meant }))
+            (λ meant. by_meaning (Named' place lifetimes shape row) x (record { place = place; named = refl; meant = meant }))
             (λ meaning meant n. by_open (Named' place lifetimes shape row) place (meaning_of name decls types place) x refl refl
             (arguments_stand (meaning_of name decls types place) 0 row x n))
         held_stands (Ref' life mutable shape row) x m = absurd m
@@ -209,7 +214,8 @@ module _ (name : ℕ → List ℕ) (decls : List Decl) where
         kept _ _ (by_definition i j k h g) = ways Edge i j k (kept i (Definition j) h) (kept j (Definition k) g)
 
         type_listed : (types : List ℕ) (e : Expr) (x : Meaning) → TypeHolds name decls types e x → Member x (held_in name decls own types e)
-        type_listed _ _ _ (by_name types e x means) = name_listed types e x means.place means.named means.meant
+        type_listed _ _ _ (is_parameter types e k means) = name_listed types e (Parameter k) means.place means.named means.meant
+        type_listed _ _ _ (is_definition types e j means) = name_listed types e (Definition j) means.place means.named means.meant
         type_listed _ _ _ (by_part types e part x among h) = part_listed types e part x (member part (parts_of e) among) (type_listed types part x h)
         type_listed _ _ _ (by_argument types e argument j k x means h at g) =
             argument_listed types e argument j k x means.place means.named means.meant (kept j (Parameter k) h) at (type_listed types argument x g)

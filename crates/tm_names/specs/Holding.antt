@@ -53,11 +53,13 @@ module _ (name : ℕ → List ℕ) (decls : List Decl) where
 
     -- what a type holds, where these type parameters are in sight
     pub data TypeHolds : List ℕ → Expr → Meaning → Type 0 where
-      -- a parameter or a definition that it names
-      by_name : (types : List ℕ) (e : Expr) (x : Meaning) → Means types e x → TypeHolds types e x
+      -- the parameter that it is
+      is_parameter : (types : List ℕ) (e : Expr) (k : ℕ) → Means types e (Parameter k) → TypeHolds types e (Parameter k)
+      -- the definition that it names
+      is_definition : (types : List ℕ) (e : Expr) (j : ℕ) → Means types e (Definition j) → TypeHolds types e (Definition j)
       -- all that its parts hold
       by_part : (types : List ℕ) (e part : Expr) (x : Meaning) → Contains (parts_of e) part → TypeHolds types part x → TypeHolds types e x
-      -- all that the argument holds which it gives to a parameter that its definition holds
+      -- all that an argument holds, where its definition holds the parameter that the argument is for
       by_argument : (types : List ℕ) (e argument : Expr) (j k : ℕ) (x : Meaning) → Means types e (Definition j) → Holds j (Parameter k)
           → slice_get (arguments_of e) k ≡ Some argument → TypeHolds types argument x → TypeHolds types e x
 

@@ -36,7 +36,8 @@ pub fn check(
 ) -> Result<Resolved, NameErr>
     requires tokenized { Tokenizes text.now tokens.now }
     requires spelled { SpellsFile (terminals_of text.now tokens.now) parsed.now }
-    ensures resolved { IfOk result (λ found. found ≡ resolved_of profile (name_at text.now tokens.now) parsed.now) }
+    ensures resolved { IfOk result (λ found. found ≡ resolved_of profile
+        (name_at text.now tokens.now) parsed.now) }
     ensures profile { IfOk result (λ found. found.profile ≡ profile) }
     ensures sound { IfOk result (λ _. HasNoFault profile (name_at text.now tokens.now) parsed.now) }
     ensures in_form { IfOk result IsInForm }
@@ -45,7 +46,9 @@ pub fn check(
     ensures place { IfErr result (IsPlaceOf tokens.now) }
 
     // A file has one first fault at most, which is answered where memory isn't wanting.
-    ensures faults { (why : Kind) (place : ℕ) → IsFirstFault profile (name_at text.now tokens.now) parsed.now why place → MatchResult result (λ _. ⊥) (λ err. (err ≡ NameErr.Fault why place) ⊎ (err ≡ NameErr.Memory)) }
+    ensures faults { (why : Kind) (place : ℕ) → IsFirstFault profile (name_at text.now tokens.now)
+        parsed.now why place → MatchResult result (λ _. ⊥)
+        (λ err. (err ≡ NameErr.Fault why place) ⊎ (err ≡ NameErr.Memory)) }
 {
     let source = Source {
         text,

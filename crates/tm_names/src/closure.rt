@@ -100,7 +100,8 @@ fn all_led_on(
     through: usize,
     other: &[bool],
 ) -> Result<Vec<List<bool>>, Memory>
-    ensures { IfOk result (λ next. next.items ≡ map (λ row. next_row (bit_at row through) row other.now) rows.items) }
+    ensures { IfOk result (λ next. next.items ≡ map
+        (λ row. next_row (bit_at row through) row other.now) rows.items) }
 {
     let mut next = Vec::new(alloc);
     for row in rows {

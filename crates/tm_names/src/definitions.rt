@@ -69,7 +69,8 @@ pub fn meaning(
     place: u32,
 ) -> Option<Meaning>
     requires { IsIndexed (names_in source.now) definitions.now }
-    ensures meant { result ≡ meaning_of (names_in source.now) definitions.now.decls.now types.now place }
+    ensures meant { result ≡ meaning_of (names_in source.now)
+        definitions.now.decls.now types.now place }
     ensures within { IfSome result (IsAtPlace definitions.now.decls.now types.now) }
 {
     if let Some(number) = first_among(source, types, place) {

@@ -33,7 +33,8 @@ fn note_decl(
     decl: &Decl,
 ) -> Result<Option<NameFault>, Memory>
     requires { IsIndexed (names_in source.now) definitions.now }
-    ensures { IfOk result (λ found. found ≡ earliest first (decl_faults source.now.profile (names_in source.now) definitions.now.decls.now decl.now)) }
+    ensures { IfOk result (λ found. found ≡ earliest first
+        (decl_faults source.now.profile (names_in source.now) definitions.now.decls.now decl.now)) }
 {
     let items = items(alloc, decl)?;
     let mentions = mentions(alloc, decl)?;
@@ -62,7 +63,9 @@ fn note_decls(
     definitions: &Definitions,
 ) -> Result<Option<NameFault>, Memory>
     requires { IsIndexed (names_in source.now) definitions.now }
-    ensures { IfOk result (λ found. found ≡ earliest first (flat_map (decl_faults source.now.profile (names_in source.now) definitions.now.decls.now) definitions.now.decls.now)) }
+    ensures { IfOk result (λ found. found ≡ earliest first
+        (flat_map (decl_faults source.now.profile (names_in source.now) definitions.now.decls.now)
+        definitions.now.decls.now)) }
 {
     let mut first = first;
     for decl in definitions.decls {
@@ -102,7 +105,8 @@ fn note_outer(
     parsed: &Parsed,
 ) -> Result<Option<NameFault>, Memory>
     requires { IsIndexed (names_in source.now) definitions.now }
-    ensures { IfOk result (λ found. found ≡ earliest first (scope_faults (names_in source.now) definitions.now.decls.now (outer_scope parsed.now))) }
+    ensures { IfOk result (λ found. found ≡ earliest first
+        (scope_faults (names_in source.now) definitions.now.decls.now (outer_scope parsed.now))) }
 {
     let mut mentions = List::new(alloc);
     add_bounds(&mut mentions, parsed.bounds.as_slice())?;
@@ -113,7 +117,8 @@ fn note_outer(
 
 /// The first of some faults, and of those of definitions from which a way leads back.
 fn note_cyclic(first: Option<NameFault>, decls: &[Decl], closed: &[List<bool>]) -> Option<NameFault>
-    ensures { result ≡ earliest first (infinite_faults (λ i. bit_at (row_at closed.now i) i) decls.now) }
+    ensures { result ≡ earliest first (infinite_faults (λ i. bit_at (row_at closed.now i) i)
+        decls.now) }
 {
     let mut first = first;
     for (number, decl) in decls.iter().enumerate() {

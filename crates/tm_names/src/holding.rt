@@ -45,7 +45,8 @@ fn add_held(
     ty: &Expr,
 ) -> Result<(), Memory>
     requires { IsIndexed (names_in source.now) definitions.now }
-    ensures { OnOk result (found.new ≡ found.old ++ held_in (names_in source.now) definitions.now.decls.now own.now types.now ty.now) }
+    ensures { OnOk result (found.new ≡ found.old ++ held_in (names_in source.now)
+        definitions.now.decls.now own.now types.now ty.now) }
 {
     match ty {
         Expr::Prim(_) => Ok(()),
@@ -86,7 +87,8 @@ fn add_parts(
     parts: &[Expr],
 ) -> Result<(), Memory>
     requires { IsIndexed (names_in source.now) definitions.now }
-    ensures { OnOk result (found.new ≡ found.old ++ flat_map (held_in (names_in source.now) definitions.now.decls.now own.now types.now) parts.now) }
+    ensures { OnOk result (found.new ≡ found.old ++ flat_map
+        (held_in (names_in source.now) definitions.now.decls.now own.now types.now) parts.now) }
 {
     for part in parts {
         add_held(found, source, definitions, own, types, part)?;
@@ -107,7 +109,9 @@ fn add_arguments(
     arguments: &[Expr],
 ) -> Result<(), Memory>
     requires { IsIndexed (names_in source.now) definitions.now }
-    ensures { OnOk result (found.new ≡ found.old ++ flat_map (argument_held (names_in source.now) definitions.now.decls.now own.now types.now (Some meaning)) (enumerate_from 0 arguments.now)) }
+    ensures { OnOk result (found.new ≡ found.old ++ flat_map
+        (argument_held (names_in source.now) definitions.now.decls.now own.now types.now
+        (Some meaning)) (enumerate_from 0 arguments.now)) }
 {
     for (number, argument) in arguments.iter().enumerate() {
         if is_open(own, meaning, number) {
@@ -127,7 +131,8 @@ fn add_variant(
     variant: &DeclVariant,
 ) -> Result<(), Memory>
     requires { IsIndexed (names_in source.now) definitions.now }
-    ensures { OnOk result (found.new ≡ found.old ++ variant_held (names_in source.now) definitions.now.decls.now own.now types.now variant.now) }
+    ensures { OnOk result (found.new ≡ found.old ++ variant_held (names_in source.now)
+        definitions.now.decls.now own.now types.now variant.now) }
 {
     for field in variant.fields.as_slice() {
         add_held(found, source, definitions, own, types, &field.ty)?;
@@ -144,7 +149,8 @@ fn held(
     decl: &Decl,
 ) -> Result<List<Meaning>, Memory>
     requires { IsIndexed (names_in source.now) definitions.now }
-    ensures { IfOk result (λ found. found ≡ decl_held (names_in source.now) definitions.now.decls.now own.now decl.now) }
+    ensures { IfOk result (λ found. found ≡ decl_held (names_in source.now)
+        definitions.now.decls.now own.now decl.now) }
 {
     let types = decl.type_params.as_slice();
     let mut found = List::new(alloc);
@@ -213,7 +219,8 @@ pub fn parameter_flags(
     decl: &Decl,
 ) -> Result<List<bool>, Memory>
     requires { IsIndexed (names_in source.now) definitions.now }
-    ensures { IfOk result (λ row. row ≡ parameter_flags (names_in source.now) definitions.now.decls.now own.now decl.now) }
+    ensures { IfOk result (λ row. row ≡ parameter_flags (names_in source.now)
+        definitions.now.decls.now own.now decl.now) }
 {
     if decl.type_params.len() == 0 {
         return Ok(List::new(alloc));
@@ -232,7 +239,8 @@ pub fn definition_flags(
     decl: &Decl,
 ) -> Result<List<bool>, Memory>
     requires { IsIndexed (names_in source.now) definitions.now }
-    ensures { IfOk result (λ row. row ≡ definition_flags (names_in source.now) definitions.now.decls.now own.now decl.now) }
+    ensures { IfOk result (λ row. row ≡ definition_flags (names_in source.now)
+        definitions.now.decls.now own.now decl.now) }
 {
     let held = held(alloc, source, definitions, own, decl)?;
     let numbers = definition_numbers(alloc, held.as_slice())?;

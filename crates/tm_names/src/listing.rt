@@ -62,7 +62,8 @@ fn note_fields(
     source: &Source,
     variants: &[DeclVariant],
 ) -> Result<Option<NameFault>, Memory>
-    ensures { IfOk result (λ found. found ≡ earliest first (flat_map (repeats (names_in source.now)) (map field_names variants.now))) }
+    ensures { IfOk result (λ found. found ≡ earliest first
+        (flat_map (repeats (names_in source.now)) (map field_names variants.now))) }
 {
     let mut first = first;
     for variant in variants {
@@ -79,7 +80,8 @@ pub fn note_lists(
     source: &Source,
     decl: &Decl,
 ) -> Result<Option<NameFault>, Memory>
-    ensures { IfOk result (λ found. found ≡ earliest first (flat_map (repeats (names_in source.now)) (decl_lists decl.now))) }
+    ensures { IfOk result (λ found. found ≡ earliest first
+        (flat_map (repeats (names_in source.now)) (decl_lists decl.now))) }
 {
     let variants = variant_names(alloc, decl)?;
     let first = note_repeats(first, source, decl.params.as_slice());

@@ -73,7 +73,8 @@ fn note_name(
     mention: NameMention,
 ) -> Option<NameFault>
     requires { IsIndexed (names_in source.now) definitions.now }
-    ensures { result ≡ earliest first (name_faults definitions.now.decls.now mention (meaning_of (names_in source.now) definitions.now.decls.now types.now mention.place)) }
+    ensures { result ≡ earliest first (name_faults definitions.now.decls.now mention
+        (meaning_of (names_in source.now) definitions.now.decls.now types.now mention.place)) }
 {
     match meaning(source, definitions, types, mention.place) {
         None => note(first, true, NameWhy::Unknown, mention.place),
@@ -95,7 +96,8 @@ fn note_mention(
     mention: Mention,
 ) -> Option<NameFault>
     requires { IsIndexed (names_in source.now) definitions.now }
-    ensures { result ≡ earliest first (mention_faults (names_in source.now) definitions.now.decls.now sight.now types.now mention) }
+    ensures { result ≡ earliest first (mention_faults (names_in source.now)
+        definitions.now.decls.now sight.now types.now mention) }
 {
     match mention {
         Mention::Name(mention) => note_name(first, source, definitions, types, mention),
@@ -117,7 +119,9 @@ pub fn note_mentions(
     mentions: &[Mention],
 ) -> Option<NameFault>
     requires { IsIndexed (names_in source.now) definitions.now }
-    ensures { result ≡ earliest first (flat_map (mention_faults (names_in source.now) definitions.now.decls.now sight.now types.now) mentions.now) }
+    ensures { result ≡ earliest first (flat_map
+        (mention_faults (names_in source.now) definitions.now.decls.now sight.now types.now)
+        mentions.now) }
 {
     let mut first = first;
     for mention in mentions {

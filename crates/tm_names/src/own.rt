@@ -32,7 +32,9 @@ fn found_rows(
     own: &[List<bool>],
 ) -> Result<List<List<bool>>, Memory>
     requires { IsIndexed (names_in source.now) definitions.now }
-    ensures { IfOk result (λ rows. rows ≡ map (parameter_flags (names_in source.now) definitions.now.decls.now own.now) definitions.now.decls.now) }
+    ensures { IfOk result (λ rows. rows ≡ map
+        (parameter_flags (names_in source.now) definitions.now.decls.now own.now)
+        definitions.now.decls.now) }
 {
     let mut rows = List::new(alloc);
     for decl in definitions.decls {
@@ -72,7 +74,9 @@ pub fn rows(
     own: &[List<bool>],
 ) -> Result<Vec<List<bool>>, Memory>
     requires { IsIndexed (names_in source.now) definitions.now }
-    ensures { IfOk result (λ rows. rows.items ≡ map (definition_flags (names_in source.now) definitions.now.decls.now own.now) definitions.now.decls.now) }
+    ensures { IfOk result (λ rows. rows.items ≡ map
+        (definition_flags (names_in source.now) definitions.now.decls.now own.now)
+        definitions.now.decls.now) }
 {
     let mut rows = Vec::new(alloc);
     for decl in definitions.decls {

@@ -120,7 +120,8 @@ pub fn note_values(
     tag: Option<Primitive>,
     variants: &[DeclVariant],
 ) -> Result<Option<NameFault>, Memory>
-    ensures { IfOk result (λ found. found ≡ earliest first (value_faults profile tag [] (value_is.AtLeastZero 0) variants.now)) }
+    ensures { IfOk result (λ found. found ≡ earliest first
+        (value_faults profile tag [] (value_is.AtLeastZero 0) variants.now)) }
 {
     let mut first = first;
     let mut before = List::new(alloc);

@@ -62,7 +62,8 @@ fn variant(
     value: i128,
 ) -> Result<Variant, Memory>
     requires { IsTokenized source.now }
-    ensures { IfOk result (λ variant. variant ≡ variant_of (names_in source.now) (record { variant = declared.now; value = value })) }
+    ensures { IfOk result (λ variant. variant ≡ variant_of (names_in source.now)
+        (record { variant = declared.now; value = value })) }
 {
     Ok(Variant {
         name: text_or_none(alloc, source, declared.name)?,
@@ -79,7 +80,8 @@ fn variants(
 ) -> Result<List<Variant>, Memory>
     requires tokenized { IsTokenized source.now }
     requires narrow { IsTrue (list_all (λ v. is_value_narrow v.value) (valued declared.now)) }
-    ensures { IfOk result (λ variants. variants ≡ map (variant_of (names_in source.now)) (valued declared.now)) }
+    ensures { IfOk result (λ variants. variants ≡ map (variant_of (names_in source.now))
+        (valued declared.now)) }
 {
     let mut variants = List::new(alloc);
     let mut implied = Value::AtLeastZero(0);
@@ -117,7 +119,8 @@ fn field_types(
     requires indexed { IsIndexed (names_in source.now) definitions.now }
     requires few { length definition.now.params ≤ 16 }
     requires few_types { length definition.now.type_params ≤ 16 }
-    ensures { IfOk result (λ types. types ≡ variant_types (names_in source.now) definitions.now.decls.now definition.now declared.now) }
+    ensures { IfOk result (λ types. types ≡ variant_types (names_in source.now)
+        definitions.now.decls.now definition.now declared.now) }
 {
     let lifetimes = Names {
         places: definition.params.as_slice(),
@@ -144,7 +147,8 @@ fn types(
     requires indexed { IsIndexed (names_in source.now) definitions.now }
     requires few { length declared.now.params ≤ 16 }
     requires few_types { length declared.now.type_params ≤ 16 }
-    ensures { IfOk result (λ types. types ≡ decl_types (names_in source.now) definitions.now.decls.now declared.now) }
+    ensures { IfOk result (λ types. types ≡ decl_types (names_in source.now)
+        definitions.now.decls.now declared.now) }
 {
     let mut types = List::new(alloc);
     for variant in declared.variants.as_slice() {
@@ -176,7 +180,8 @@ fn all_types(
 ) -> Result<List<List<List<Open>>>, Memory>
     requires indexed { IsIndexed (names_in source.now) definitions.now }
     requires narrow { All IsNarrow definitions.now.decls.now }
-    ensures { IfOk result (λ found. found ≡ map (decl_types (names_in source.now) definitions.now.decls.now) definitions.now.decls.now) }
+    ensures { IfOk result (λ found. found ≡ map
+        (decl_types (names_in source.now) definitions.now.decls.now) definitions.now.decls.now) }
 {
     let mut found = List::new(alloc);
     for decl in definitions.decls {
@@ -209,7 +214,8 @@ fn all_bounds(
     lifetimes: &Names,
     declared: &[DeclBound],
 ) -> Result<List<Bound>, Memory>
-    ensures { IfOk result (λ bounds. bounds ≡ map (bound_of (names_in source.now) lifetimes.now.places.now) declared.now) }
+    ensures { IfOk result (λ bounds. bounds ≡ map
+        (bound_of (names_in source.now) lifetimes.now.places.now) declared.now) }
 {
     let mut bounds = List::new(alloc);
     for item in declared {
@@ -251,7 +257,8 @@ fn all_questions(
     requires indexed { IsIndexed (names_in source.now) definitions.now }
     requires same { definitions.now.decls.now ≡ parsed.now.decls }
     requires few { length parsed.now.lifetimes ≤ 16 }
-    ensures { IfOk result (λ asks. asks ≡ map (ask_of (names_in source.now) parsed.now) parsed.now.questions) }
+    ensures { IfOk result (λ asks. asks ≡ map (ask_of (names_in source.now) parsed.now)
+        parsed.now.questions) }
 {
     let mut asks = List::new(alloc);
     for item in parsed.questions.as_slice() {
@@ -273,7 +280,8 @@ pub fn resolved(
     requires same { definitions.now.decls.now ≡ parsed.now.decls }
     requires narrow { All IsNarrow definitions.now.decls.now }
     requires few { length parsed.now.lifetimes ≤ 16 }
-    ensures { IfOk result (λ found. found ≡ resolved_of source.now.profile (names_in source.now) parsed.now) }
+    ensures { IfOk result (λ found. found ≡ resolved_of source.now.profile (names_in source.now)
+        parsed.now) }
 {
     let lifetimes = parsed.lifetimes.as_slice();
     Ok(Resolved {

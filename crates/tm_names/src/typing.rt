@@ -38,7 +38,8 @@ fn named(
     types: List<Open>,
 ) -> Open
     requires { IsIndexed (names_in source.now) definitions.now }
-    ensures { result ≡ named (meaning_of (names_in source.now) definitions.now.decls.now (types_in sight.now) place) lives types }
+    ensures { result ≡ named (meaning_of (names_in source.now) definitions.now.decls.now
+        (types_in sight.now) place) lives types }
 {
     match meaning(source, definitions, types_in(sight), place) {
         None => Open::Named(DefId(0), lives, types),
@@ -54,7 +55,8 @@ fn lives(
     sight: &Sight,
     places: &[u32],
 ) -> Result<List<Life>, Memory>
-    ensures { IfOk result (λ lives. lives ≡ map (life_in (names_in source.now) sight.now) places.now) }
+    ensures { IfOk result (λ lives. lives ≡ map (life_in (names_in source.now) sight.now)
+        places.now) }
 {
     let mut lives = List::new(alloc);
     for place in places {
@@ -74,7 +76,9 @@ pub fn resolve(
     ty: &Expr,
 ) -> Result<Open, Memory>
     requires { IsIndexed (names_in source.now) definitions.now }
-    ensures { IfOk result (λ found. found ≡ type_of (meaning_of (names_in source.now) definitions.now.decls.now (types_in sight.now)) (life_in (names_in source.now) sight.now) ty.now) }
+    ensures { IfOk result (λ found. found ≡ type_of
+        (meaning_of (names_in source.now) definitions.now.decls.now (types_in sight.now))
+        (life_in (names_in source.now) sight.now) ty.now) }
 {
     match ty {
         Expr::Prim(primitive) => Ok(Open::Prim(*primitive)),
@@ -115,7 +119,9 @@ fn resolve_all(
     types: &[Expr],
 ) -> Result<List<Open>, Memory>
     requires { IsIndexed (names_in source.now) definitions.now }
-    ensures { IfOk result (λ found. found ≡ map (type_of (meaning_of (names_in source.now) definitions.now.decls.now (types_in sight.now)) (life_in (names_in source.now) sight.now)) types.now) }
+    ensures { IfOk result (λ found. found ≡ map
+        (type_of (meaning_of (names_in source.now) definitions.now.decls.now (types_in sight.now))
+        (life_in (names_in source.now) sight.now)) types.now) }
 {
     let mut found = List::new(alloc);
     for ty in types {
