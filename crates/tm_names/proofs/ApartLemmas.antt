@@ -13,7 +13,7 @@ use Rattle.tm_lex.specs.declared.token.Token.{Token}
 use Rattle.tm_names.proofs.Members.{Member, contained, from_map}
 use Rattle.tm_names.proofs.TokenNames.{all_mapped, terminals_suit}
 use Rattle.tm_names.proofs.TypeFormLemmas.{each_passes, of_member}
-use Rattle.tm_names.specs.ApartNames.{HasApartNames, is_own_name, is_word, is_word_byte}
+use Rattle.tm_names.specs.ApartNames.{HasApartNames, is_own_name, is_region_name, is_word_byte}
 use Rattle.tm_names.specs.Faults.{HasNoFault, lifetime_lists, name_lists}
 use Rattle.tm_names.specs.Resolutions.{def_of, resolved_of}
 use Rattle.tm_names.specs.Written.{is_among, name_at}
@@ -29,9 +29,9 @@ cut_at q [] m = absurd m
 cut_at q (p ∷ ps) m =
     ⊎_elim (λ e. ([], ps, ap (λ x. x ∷ ps) (sym e))) (λ n. let (before, after, e) = cut_at q ps n in (p ∷ before, after, ap (λ l. p ∷ l) e)) m
 
-static_is_word : is_word (codes "'static") ≡ true
+static_is_region : is_region_name (codes "'static") ≡ true
 unfolding is_word_byte
-static_is_word = refl
+static_is_region = refl
 
 module _ (profile : Profile) (name : ℕ → List ℕ) where
   abbrev Differ : List ℕ → List ℕ → Type 0
@@ -76,14 +76,14 @@ module _ (profile : Profile) (name : ℕ → List ℕ) where
           reserved = ap (λ b. b || bytes_eq (name q) (codes "'_")) ((bytes_eq-Decides (name q) (codes "'static")).1 (sym same));
         }))
 
-    pub names_apart : Declares (λ place. is_own_name (name place) ≡ true) (λ place. is_word (name place) ≡ true) file → HasApartNames (resolved_of profile name file)
+    pub names_apart : Declares (λ place. is_own_name (name place) ≡ true) (λ place. is_region_name (name place) ≡ true) file → HasApartNames (resolved_of profile name file)
     names_apart declares = record {
       own_names = each_passes (λ def. is_own_name def.name) (map (def_of name) file.decls) own;
       names_distinct = record {
         apart = subst (AllPairs Differ) (def_names file.decls)
             (distinct (map (λ d. d.name) file.decls) (none_again (map (λ d. d.name) file.decls) (inl refl)));
       };
-      region_words = and_from (is_word (codes "'static")) _ static_is_word (each_passes is_word (map name file.lifetimes) words);
+      region_names = and_from (is_region_name (codes "'static")) _ static_is_region (each_passes is_region_name (map name file.lifetimes) regions);
       regions_distinct = record {
         apart = AllPairs-cons Differ (codes "'static") (map name file.lifetimes)
             (all_mapped (Differ (codes "'static")) name file.lifetimes not_static) (distinct file.lifetimes (none_again file.lifetimes (inr (inl refl))));
@@ -95,15 +95,15 @@ module _ (profile : Profile) (name : ℕ → List ℕ) where
             let (d, among, same) = from_map (def_of name) def file.decls m in
             subst (λ def. is_own_name def.name ≡ true) same (of_member (λ d. is_own_name (name d.name) ≡ true) file.decls d declares.names among)
 
-        words : (word : List ℕ) → Member word (map name file.lifetimes) → is_word word ≡ true
-        words word m =
+        regions : (word : List ℕ) → Member word (map name file.lifetimes) → is_region_name word ≡ true
+        regions word m =
             let (place, among, same) = from_map name word file.lifetimes m in
-            subst (λ word. is_word word ≡ true) same (of_member (λ place. is_word (name place) ≡ true) file.lifetimes place declares.lifetimes among)
+            subst (λ word. is_region_name word ≡ true) same (of_member (λ place. is_region_name (name place) ≡ true) file.lifetimes place declares.lifetimes among)
 
 -- so it is with what a text's tokens spell
 pub spelled_apart : (profile : Profile) (text : List ℕ) (tokens : List Token) (file : Parsed) → IsUtf8 text → Tokenizes text tokens → SpellsFile (terminals_of text tokens) file
     → HasNoFault profile (name_at text tokens) file → HasApartNames (resolved_of profile (name_at text tokens) file)
 spelled_apart profile text tokens file utf8 tokenized spelled sound =
     names_apart profile (name_at text tokens) file sound
-    (declared_kept (λ place. is_own_name (name_at text tokens place) ≡ true) (λ place. is_word (name_at text tokens place) ≡ true) file
+    (declared_kept (λ place. is_own_name (name_at text tokens place) ≡ true) (λ place. is_region_name (name_at text tokens place) ≡ true) file
     (terminals_of text tokens) spelled.after spelled.file (terminals_suit text tokens utf8 tokenized))

@@ -88,7 +88,7 @@ module _ (IsPlace : ℕ → Type 0) where
     in_decl_list : (d : Decl) → Member d file.decls → (places : List ℕ) → Member places (decl_lists d) → (place : ℕ) → Member place places → IsPlace place
     in_decl_list d among places m place here =
         ⊎_elim (λ e. of_member IsPlace d.params place (decl_placed d among).parameters (subst (Member place) (sym e) here))
-        (λ o. ⊎_elim (λ e. of_member IsPlace d.type_params place (decl_placed d among).type_params (subst (Member place) (sym e) here))
+        (λ o. ⊎_elim (λ e. of_member IsPlace d.type_params place (decl_placed d among).type_parameters (subst (Member place) (sym e) here))
         (λ n. ⊎_elim (λ e. variant_name_placed d among place (subst (Member place) (sym e) here))
         (λ k.
         let (v, within, e) = from_map field_names places d.variants k in

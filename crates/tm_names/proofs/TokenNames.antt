@@ -3,7 +3,7 @@ use Rattle.std.proofs.Common.{◌≡◌, ℕ, ◌==◌, ◌<◌, ◌≤◌, refl
 use Rattle.std.specs.Prelude.{nat_le, slice_get}
 use Rattle.std.specs.List.{list_all, enumerate_from, slice_range}
 use Rattle.std.specs.Str.{bytes_eq, encode_utf8_all, IsUtf8}
-use Rattle.std.proofs.lemmas.Bool.{and_from, and_parts, false≢true, le-leb, or_right}
+use Rattle.std.proofs.lemmas.Bool.{and_from, and_parts, eqb-true, false≢true, le-leb, or_right}
 use Rattle.std.proofs.lemmas.List.Elements.{All-nil, All-cons}
 use Rattle.std.proofs.lemmas.Slice.Eq.{bytes_eq-Decides}
 use Rattle.std.proofs.lemmas.Str.{length-le-encodes}
@@ -18,7 +18,7 @@ use Rattle.tm_lex.specs.declared.token.TokenKind.{TokenKind}
 use Rattle.tm_lex.specs.declared.token.TokenKind.TheVariants as kind
 use Rattle.tm_names.proofs.Members.{Member, from_numbered, member_from_get}
 use Rattle.tm_names.proofs.TypeFormLemmas.{of_member}
-use Rattle.tm_names.specs.ApartNames.{is_own_name, is_word, is_word_byte, taken_words}
+use Rattle.tm_names.specs.ApartNames.{is_own_name, is_quoted, is_region_name, is_word, is_word_byte, taken_words}
 use Rattle.tm_names.specs.Written.{bytes_of, name_at}
 use Rattle.tm_parse.proofs.LookedUp.{mark_no_lifetime, mark_no_name, word_no_lifetime}
 use Rattle.tm_parse.specs.Classes.{among}
@@ -59,6 +59,35 @@ lifetime_is_word : (piece rest : List ℕ) → IsToken kind.Lifetime piece rest 
 lifetime_is_word piece rest h =
     some_bytes (encode_utf8_all piece) (not_empty kind.Lifetime piece rest h) (lifetime_bytes is_word_byte ascii_passes high_passes piece rest quote_passes h)
 
+-- no byte of a word is a quote, which begins a lifetime
+abbrev is_plain : ℕ → Bool
+is_plain b = not (b == 39)
+
+ascii_plain : (b : ℕ) → is_ascii_word b ≡ true → is_plain b ≡ true
+ascii_plain b h = go (b == 39) refl
+  where
+    go : (q : Bool) → (b == 39) ≡ q → not q ≡ true
+    go false e = refl
+    go true e = absurd (false≢true (subst (λ n. is_ascii_word n ≡ true) (eqb-true b 39 e) h))
+
+high_plain : (b : ℕ) → 128 ≤ b → is_plain b ≡ true
+high_plain b l = go (b == 39) refl
+  where
+    go : (q : Bool) → (b == 39) ≡ q → not q ≡ true
+    go false e = refl
+    go true e = let is = eqb-true b 39 e in absurd (omega (arith, is, l))
+
+unquoted : (bs : List ℕ) → list_all is_plain bs ≡ true → not (is_quoted bs) ≡ true
+unquoted [] h = refl
+unquoted (b ∷ bs) h = (and_parts (is_plain b) _ h).0
+
+word_unquoted : (piece rest : List ℕ) → IsToken kind.Word piece rest → not (is_quoted (encode_utf8_all piece)) ≡ true
+word_unquoted piece rest h = unquoted (encode_utf8_all piece) (word_bytes is_plain ascii_plain high_plain piece rest h)
+
+lifetime_quoted : (piece rest : List ℕ) → IsToken kind.Lifetime piece rest → is_quoted (encode_utf8_all piece) ≡ true
+unfolding lib.Utf8.encode
+lifetime_quoted piece rest (word, e, h) = ap (λ text. is_quoted (encode_utf8_all text)) e
+
 -- a word that may name a definition is none of those that may not
 none_of : (bytes : List ℕ) (words : List (List ℕ)) → list_all (λ word. not (among definition_names (word_class word))) words ≡ true
     → among definition_names (word_class bytes) ≡ true → list_all (λ word. not (bytes_eq bytes word)) words ≡ true
@@ -77,23 +106,25 @@ apart_words : list_all (λ word. not (among definition_names (word_class word)))
 unfolding word_class
 apart_words = refl
 
-own_from : (bytes : List ℕ) → is_word bytes ≡ true → among definition_names (word_class bytes) ≡ true → is_own_name bytes ≡ true
+own_from : (bytes : List ℕ) → is_word bytes ≡ true → not (is_quoted bytes) ≡ true → among definition_names (word_class bytes) ≡ true → is_own_name bytes ≡ true
 unfolding is_own_name
-own_from bytes a h = and_from (is_word bytes) _ a (none_of bytes taken_words apart_words h)
+own_from bytes a plain h = and_from (is_word bytes && not (is_quoted bytes)) _ (and_from (is_word bytes) _ a plain) (none_of bytes taken_words apart_words h)
 
--- so a token whose class may name a definition is such a name, and a lifetime is a word
+-- so a token whose class may name a definition is such a name, and a lifetime names a region
 named_so : (what : TokenKind) (piece rest bytes : List ℕ) → IsToken what piece rest → bytes ≡ encode_utf8_all piece
     → among definition_names (class_as what bytes) ≡ true → is_own_name bytes ≡ true
-named_so kind.Word piece rest bytes t e h = own_from bytes (ap is_word e ∙ word_is_word piece rest t) h
+named_so kind.Word piece rest bytes t e h =
+    own_from bytes (ap is_word e ∙ word_is_word piece rest t) (ap (λ bs. not (is_quoted bs)) e ∙ word_unquoted piece rest t) h
 named_so kind.Lifetime piece rest bytes t e h = absurd (false≢true h)
 named_so (kind.Number value) piece rest bytes t e h = absurd (false≢true h)
 named_so (kind.Punct byte) piece rest bytes t e h = absurd (false≢true (sym (mark_no_name byte) ∙ h))
 named_so kind.Arrow piece rest bytes t e h = absurd (false≢true h)
 
 lives_so : (what : TokenKind) (piece rest bytes : List ℕ) → IsToken what piece rest → bytes ≡ encode_utf8_all piece
-    → among (c.Lifetime ∷ []) (class_as what bytes) ≡ true → is_word bytes ≡ true
+    → among (c.Lifetime ∷ []) (class_as what bytes) ≡ true → is_region_name bytes ≡ true
 lives_so kind.Word piece rest bytes t e h = absurd (false≢true (sym (word_no_lifetime bytes) ∙ h))
-lives_so kind.Lifetime piece rest bytes t e h = ap is_word e ∙ lifetime_is_word piece rest t
+lives_so kind.Lifetime piece rest bytes t e h =
+    ap is_region_name e ∙ and_from (is_word (encode_utf8_all piece)) _ (lifetime_is_word piece rest t) (lifetime_quoted piece rest t)
 lives_so (kind.Number value) piece rest bytes t e h = absurd (false≢true h)
 lives_so (kind.Punct byte) piece rest bytes t e h = absurd (false≢true (sym (mark_no_lifetime byte) ∙ h))
 lives_so kind.Arrow piece rest bytes t e h = absurd (false≢true h)
@@ -108,7 +139,7 @@ module _ (text : List ℕ) (tokens : List Token) (utf8 : IsUtf8 text) (tokenized
   IsOwn place = is_own_name (name_at text tokens place) ≡ true
 
   abbrev IsLife : ℕ → Type 0
-  IsLife place = is_word (name_at text tokens place) ≡ true
+  IsLife place = is_region_name (name_at text tokens place) ≡ true
 
   piece_at : (place : ℕ) (token : Token) → slice_get tokens place ≡ Some token → IsPieceOf text token
   piece_at place token at =
@@ -120,7 +151,7 @@ module _ (text : List ℕ) (tokens : List Token) (utf8 : IsUtf8 text) (tokenized
       let spelled : slice_range text token.start token.end ≡ encode_utf8_all p.piece = slice_of-piece text token p in
       record {
         name = λ h. ap (λ o. is_own_name (bytes_of text o)) at ∙ named_so token.kind p.piece p.after (slice_range text token.start token.end) p.kind spelled h;
-        lifetime = λ h. ap (λ o. is_word (bytes_of text o)) at ∙ lives_so token.kind p.piece p.after (slice_range text token.start token.end) p.kind spelled h;
+        lifetime = λ h. ap (λ o. is_region_name (bytes_of text o)) at ∙ lives_so token.kind p.piece p.after (slice_range text token.start token.end) p.kind spelled h;
       }
 
   pub terminals_suit : All (Suits IsOwn IsLife) (terminals_of text tokens)

@@ -22,12 +22,21 @@ taken_words =
     ∷ codes "NonZero" ∷ codes "Option" ∷ codes "MaybeUninit" ∷ codes "ManuallyDrop" ∷ codes "Wrapping" ∷ codes "Cell"
     ∷ codes "UnsafeCell" ∷ codes "PhantomData" ∷ []
 
--- a word that isn't taken
+-- it begins with a quote
+abbrev pub is_quoted : List ℕ → Bool
+is_quoted [] = false
+is_quoted (b ∷ bs) = b == 39
+
+-- a word without a quote before it that isn't taken
 unfoldable pub is_own_name : List ℕ → Bool
-is_own_name name = is_word name && list_all (λ word. not (bytes_eq name word)) taken_words
+is_own_name name = is_word name && not (is_quoted name) && list_all (λ word. not (bytes_eq name word)) taken_words
+
+-- a word behind a quote
+abbrev pub is_region_name : List ℕ → Bool
+is_region_name name = is_word name && is_quoted name
 
 pub record HasApartNames (resolved : Resolved) : Type 0 where
   pub own_names : IsTrue (list_all (λ def. is_own_name def.name) resolved.defs)
   pub names_distinct : AreDistinct (map (λ def. def.name) resolved.defs)
-  pub region_words : IsTrue (list_all is_word resolved.regions)
+  pub region_names : IsTrue (list_all is_region_name resolved.regions)
   pub regions_distinct : AreDistinct resolved.regions
