@@ -19,5 +19,5 @@ module _ (types refs : List Closed) (defs regions : ℕ) where
   head-in_form (array c n) g (x, e, a) k = rw (e, ground_is.outs-Array x n) refl
   head-in_form (nonzero p) g h k = rw (h, ground_is.outs-NonZero p) k
   head-in_form (wrap w c) g (x, e, a) k = rw (e, ground_is.outs-Wrap w x) refl
-  head-in_form (named def rs) g (id, e, at) k = rw (e, ground_is.outs-Named id) (lt-ltb id.0 (length types) (get_or-from_get types id.0 _ at).0)
+  head-in_form (named def rs args) g (id, e, at) k = rw (e, ground_is.outs-Named id) (lt-ltb id.0 (length types) (get_or-from_get types id.0 _ at).0)
   head-in_form (ref region mutable c) g (r, e, at) k = rw (e, ground_is.outs-Ref r) (lt-ltb r.0 (length refs) (get_or-from_get refs r.0 _ at).0)

@@ -1,5 +1,5 @@
 -- Where names are apart, a definition and a region are found by their names.
-use Rattle.std.proofs.Common.{◌≡◌, ℕ, zero, suc, ◌<◌, ◌≤◌, true, refl, sym, ap, ◌∙◌, ⊎_elim, List, [], ◌∷◌, map, length, get_or, Option, Some, None, slice_get, unwrap_or, arith}
+use Rattle.std.proofs.Common.{◌≡◌, ℕ, zero, suc, ◌<◌, ◌≤◌, Bool, true, false, not, ◌&&◌, refl, sym, ap, ◌∙◌, ⊎_elim, List, [], ◌∷◌, map, length, get_or, Option, Some, None, slice_get, unwrap_or, arith}
 use Rattle.std.specs.List.{list_all}
 use Rattle.std.proofs.lemmas.Bool.{cases_lt}
 use Rattle.std.proofs.lemmas.List.{length-map}
@@ -10,7 +10,7 @@ use Rattle.tm_base.specs.declared.definition.RegionId.{RegionId}
 use Rattle.tm_base.specs.Texts.{region_text}
 use Rattle.tm_base.specs.Whole.{AreDistinct}
 use Rattle.tm_names.specs.declared.resolved.Resolved.{Resolved}
-use Rattle.tm_names.specs.ApartNames.{is_word, is_own_name, HasApartNames}
+use Rattle.tm_names.specs.ApartNames.{is_word, is_quoted, is_own_name, is_region_name, HasApartNames}
 use Rattle.tm_ground.specs.ClosedTexts.{tables_of_file}
 use Rattle.tm_ground.proofs.FormLemmas.{first, second}
 
@@ -24,6 +24,10 @@ one-place xs i j d distinct l m e =
     (λ (under : i ≤ j). omega arith)
     (cases_lt j i))
     (cases_lt i j)
+
+not-false : (b : Bool) → not b ≡ true → b ≡ false
+not-false true h = cc
+not-false false h = refl
 
 -- a definition's name
 abbrev pub name_in : Option Def → List ℕ
@@ -45,10 +49,10 @@ own-at [] i h l = absurd (omega (arith, l))
 own-at (d ∷ defs) zero h l = first _ _ h
 own-at (d ∷ defs) (suc i) h l = own-at defs i (second (is_own_name d.name) _ h) (omega (arith, l))
 
-word-at : (texts : List (List ℕ)) (i : ℕ) → list_all is_word texts ≡ true → i < length texts → is_word (unwrap_or (slice_get texts i) []) ≡ true
-word-at [] i h l = absurd (omega (arith, l))
-word-at (t ∷ texts) zero h l = first _ _ h
-word-at (t ∷ texts) (suc i) h l = word-at texts i (second (is_word t) _ h) (omega (arith, l))
+text-passes : (p : List ℕ → Bool) (texts : List (List ℕ)) (i : ℕ) → list_all p texts ≡ true → i < length texts → p (unwrap_or (slice_get texts i) []) ≡ true
+text-passes p [] i h l = absurd (omega (arith, l))
+text-passes p (t ∷ texts) zero h l = first _ _ h
+text-passes p (t ∷ texts) (suc i) h l = text-passes p texts i (second (p t) _ h) (omega (arith, l))
 
 module _ (resolved : Resolved) where
   abbrev pub region : RegionId → List ℕ
@@ -58,8 +62,15 @@ module _ (resolved : Resolved) where
   name_of def = name_in (slice_get resolved.defs def.0)
 
   module _ (names : HasApartNames resolved) where
+    region-named : (g : RegionId) → g.0 < length resolved.regions → is_region_name (region g) ≡ true
+    region-named g l = text-passes is_region_name resolved.regions g.0 names.region_names l
+
     pub region-word : (g : RegionId) → g.0 < length resolved.regions → is_word (region g) ≡ true
-    region-word g l = word-at resolved.regions g.0 names.region_words l
+    region-word g l = first _ _ (region-named g l)
+
+    -- a quote stands before a region's name
+    pub region-quoted : (g : RegionId) → g.0 < length resolved.regions → is_quoted (region g) ≡ true
+    region-quoted g l = second (is_word (region g)) _ (region-named g l)
 
     pub same-region : (g h : RegionId) → g.0 < length resolved.regions → h.0 < length resolved.regions → region g ≡ region h → g ≡ h
     same-region g h l m e =
@@ -78,6 +89,13 @@ module _ (resolved : Resolved) where
     pub own : (def : DefId) → def.0 < length resolved.defs → is_own_name (name_of def) ≡ true
     own def l = own-at resolved.defs def.0 names.own_names l
 
-    pub own-word : (def : DefId) → def.0 < length resolved.defs → is_word (name_of def) ≡ true
+    own-front : (def : DefId) → def.0 < length resolved.defs → (is_word (name_of def) && not (is_quoted (name_of def))) ≡ true
     unfolding is_own_name
-    own-word def l = first _ _ (own def l)
+    own-front def l = first _ _ (own def l)
+
+    pub own-word : (def : DefId) → def.0 < length resolved.defs → is_word (name_of def) ≡ true
+    own-word def l = first _ _ (own-front def l)
+
+    -- and none before a definition's
+    pub own-bare : (def : DefId) → def.0 < length resolved.defs → is_quoted (name_of def) ≡ false
+    own-bare def l = not-false (is_quoted (name_of def)) (second (is_word (name_of def)) _ (own-front def l))

@@ -1,5 +1,5 @@
 -- Rows of the types that occur are in form: their regions are known, and they have their fields' types.
-use Rattle.std.proofs.Common.{◌≡◌, ℕ, zero, suc, ◌<◌, Bool, true, ◌==◌, refl, sym, ap, subst, ◌∙◌, List, [], ◌∷◌, map, length, Contains, slice_get, get_or, unwrap_or, nat_lt, arith}
+use Rattle.std.proofs.Common.{◌≡◌, ℕ, zero, suc, ◌<◌, Bool, true, ◌==◌, refl, sym, ap, subst, ◌∙◌, List, [], ◌∷◌, map, length, Contains, slice_get, unwrap_or, nat_lt, arith}
 use Rattle.std.specs.List.{AllZip, list_all}
 use Rattle.std.proofs.lemmas.List.{length-map}
 use Rattle.std.proofs.lemmas.List.Elements.{All-contains}
@@ -11,25 +11,18 @@ use Rattle.tm_base.specs.declared.definition.NamedRow.{NamedRow}
 use Rattle.tm_base.specs.declared.definition.RefRow.{RefRow}
 use Rattle.tm_base.specs.declared.definition.Variant.{Variant}
 use Rattle.tm_base.specs.declared.ground.Ground.{Ground}
-use Rattle.tm_base.specs.Whole.{AreDistinct, has_its_types, is_row_of, are_rows_in_form, are_regions_known}
+use Rattle.tm_base.specs.Whole.{has_its_types, is_row_of, are_rows_in_form, are_regions_known}
 use Rattle.tm_names.specs.declared.resolved.Open.{Open}
 use Rattle.tm_names.specs.declared.resolved.Resolved.{Resolved}
 use Rattle.tm_names.specs.InForm.{is_variant_typed, are_defs_typed, IsInForm}
-use Rattle.tm_ground.specs.Belongs.{type_of_row}
-use Rattle.tm_ground.specs.Closed.{Closed, put_in}
+use Rattle.tm_ground.specs.Closed.{Closed, listed, put_in}
 use Rattle.tm_ground.specs.Closing.{AreWhole}
 use Rattle.tm_ground.specs.Limits.{is_named, is_ref, OccursAs}
 use Rattle.tm_ground.specs.Numbered.{IsNumbered}
 use Rattle.tm_ground.specs.Rows.{IsNamedRow, IsRefRow}
 use Rattle.tm_ground.proofs.ContainsLemmas.{contains-first, contains-behind}
 use Rattle.tm_ground.proofs.FormLemmas.{first, second, is_known}
-use Rattle.tm_ground.proofs.OccurringForm.{IsFormed, regions-known, occurring-formed}
-
-pub zip-at : {A B : Type 0} (R : A → B → Type 0) (xs : List A) (ys : List B) (i : ℕ) (x : A) (y : B) → AllZip R xs ys → i < length xs → R (get_or xs i x) (get_or ys i y)
-zip-at R [] ys i x y h l = absurd (omega (arith, l))
-zip-at R (a ∷ xs) [] i x y h l = absurd h
-zip-at R (a ∷ xs) (b ∷ ys) zero x y h l = h.0
-zip-at R (a ∷ xs) (b ∷ ys) (suc i) x y h l = zip-at R xs ys i x y h.1 (omega (arith, l))
+use Rattle.tm_ground.proofs.OccurringForm.{IsFormed, IsNamedFormed, named-formed, occurring-formed}
 
 -- what follows of each pair holds of all that stand for something
 pub zip-all : {B : Type 0} (R : Closed → B → Type 0) (p : B → Bool) (xs : List Closed) (ys : List B) → AllZip R xs ys → ((x : Closed) (y : B) → Contains xs x → R x y → p y ≡ true) → list_all p ys ≡ true
@@ -65,33 +58,24 @@ module _ (resolved : Resolved) (form : IsInForm resolved) (types refs : List Clo
   ref-formed : (c : Closed) → Contains refs c → IsFormed resolved c
   ref-formed c h = occurring-formed resolved form c (All-contains (OccursAs is_ref resolved) refs c whole.refs.all.each h).occurs
 
+  row-formed : (c : Closed) (row : NamedRow) → Contains types c → (r : IsNamedRow types refs resolved c row) → IsNamedFormed resolved row.def row.regions r.args
+  row-formed c row h r = named-formed resolved row.def row.regions r.args (subst (IsFormed resolved) r.type (type-formed c h))
+
   row-known : (c : Closed) (row : NamedRow) → Contains types c → IsNamedRow types refs resolved c row → list_all (λ region. nat_lt region.0 (length resolved.regions)) row.regions ≡ true
-  row-known c row h r = regions-known resolved row.def row.regions (subst (IsFormed resolved) r.type (type-formed c h))
+  row-known c row h r = (row-formed c row h r).regions_known
 
   ref-known : (c : Closed) (row : RefRow) → Contains refs c → IsRefRow types refs c row → nat_lt row.region.0 (length resolved.regions) ≡ true
   unfolding is_known
-  ref-known c row h r = first _ _ (subst (IsFormed resolved) r.type (ref-formed c h)).known
+  ref-known c row h r = first _ _ (subst (IsFormed resolved) r.type (ref-formed c h))
 
   pub regions-in_form : are_regions_known (length resolved.regions) resolved.bounds rows ref_rows ≡ true
   unfolding are_regions_known
   regions-in_form = and_from _ _ (and_from _ _ form.bounds_known (zip-all _ _ types rows of_rows row-known)) (zip-all _ _ refs ref_rows of_refs ref-known)
 
   pub row-in_form : (c : Closed) (row : NamedRow) → Contains types c → IsNamedRow types refs resolved c row → is_row_of (slice_get resolved.defs row.def.0) row ≡ true
-  unfolding is_known
   row-in_form c row h r =
-      let known = (subst (IsFormed resolved) r.type (type-formed c h)).known in
-      row-typed (IsNumbered types refs) (put_in row.regions) resolved.defs resolved.types row.def.0 row form.defs_typed (ltb-true row.def.0 (length resolved.defs) (first _ _ known)) r.fields
+      row-typed (IsNumbered types refs) (put_in row.regions (listed r.args)) resolved.defs resolved.types row.def.0 row form.defs_typed (ltb-true row.def.0 (length resolved.defs) (row-formed c row h r).def_known) r.fields
 
   pub rows-in_form : are_rows_in_form resolved.defs rows ≡ true
   unfolding are_rows_in_form
   rows-in_form = zip-all _ _ types rows of_rows row-in_form
-
-  -- no named row is twice
-  pub rows-distinct : AreDistinct rows
-  rows-distinct = record {
-    apart = λ i j d k l e.
-        let m : j < length types = omega (arith, l, AllZip-long _ types rows of_rows) in
-        let a = zip-at (IsNamedRow types refs resolved) types rows i (type_of_row d) d of_rows (omega (arith, k, m)) in
-        let b = zip-at (IsNamedRow types refs resolved) types rows j (type_of_row d) d of_rows m in
-        whole.rows.all.distinct.apart i j (type_of_row d) k m (a.type ∙ ap type_of_row e ∙ sym b.type);
-  }

@@ -17,21 +17,21 @@ use Rattle.tm_base.specs.Expanded.{Expanded, expanded_within, elements, fields_o
 use Rattle.tm_base.specs.Parts.{some_part, some_field, some_variant, some_within, is_too_deep}
 use Rattle.tm_base.specs.Whole.{has_its_types, is_row_of}
 use Rattle.tm_names.specs.declared.resolved.Resolved.{Resolved}
-use Rattle.tm_ground.specs.Belongs.{type_of_row}
-use Rattle.tm_ground.specs.Closed.{Closed, Elements, prim, never, tuple, array, nonzero, wrap, named, ref, no_elements, element}
+use Rattle.tm_ground.specs.Closed.{Closed, Elements, prim, never, tuple, array, nonzero, wrap, named, ref, no_elements, element, listed}
 use Rattle.tm_ground.specs.Limits.{depth_passes}
 use Rattle.tm_ground.specs.Numbered.{IsNumbered, EachNumbered}
-use Rattle.tm_ground.specs.Occurs.{is_holding, listed, parts_of, field_types, Occurs, is_part}
+use Rattle.tm_ground.specs.Occurs.{is_holding, parts_of, parts_by_value, field_types, fields_of, Occurs}
 use Rattle.tm_ground.specs.Rows.{IsNamedRow}
 use Rattle.tm_ground.proofs.ContainsLemmas.{contains-first, contains-behind}
 use Rattle.tm_ground.proofs.FormLemmas.{first, second}
+use Rattle.tm_ground.proofs.GrowLemmas.{contains-from_get}
 use Rattle.tm_ground.proofs.StandsLemmas.{zip-get}
 
-first-false : (a b : Bool) → (a || b) ≡ false → a ≡ false
+pub first-false : (a b : Bool) → (a || b) ≡ false → a ≡ false
 first-false true b h = h
 first-false false b h = refl
 
-second-false : (a b : Bool) → (a || b) ≡ false → b ≡ false
+pub second-false : (a b : Bool) → (a || b) ≡ false → b ≡ false
 second-false true b h = cc
 second-false false b h = h
 
@@ -59,7 +59,7 @@ held-shallow p false c h e = cc
 module _ (resolved : Resolved) (types refs : List Closed) (rows : List NamedRow)
     (of_rows : AllZip (IsNamedRow types refs resolved) types rows)
     (typed : (c : Closed) (row : NamedRow) → Contains types c → IsNamedRow types refs resolved c row → is_row_of (slice_get resolved.defs row.def.0) row ≡ true)
-    (has_type : (i : ℕ) (c : Closed) → slice_get types i ≡ Some c → Contains types c) where
+    (part-occurs : (whole c : Closed) → Occurs resolved whole → Contains (parts_of resolved whole) c → Occurs resolved c) where
   -- what is said of the parts of a type, up to one level less
   module _ (n : ℕ) (below : (c : Closed) (g : Ground) → Occurs resolved c → IsNumbered types refs c g → depth_passes resolved n c ≡ false → IsWholeType (expanded_within resolved.profile n resolved.defs rows g)) where
     abbrev part : Ground → Expanded
@@ -99,16 +99,17 @@ module _ (resolved : Resolved) (types refs : List Closed) (rows : List NamedRow)
   whole-at (suc n) never g o h e = rw (h, ground_is.outs-Never) refl
   whole-at (suc n) (tuple no_elements) g o h e = rw (h, ground_is.outs-Unit) refl
   whole-at (suc n) (tuple (element c cs)) g o (x, xs, s, a, b) e =
-      rw (s, ground_is.outs-Tuple (x ∷ xs)) (elements-whole n (whole-at n) (element c cs) (x ∷ xs) (a, b) (λ d i. is_part (tuple (element c cs)) d o i) e)
+      rw (s, ground_is.outs-Tuple (x ∷ xs)) (elements-whole n (whole-at n) (element c cs) (x ∷ xs) (a, b) (λ d i. part-occurs (tuple (element c cs)) d o i) e)
   whole-at (suc n) (array c k) g o (x, s, a) e =
-      rw (s, ground_is.outs-Array x k) (whole-at n c x (is_part (array c k) c o (contains-first c [])) a (first-false _ _ e))
+      rw (s, ground_is.outs-Array x k) (whole-at n c x (part-occurs (array c k) c o (contains-first c [])) a (first-false _ _ e))
   whole-at (suc n) (nonzero p) g o h e = rw (h, ground_is.outs-NonZero p) refl
   whole-at (suc n) (wrap w c) g o (x, s, a) e =
-      rw (s, ground_is.outs-Wrap w x) (wrapped-whole (expanded_within resolved.profile n resolved.defs rows) w x (λ b. whole-at n c x (is_part (wrap w c) c o (contains-first c [])) a (held-shallow (depth_passes resolved n) (is_holding w) c e b)))
-  whole-at (suc n) (named def rs) g o (id, s, at) e =
-      let (row, found, r) = zip-get (IsNamedRow types refs resolved) types rows id.0 (named def rs) of_rows at in
-      let (d, is, fit) = row-of-some (slice_get resolved.defs row.def.0) row (typed (named def rs) row (has_type id.0 (named def rs) at) r) in
+      rw (s, ground_is.outs-Wrap w x) (wrapped-whole (expanded_within resolved.profile n resolved.defs rows) w x (λ b. whole-at n c x (part-occurs (wrap w c) c o (contains-first c [])) a (held-shallow (depth_passes resolved n) (is_holding w) c e b)))
+  whole-at (suc n) (named def rs args) g o (id, s, at) e =
+      let (row, found, r) = zip-get (IsNamedRow types refs resolved) types rows id.0 (named def rs args) of_rows at in
+      let (d, is, fit) = row-of-some (slice_get resolved.defs row.def.0) row (typed (named def rs args) row (contains-from_get types id.0 (named def rs args) at) r) in
       let occurs = subst (Occurs resolved) r.type o in
-      let shallow = subst (λ x. list_any (depth_passes resolved n) (parts_of resolved x) ≡ false) r.type e in
-      rw (s, ground_is.outs-Named id, found, is) (variants-whole n (whole-at n) d.variants (field_types resolved row.def row.regions) row.types fit r.fields (λ x i. is_part (type_of_row row) x occurs i) shallow)
+      let shallow = subst (λ x. list_any (depth_passes resolved n) (parts_by_value resolved x) ≡ false) r.type e in
+      let inner : (x : Closed) → Contains (fields_of resolved row.def row.regions (listed r.args)) x → Occurs resolved x = λ x i. part-occurs (named row.def row.regions r.args) x occurs (Contains-append_right (listed r.args) (fields_of resolved row.def row.regions (listed r.args)) x i) in
+      rw (s, ground_is.outs-Named id, found, is) (variants-whole n (whole-at n) d.variants (field_types resolved row.def row.regions (listed r.args)) row.types fit r.fields inner shallow)
   whole-at (suc n) (ref region mutable c) g o (r, s, at) e = rw (s, ground_is.outs-Ref r) refl

@@ -4,10 +4,13 @@ use Rattle.std.proofs.Common.{◌≡◌, ℕ, zero, suc, ◌+◌, ◌<◌, ◌�
 use Rattle.std.specs.List.{AllZip, flat_map, range_with_len}
 use Rattle.std.proofs.lemmas.Bool.{cases_lt}
 use Rattle.std.proofs.lemmas.List.{get_or-map, length-map}
-use Rattle.std.proofs.lemmas.List.Elements.{All-contains, Contains-append_cases}
+use Rattle.std.proofs.lemmas.List.Elements.{Contains-append_cases, Contains-append_right}
 use Rattle.tm_base.specs.declared.answer.Side.{Side}
 use Rattle.tm_base.specs.declared.answer.Side.TheVariants.{Source, Target}
 use Rattle.tm_base.specs.declared.ask.Ask.{Ask}
+use Rattle.tm_base.specs.declared.definition.DefId.{DefId}
+use Rattle.tm_base.specs.declared.definition.NamedRow.{NamedRow}
+use Rattle.tm_base.specs.declared.definition.RegionId.{RegionId}
 use Rattle.tm_base.specs.declared.ground.Ground.{Ground, out-Ground}
 use Rattle.tm_base.specs.declared.ground.Ground as ground_is
 use Rattle.tm_base.specs.declared.ground.Ground.TheOpen.{Ground-F}
@@ -15,8 +18,6 @@ use Rattle.tm_base.specs.declared.ground.Ground.TheVariants as level
 use Rattle.tm_base.specs.declared.ground.Wrapper.{Wrapper}
 use Rattle.tm_base.specs.declared.ground.Wrapper.TheVariants as wrapper
 use Rattle.tm_base.specs.declared.world.World.{World}
-use Rattle.tm_base.specs.declared.limit.LimitKind.TheVariants.{TypeNodes}
-use Rattle.tm_base.specs.Limits.{limit_number}
 use Rattle.tm_base.specs.Answers.{NoSharedTexts, side_type}
 use Rattle.tm_base.specs.Reaches.{ChainIn, Enters, Reaches, argument_of, parts_within, pointees_within, row_parts, row_pointee}
 use Rattle.tm_base.specs.Spelled.{following_limit}
@@ -27,14 +28,15 @@ use Rattle.tm_names.specs.ApartNames.{HasApartNames}
 use Rattle.tm_names.specs.declared.resolved.OpenAsk.{OpenAsk}
 use Rattle.tm_names.specs.declared.resolved.Resolved.{Resolved}
 use Rattle.tm_names.specs.InForm.{IsInForm}
-use Rattle.tm_ground.specs.Belongs.{BelongsToFile, EachStandsFor, HasItsTypes, IsQuestionOf, StandsFor, type_of_row}
-use Rattle.tm_ground.specs.Closed.{Closed, Elements, prim, never, tuple, array, nonzero, wrap, named, ref, no_elements, element, put_in}
+use Rattle.tm_ground.specs.Belongs.{BelongsToFile, EachStandsFor, IsNamedRowOf, IsQuestionOf, StandsFor}
+use Rattle.tm_ground.specs.Closed.{Closed, Elements, prim, never, tuple, array, nonzero, wrap, named, ref, no_elements, element, closed, listed, nodes, nodes_in}
 use Rattle.tm_ground.specs.ClosedTexts.{closed_text}
-use Rattle.tm_ground.specs.Occurs.{Occurs, is_asked, is_part, field_types, listed, parts_of, sides_of}
-use Rattle.tm_ground.proofs.ApartRefs.{occurring-apart}
+use Rattle.tm_ground.specs.Occurs.{Occurs, is_asked, field_types, fields_of, node_limit, parts_of, sides_of}
+use Rattle.tm_ground.proofs.ApartOccurring.{occurring-apart}
 use Rattle.tm_ground.proofs.ContainsLemmas.{contains-behind, contains-cons, contains-first, contains-flat_map, contains-nothing, flat_map-contains, get_or-from_get}
-use Rattle.tm_ground.proofs.OccurringForm.{occurring-formed}
-use Rattle.tm_ground.proofs.SizeLemmas.{node_count, node_total}
+use Rattle.tm_ground.proofs.SmallLemmas.{occurring-part, occurring-short}
+use Rattle.tm_ground.proofs.StandsLemmas.{each-stood}
+use Rattle.tm_ground.proofs.StandsOnce.{each-once}
 use Rattle.tm_ground.proofs.TextLemmas.{text-within}
 
 -- what stands beside an item of the second list
@@ -94,20 +96,20 @@ module _ (resolved : Resolved) (world : World) (b : BelongsToFile resolved world
   text = text_of (tables_of world)
 
   -- a type by its numbers has its closed type's text
-  pub text-stands : (c : Closed) (g : Ground) → Stands c g → node_count c ≤ limit_number TypeNodes → text g ≡ closed_text resolved c
-  text-stands c g h l = rw (b.profile, b.defs, b.regions) (text-within resolved world.bounds world.named world.refs b.no_args following_limit c g h (omega (arith, l)))
+  pub text-stands : (c : Closed) (g : Ground) → Stands c g → nodes c ≤ node_limit → text g ≡ closed_text resolved c
+  text-stands c g h l = rw (b.profile, b.defs, b.regions) (text-within resolved world.bounds world.named world.refs following_limit c g h (omega (arith, l)))
 
-  one-ref : (r s : ℕ) → r < length world.refs → s < length world.refs → text (ground_is.Ref (record { 0 = r })) ≡ text (ground_is.Ref (record { 0 = s })) → r ≡ s
-  one-ref r s k l e =
-      one-place (λ k. text (ground_is.Ref (record { 0 = k }))) (range_with_len 0 (length world.refs)) r s (0 + r) (0 + s) b.texts_distinct
-      (in-range 0 (length world.refs) r k) (in-range 0 (length world.refs) s l)
+  -- numbers with one text are one, where texts are distinct
+  one-number : (number : ℕ → Ground) (n r s : ℕ) → AreDistinct (map (λ k. text (number k)) (range_with_len 0 n)) → r < n → s < n → text (number r) ≡ text (number s) → r ≡ s
+  one-number number n r s distinct k l e =
+      one-place (λ k. text (number k)) (range_with_len 0 n) r s (0 + r) (0 + s) distinct (in-range 0 n r k) (in-range 0 n s l)
       (let x : 0 + r ≡ r = omega arith in let y : 0 + s ≡ s = omega arith in rw (x, y) e)
 
   -- and stands for one alone
   mutual
-    unfolding StandsFor node_count
+    unfolding StandsFor nodes
 
-    one-ground : (c : Closed) (g h : Ground) → Stands c g → Stands c h → node_count c ≤ limit_number TypeNodes → g ≡ h
+    one-ground : (c : Closed) (g h : Ground) → Stands c g → Stands c h → nodes c ≤ node_limit → g ≡ h
     one-ground (prim p) g h x y l = x ∙ sym y
     one-ground never g h x y l = x ∙ sym y
     one-ground (tuple no_elements) g h x y l = x ∙ sym y
@@ -118,16 +120,20 @@ module _ (resolved : Resolved) (world : World) (b : BelongsToFile resolved world
     one-ground (array c n) g h (k, e, a) (m, f, d) l = e ∙ ap (λ x. ground_is.Array x n) (one-ground c k m a d (omega (arith, l))) ∙ sym f
     one-ground (nonzero p) g h x y l = x ∙ sym y
     one-ground (wrap w c) g h (k, e, a) (m, f, d) l = e ∙ ap (ground_is.Wrap w) (one-ground c k m a d (omega (arith, l))) ∙ sym f
-    one-ground (named def rs) g h (i, e, row, at, x) (j, f, other, there, y) l =
-        let same = one-place type_of_row world.named i.0 j.0 row other b.named.distinct at there (x ∙ sym y) in
+    one-ground (named def rs args) g h (i, e, row, at, x, xs, given) (j, f, other, there, y, ys, taken) l =
+        let first = text-stands (named def rs args) g (i, e, row, at, x, xs, given) l in
+        let second = text-stands (named def rs args) h (j, f, other, there, y, ys, taken) l in
+        let same = one-number (λ k. ground_is.Named (record { 0 = k })) (length world.named) i.0 j.0 b.named_in_order.distinct (get_or-from_get world.named i.0 row at).0 (get_or-from_get world.named j.0 other there).0
+        (ap text (sym e) ∙ first ∙ sym second ∙ ap text f) in
         e ∙ ap (λ n. ground_is.Named (record { 0 = n })) same ∙ sym f
-    one-ground (ref region mutable c) g h (r, e, row, at, x, y, z) (s, f, other, there, u, v, w) l =
-        let first = text-stands (ref region mutable c) g (r, e, row, at, x, y, z) l in
-        let second = text-stands (ref region mutable c) h (s, f, other, there, u, v, w) l in
-        let same = one-ref r.0 s.0 (get_or-from_get world.refs r.0 row at).0 (get_or-from_get world.refs s.0 other there).0 (ap text (sym e) ∙ first ∙ sym second ∙ ap text f) in
+    one-ground (ref region mutable c) g h (r, e, row, at, x, xs, given) (s, f, other, there, y, ys, taken) l =
+        let first = text-stands (ref region mutable c) g (r, e, row, at, x, xs, given) l in
+        let second = text-stands (ref region mutable c) h (s, f, other, there, y, ys, taken) l in
+        let same = one-number (λ k. ground_is.Ref (record { 0 = k })) (length world.refs) r.0 s.0 b.refs_in_order.distinct (get_or-from_get world.refs r.0 row at).0 (get_or-from_get world.refs s.0 other there).0
+        (ap text (sym e) ∙ first ∙ sym second ∙ ap text f) in
         e ∙ ap (λ n. ground_is.Ref (record { 0 = n })) same ∙ sym f
 
-    all-ground : (cs : Elements) (gs hs : List Ground) → EachStandsFor world.named world.refs cs gs → EachStandsFor world.named world.refs cs hs → node_total cs ≤ limit_number TypeNodes → gs ≡ hs
+    all-ground : (cs : Elements) (gs hs : List Ground) → EachStandsFor world.named world.refs cs gs → EachStandsFor world.named world.refs cs hs → nodes_in cs ≤ node_limit → gs ≡ hs
     all-ground no_elements gs hs x y l = x ∙ sym y
     all-ground (element c cs) [] hs x y l = absurd x
     all-ground (element c cs) (g ∷ gs) [] x y l = absurd y
@@ -149,6 +155,18 @@ module _ (resolved : Resolved) (world : World) (b : BelongsToFile resolved world
       ⊎_elim (λ e. (c, contains-first c (listed cs), subst (Stands c) e x.0))
       (λ j. let (d, k, s) = element-part cs gs h x.1 j in (d, contains-behind c (listed cs) d k, s)) (contains-cons g gs h i)
 
+  -- a row by whose number a named type is known has that type's fields
+  fields-part : (def : DefId) (rs : List RegionId) (args : Elements) (id : ℕ) (row : NamedRow) (h : Ground) → slice_get world.named id ≡ Some row → row.def ≡ def → row.regions ≡ rs
+      → EachStandsFor world.named world.refs args row.args → Contains (flat_map (λ types. types) row.types) h → IsPart (named def rs args) h
+  fields-part def rs args id row h at x y given i =
+      let (m, s) = get_or-from_get world.named id row at in
+      let (c, j, r) = zip-find (IsNamedRowOf resolved world) b.named_types world.named row b.named_rows (id, m, sym s) in
+      let same = each-once world.named world.refs r.args args row.args (each-stood world.named world.refs r.args row.args r.given) given in
+      let (d, k, t) = zip-within Stands (field_types resolved row.def row.regions (listed r.args)) row.types h r.fields i in
+      let inside : Contains (parts_of resolved (named row.def row.regions r.args)) d = Contains-append_right (listed r.args) (fields_of resolved row.def row.regions (listed r.args)) d k in
+      let whole : named row.def row.regions r.args ≡ named def rs args = ap (λ z. named z row.regions r.args) x ∙ ap (λ z. named def z r.args) y ∙ ap (named def rs) same in
+      (d, subst (λ z. Contains (parts_of resolved z) d) whole inside, t)
+
   part : (c : Closed) (g h : Ground) → Stands c g → Contains (nexts (out-Ground g)) h → IsPart c h
   unfolding StandsFor
   part (prim p) g h x i = absurd (contains-nothing h (subst (λ o. Contains (nexts o) h) (ap out-Ground x ∙ level.outs-Prim p) i))
@@ -161,28 +179,25 @@ module _ (resolved : Resolved) (world : World) (b : BelongsToFile resolved world
   part (nonzero p) g h x i = absurd (contains-nothing h (subst (λ o. Contains (nexts o) h) (ap out-Ground x ∙ level.outs-NonZero p) i))
   part (wrap w c) g h (k, e, a) i =
       (c, contains-first c [], subst (Stands c) (held w k h (no-more (argument_of w k) h (subst (λ o. Contains (nexts o) h) (ap out-Ground e ∙ level.outs-Wrap w k) i))) a)
-  part (named def rs) g h (id, e, row, at, same) i =
+  part (named def rs args) g h (id, e, row, at, x, y, given) i =
       let there : Contains (row_parts (slice_get world.named id.0)) h = no-more (row_parts (slice_get world.named id.0)) h (subst (λ o. Contains (nexts o) h) (ap out-Ground e ∙ level.outs-Named id) i) in
-      let fields : Contains (flat_map (λ types. types) row.types) h = subst (λ o. Contains (row_parts o) h) at there in
-      let (m, s) = get_or-from_get world.named id.0 row at in
-      let typed : HasItsTypes resolved world row = All-contains (HasItsTypes resolved world) world.named row b.field_types (id.0, m, sym s) in
-      subst (λ c. IsPart c h) same (zip-within Stands (field_types resolved row.def row.regions) row.types h typed fields)
+      fields-part def rs args id.0 row h at x y given (subst (λ o. Contains (row_parts o) h) at there)
   part (ref region mutable c) g h (r, e, row, at, x, y, d) i =
       let there : Contains (row_pointee (slice_get world.refs r.0)) h = subst (λ o. Contains (nexts o) h) (ap out-Ground e ∙ level.outs-Ref r) i in
       (c, contains-first c [], subst (Stands c) (only-one row.pointee h (subst (λ o. Contains (row_pointee o) h) at there)) d)
 
   -- so all that it reaches occurs in the file
   pub record IsOfFile (g : Ground) : Type 0 where
-    pub closed : Closed
-    pub occurs : Occurs resolved closed
-    pub stands : Stands closed g
+    pub closed_type : Closed
+    pub occurs : Occurs resolved closed_type
+    pub stands : Stands closed_type g
 
   reached : (n : ℕ) (g h : Ground) → IsOfFile g → ChainIn (Enters (tables_of world)) n g h → IsOfFile h
   unfolding ChainIn
   reached zero g h m e = subst (λ x. IsOfFile x) e m
   reached (suc n) g h m (next, s, rest) =
-      let (d, i, t) = part m.closed g next m.stands s in
-      reached n next h (record { closed = d; occurs = is_part m.closed d m.occurs i; stands = t }) rest
+      let (d, i, t) = part m.closed_type g next m.stands s in
+      reached n next h (record { closed_type = d; occurs = occurring-part resolved b.small m.closed_type d m.occurs i; stands = t }) rest
 
   side-of_file : (ask : Ask) → Contains world.questions ask → (side : Side) → IsOfFile (side_type ask side)
   side-of_file ask i side =
@@ -191,11 +206,11 @@ module _ (resolved : Resolved) (world : World) (b : BelongsToFile resolved world
     where
       go : (asked : OpenAsk) → Contains resolved.asks asked → IsQuestionOf resolved world asked ask → (side : Side) → IsOfFile (side_type ask side)
       go asked j q Source =
-          let src = put_in [] asked.src in
-          record { closed = src; occurs = is_asked src (flat_map-contains sides_of resolved.asks asked src j (contains-first src (put_in [] asked.dst ∷ []))); stands = q.src }
+          let src = closed asked.src in
+          record { closed_type = src; occurs = is_asked src (flat_map-contains sides_of resolved.asks asked src j (contains-first src (closed asked.dst ∷ []))); stands = q.src }
       go asked j q Target =
-          let dst = put_in [] asked.dst in
-          record { closed = dst; occurs = is_asked dst (flat_map-contains sides_of resolved.asks asked dst j (contains-behind (put_in [] asked.src) (dst ∷ []) dst (contains-first dst []))); stands = q.dst }
+          let dst = closed asked.dst in
+          record { closed_type = dst; occurs = is_asked dst (flat_map-contains sides_of resolved.asks asked dst j (contains-behind (closed asked.src) (dst ∷ []) dst (contains-first dst []))); stands = q.dst }
 
   pub reached-of_file : (ask : Ask) → Contains world.questions ask → (side : Side) (g : Ground) → Reaches (tables_of world) (side_type ask side) g → IsOfFile g
   reached-of_file ask i side g (n, way) = reached n (side_type ask side) g (side-of_file ask i side) way
@@ -203,10 +218,10 @@ module _ (resolved : Resolved) (world : World) (b : BelongsToFile resolved world
   module _ (form : IsInForm resolved) (names : HasApartNames resolved) where
     pub one-of_text : (g h : Ground) → IsOfFile g → IsOfFile h → text g ≡ text h → g ≡ h
     one-of_text g h m n e =
-        let short = (occurring-formed resolved form m.closed m.occurs).short in
-        let other = (occurring-formed resolved form n.closed n.occurs).short in
-        let same = occurring-apart resolved form names m.closed n.closed m.occurs n.occurs (sym (text-stands m.closed g m.stands short) ∙ e ∙ text-stands n.closed h n.stands other) in
-        one-ground m.closed g h m.stands (subst (λ c. Stands c h) (sym same) n.stands) short
+        let short = occurring-short resolved b.small m.closed_type m.occurs in
+        let other = occurring-short resolved b.small n.closed_type n.occurs in
+        let same = occurring-apart resolved form names m.closed_type n.closed_type m.occurs n.occurs (sym (text-stands m.closed_type g m.stands short) ∙ e ∙ text-stands n.closed_type h n.stands other) in
+        one-ground m.closed_type g h m.stands (subst (λ c. Stands c h) (sym same) n.stands) short
 
     -- whether or not they are at fault
     pub no_shared_texts : (ask : Ask) → Contains world.questions ask → NoSharedTexts (tables_of world) ask

@@ -1,67 +1,53 @@
--- How many types are written in a type, for the recursions that go down it.
-use Rattle.std.proofs.Common.{◌≡◌, ℕ, ◌+◌, ◌<◌, refl, sym, ap, ◌∙◌, List, [], ◌∷◌, map, arith, length, drop, take, take_all, ◌-◌, get_or, zero, suc, ◌≤◌, Bool, true, false, if◌then◌else◌}
-use Rattle.tm_names.specs.declared.resolved.Open.{Open}
-use Rattle.tm_ground.specs.Closed.{Closed, Elements, prim, never, tuple, array, nonzero, wrap, named, ref, no_elements, element, put_in}
-use Rattle.tm_ground.specs.Occurs.{is_holding, listed, parts_held, parts_in}
+-- How many nodes a written type has, for the recursions that go down it.
+use Rattle.std.proofs.Common.{◌≡◌, ℕ, Bool, ◌+◌, ◌<◌, refl, sym, ap, ◌∙◌, List, [], ◌∷◌, map, arith, length, get_or, Some, slice_get, zero, suc, ◌≤◌}
+use Rattle.tm_base.specs.declared.definition.DefId.{DefId}
+use Rattle.tm_base.specs.declared.ground.Wrapper.{Wrapper}
+use Rattle.tm_names.specs.declared.resolved.Life.{Life}
+use Rattle.tm_names.specs.declared.resolved.Open.{Open, Tuple, Array, Wrap, Named, Ref}
+use Rattle.tm_ground.specs.Closed.{Closed, Elements, prim, never, tuple, array, nonzero, wrap, named, ref, no_elements, element, listed, as_elements, closed, nodes, nodes_in}
+use Rattle.tm_ground.specs.Occurs.{parts_in}
+use Rattle.tm_ground.proofs.OpenLemmas.{listed-as_elements, put_in-Tuple, put_in-Array, put_in-Wrap, put_in-Named, put_in-Ref}
 
--- how many types are written in a type, itself among them; the fields of a named type aren't
-unfoldable mutual
-  pub node_count : Closed → ℕ
-  node_count (tuple cs) = 1 + node_total cs
-  node_count (array c n) = 1 + node_count c
-  node_count (wrap w c) = 1 + node_count c
-  node_count (ref region mutable c) = 1 + node_count c
-  node_count c = 1
-
-  pub node_total : Elements → ℕ
-  node_total no_elements = 0
-  node_total (element c cs) = node_count c + node_total cs
-
--- how many are written in several types
+-- the nodes of several types
 abbrev pub counts : List Closed → ℕ
 counts [] = 0
-counts (c ∷ cs) = node_count c + counts cs
+counts (c ∷ cs) = nodes c + counts cs
 
-node_total-listed : (cs : Elements) → node_total cs ≡ counts (listed cs)
-unfolding node_count
-node_total-listed no_elements = refl
-node_total-listed (element c cs) = ap (λ n. node_count c + n) (node_total-listed cs)
+pub nodes_in-listed : (cs : Elements) → nodes_in cs ≡ counts (listed cs)
+unfolding nodes
+nodes_in-listed no_elements = refl
+nodes_in-listed (element c cs) = ap (λ n. nodes c + n) (nodes_in-listed cs)
 
-pub node_count-parts : (c : Closed) → node_count c ≡ 1 + counts (parts_in c)
-unfolding node_count
-node_count-parts (prim p) = refl
-node_count-parts never = refl
-node_count-parts (tuple cs) = ap (λ n. 1 + n) (node_total-listed cs)
-node_count-parts (array c n) = omega arith
-node_count-parts (nonzero p) = refl
-node_count-parts (wrap w c) = omega arith
-node_count-parts (named def regions) = refl
-node_count-parts (ref region mutable c) = omega arith
+pub nodes-parts : (c : Closed) → 1 + counts (parts_in c) ≤ nodes c
+unfolding nodes
+nodes-parts (prim p) = omega arith
+nodes-parts never = omega arith
+nodes-parts (tuple cs) = omega (arith, nodes_in-listed cs)
+nodes-parts (array c n) = omega arith
+nodes-parts (nonzero p) = omega arith
+nodes-parts (wrap w c) = omega arith
+nodes-parts (named def regions args) = omega arith
+nodes-parts (ref region mutable c) = omega arith
 
--- how many types are written in a type that may have parameters
+-- the nodes of a written type, `!` in place of each type parameter
 abbrev pub size_of : Open → ℕ
-size_of t = node_count (put_in [] t)
+size_of t = nodes (closed t)
 
 abbrev pub sizes_of : List Open → ℕ
 sizes_of [] = 0
 sizes_of (t ∷ ts) = size_of t + sizes_of ts
 
-sizes_of-counts : (ts : List Open) → sizes_of ts ≡ counts (map (put_in []) ts)
+pub sizes_of-counts : (ts : List Open) → sizes_of ts ≡ counts (map closed ts)
 sizes_of-counts [] = refl
 sizes_of-counts (t ∷ ts) = ap (λ n. size_of t + n) (sizes_of-counts ts)
 
-pub size_of-parts : (t : Open) (ts : List Open) → map (put_in []) ts ≡ parts_in (put_in [] t) → size_of t ≡ 1 + sizes_of ts
-size_of-parts t ts e = node_count-parts (put_in [] t) ∙ ap (λ n. 1 + n) (ap counts (sym e) ∙ sym (sizes_of-counts ts))
+pub size_of-parts : (t : Open) (ts : List Open) → map closed ts ≡ parts_in (closed t) → 1 + sizes_of ts ≤ size_of t
+size_of-parts t ts e =
+    let same : sizes_of ts ≡ counts (parts_in (closed t)) = sizes_of-counts ts ∙ ap counts e in
+    omega (arith, nodes-parts (closed t), same)
 
 pub size_of-some : (t : Open) → 0 < size_of t
-size_of-some t = omega (arith, node_count-parts (put_in [] t))
-
--- behind the first type fewer are written
-pub sizes_of-rest : (ts : List Open) → 0 < length ts → sizes_of (take (length ts - 1) (drop 1 ts)) < sizes_of ts
-sizes_of-rest [] h = absurd (omega (arith, h))
-sizes_of-rest (t ∷ ts) h =
-    let same : sizes_of (take (length (t ∷ ts) - 1) ts) ≡ sizes_of ts = ap sizes_of (take_all (length (t ∷ ts) - 1) ts (omega arith)) in
-    omega (arith, size_of-some t)
+size_of-some t = omega (arith, nodes-parts (closed t))
 
 pub size_of-at : (ts : List Open) (i : ℕ) (t : Open) → i < length ts → t ≡ get_or ts i t → size_of t ≤ sizes_of ts
 size_of-at [] i t l e = absurd (omega (arith, l))
@@ -72,22 +58,45 @@ size_of-at (u ∷ ts) (suc i) t l e =
     let below = size_of-at ts i t (omega (arith, l)) e in
     omega arith
 
-held-counts : (c : Closed) → counts (parts_held c) + 1 ≤ node_count c
-unfolding node_count
-held-counts (prim p) = omega arith
-held-counts never = omega arith
-held-counts (tuple cs) = omega (arith, node_total-listed cs)
-held-counts (array c n) = omega arith
-held-counts (nonzero p) = omega arith
-held-counts (wrap w c) = by (is_holding w)
-  where
-    by : (b : Bool) → counts (if b then c ∷ [] else []) + 1 ≤ 1 + node_count c
-    by true = omega arith
-    by false = omega arith
-held-counts (named def regions) = omega arith
-held-counts (ref region mutable c) = omega arith
+pub size_of-get : (ts : List Open) (i : ℕ) (t : Open) → slice_get ts i ≡ Some t → size_of t ≤ sizes_of ts
+size_of-get [] i t h = cc
+size_of-get (u ∷ ts) zero t h =
+    let same : u ≡ t = cc in
+    let sizes : size_of u ≡ size_of t = ap size_of same in
+    omega (arith, sizes)
+size_of-get (u ∷ ts) (suc i) t h = omega (arith, size_of-get ts i t h)
 
-pub size_of-held : (t : Open) (ts : List Open) → map (put_in []) ts ≡ parts_held (put_in [] t) → sizes_of ts < size_of t
-size_of-held t ts e =
-    let same : sizes_of ts ≡ counts (parts_held (put_in [] t)) = sizes_of-counts ts ∙ ap counts e in
-    omega (arith, held-counts (put_in [] t))
+module _ (ts : List Open) where
+  elements-size : nodes_in (as_elements (map closed ts)) ≡ sizes_of ts
+  elements-size = nodes_in-listed (as_elements (map closed ts)) ∙ ap counts (listed-as_elements (map closed ts)) ∙ sym (sizes_of-counts ts)
+
+  pub size-Tuple : size_of (Tuple ts) ≡ 1 + sizes_of ts
+  unfolding nodes
+  size-Tuple =
+      let whole : size_of (Tuple ts) ≡ suc (nodes_in (as_elements (map closed ts))) = ap nodes (put_in-Tuple [] [] ts) in
+      omega (arith, whole, elements-size)
+
+  pub size-Named : (def : DefId) (lives : List Life) → size_of (Named def lives ts) ≡ 1 + sizes_of ts
+  unfolding nodes
+  size-Named def lives =
+      let whole : size_of (Named def lives ts) ≡ suc (nodes_in (as_elements (map closed ts))) = ap nodes (put_in-Named [] [] def lives ts) in
+      omega (arith, whole, elements-size)
+
+module _ (t : Open) where
+  pub size-Array : (n : ℕ) → size_of (Array t n) ≡ 1 + size_of t
+  unfolding nodes
+  size-Array n =
+      let whole : size_of (Array t n) ≡ suc (size_of t) = ap nodes (put_in-Array [] [] t n) in
+      omega (arith, whole)
+
+  pub size-Wrap : (w : Wrapper) → size_of (Wrap w t) ≡ 1 + size_of t
+  unfolding nodes
+  size-Wrap w =
+      let whole : size_of (Wrap w t) ≡ suc (size_of t) = ap nodes (put_in-Wrap [] [] w t) in
+      omega (arith, whole)
+
+  pub size-Ref : (life : Life) (mutable : Bool) → size_of (Ref life mutable t) ≡ 1 + size_of t
+  unfolding nodes
+  size-Ref life mutable =
+      let whole : size_of (Ref life mutable t) ≡ suc (size_of t) = ap nodes (put_in-Ref [] [] life mutable t) in
+      omega (arith, whole)

@@ -12,7 +12,7 @@ use Rattle.tm_base.specs.declared.ground.Primitive.TheVariants as primitive
 use Rattle.tm_base.specs.declared.ground.Wrapper.{Wrapper}
 use Rattle.tm_base.specs.declared.ground.Wrapper.TheVariants as wrapper
 use Rattle.tm_base.specs.Texts.{prim_text, wrapper_text}
-use Rattle.tm_names.specs.ApartNames.{is_word_byte, is_word, is_own_name}
+use Rattle.tm_names.specs.ApartNames.{is_word_byte, is_word, is_quoted, is_own_name}
 use Rattle.tm_ground.proofs.FormLemmas.{first, second}
 
 abbrev pub all_bytes : List ℕ → Bool
@@ -74,6 +74,11 @@ digits-bytes (c ∷ cs) h =
 
 pub decimal-bytes : (n : ℕ) → n < 2 ^ 64 → all_bytes (decimal n) ≡ true
 decimal-bytes n h = digits-bytes (decimal n) (decimal_is_IsNumeral n h).0.1
+
+-- what follows a word doesn't tell whether a quote stands before it
+pub quoted-front : (w r : List ℕ) → is_word w ≡ true → is_quoted (w ++ r) ≡ is_quoted w
+quoted-front [] r h = cc
+quoted-front (b ∷ bs) r h = refl
 
 -- what a type is told by
 pub data Reading : Type 0 where
@@ -177,4 +182,4 @@ own-look w (e ∷ es) h = by (bytes_eq w e.word) (first _ _ h) (own-look w es (s
 
 pub own-kind : (w : List ℕ) → is_own_name w ≡ true → kind_of w ≡ a_name w
 unfolding kind_of is_own_name
-own-kind w h = own-look w entries (second (is_word w) _ h)
+own-kind w h = own-look w entries (second (is_word w && not (is_quoted w)) _ h)

@@ -15,22 +15,9 @@ use Rattle.tm_base.specs.Whole.{AreDistinct}
 use Rattle.tm_base.specs.Worlds.{tables_of}
 use Rattle.tm_names.specs.declared.resolved.OpenAsk.{OpenAsk}
 use Rattle.tm_names.specs.declared.resolved.Resolved.{Resolved}
-use Rattle.tm_ground.specs.Closed.{Closed, Elements, prim, never, tuple, array, nonzero, wrap, named, ref, no_elements, element, put_in}
-use Rattle.tm_ground.specs.Limits.{is_named, is_ref, OccursAs}
+use Rattle.tm_ground.specs.Closed.{Closed, Elements, prim, never, tuple, array, nonzero, wrap, named, ref, no_elements, element, closed, listed}
+use Rattle.tm_ground.specs.Limits.{is_named, is_ref, OccursAs, PassesNodes}
 use Rattle.tm_ground.specs.Occurs.{field_types}
-
--- the closed type that a named row is of
-abbrev pub type_of_row : NamedRow → Closed
-type_of_row row = named row.def row.regions
-
--- the number of a named type's definition, and those of its regions
-abbrev pub numbers_of : Closed → List ℕ
-numbers_of (named def regions) = def.0 ∷ map (λ region. region.0) regions
-numbers_of c = []
-
--- a named row has no arguments
-abbrev pub HasNoArgs : NamedRow → Type 0
-HasNoArgs row = row.args ≡ []
 
 -- a type with numbers stands for a closed type, where these are the rows that numbers name
 module _ (rows : List NamedRow) (refs : List RefRow) where
@@ -43,7 +30,7 @@ module _ (rows : List NamedRow) (refs : List RefRow) where
     StandsFor (array c n) g = (h : Ground) × (g ≡ Array h n) × StandsFor c h
     StandsFor (nonzero p) g = g ≡ NonZero p
     StandsFor (wrap w c) g = (h : Ground) × (g ≡ Wrap w h) × StandsFor c h
-    StandsFor (named def regions) g = (id : NamedId) × (g ≡ Named id) × (row : NamedRow) × (slice_get rows id.0 ≡ Some row) × (type_of_row row ≡ named def regions)
+    StandsFor (named def regions args) g = (id : NamedId) × (g ≡ Named id) × (row : NamedRow) × (slice_get rows id.0 ≡ Some row) × (row.def ≡ def) × (row.regions ≡ regions) × EachStandsFor args row.args
     StandsFor (ref region mutable c) g = (r : RefId) × (g ≡ Ref r) × (row : RefRow) × (slice_get refs r.0 ≡ Some row) × (row.region ≡ region) × (row.mutable ≡ mutable) × StandsFor c row.pointee
 
     pub EachStandsFor : Elements → List Ground → Type 0
@@ -57,25 +44,38 @@ pub record ListsAll (P : Closed → Type 0) (listed : List Closed) : Type 0 wher
   pub each : All P listed
   pub complete : (c : Closed) → P c → Contains listed c
 
+-- texts in byte order, no two of which are one, so that their places are a function of what they are of
+pub record AreInByteOrder (texts : List (List ℕ)) : Type 0 where
+  pub sorted : IsSorted (slice_cmp nat_cmp) texts
+  pub distinct : AreDistinct texts
+
 module _ (resolved : Resolved) (world : World) where
   abbrev pub StandsIn : Closed → Ground → Type 0
   StandsIn = StandsFor world.named world.refs
 
   -- both sides stand for the question's, and as much is assumed
   pub record IsQuestionOf (asked : OpenAsk) (ask : Ask) : Type 0 where
-    pub src : StandsIn (put_in [] asked.src) ask.src
-    pub dst : StandsIn (put_in [] asked.dst) ask.dst
+    pub src : StandsIn (closed asked.src) ask.src
+    pub dst : StandsIn (closed asked.dst) ask.dst
     pub assume : asked.assume ≡ ask.assume
 
-  -- a named row's types stand for those of the definition's fields
-  abbrev pub HasItsTypes : NamedRow → Type 0
-  HasItsTypes row = AllZip (AllZip StandsIn) (field_types resolved row.def row.regions) row.types
+  -- a named row is of a closed type: it has its arguments, and its fields' types
+  pub record IsNamedRowOf (c : Closed) (row : NamedRow) : Type 0 where
+    pub args : Elements
+    pub type : c ≡ named row.def row.regions args
+    pub given : AllZip StandsIn (listed args) row.args
+    pub fields : AllZip (AllZip StandsIn) (field_types resolved row.def row.regions (listed args)) row.types
 
   -- a reference row is of a closed type
-  abbrev pub IsRowOf : Closed → RefRow → Type 0
-  IsRowOf c row = (pointee : Closed) × (c ≡ ref row.region row.mutable pointee) × StandsIn pointee row.pointee
+  pub record IsRefRowOf (c : Closed) (row : RefRow) : Type 0 where
+    pub pointee : Closed
+    pub type : c ≡ ref row.region row.mutable pointee
+    pub points : StandsIn pointee row.pointee
 
-  -- the canonical texts of the references, in the order of their numbers
+  -- the canonical texts of the named types and of the references, in the order of their numbers
+  abbrev pub named_texts : List (List ℕ)
+  named_texts = map (λ k. text_of (tables_of world) (Named (record { 0 = k }))) (range_with_len 0 (length world.named))
+
   abbrev pub ref_texts : List (List ℕ)
   ref_texts = map (λ k. text_of (tables_of world) (Ref (record { 0 = k }))) (range_with_len 0 (length world.refs))
 
@@ -85,17 +85,16 @@ module _ (resolved : Resolved) (world : World) where
     pub regions : world.regions ≡ resolved.regions
     pub bounds : world.bounds ≡ resolved.bounds
     pub questions : AllZip IsQuestionOf resolved.asks world.questions
-    -- the named rows are the named types that occur, each with its fields' types, in the order of their
-    -- definitions and, of one definition, of their regions
-    pub named : ListsAll (OccursAs is_named resolved) (map type_of_row world.named)
-    pub named_in_order : IsSorted (slice_cmp nat_cmp) (map numbers_of (map type_of_row world.named))
-    -- no definition has type parameters
-    pub no_args : All HasNoArgs world.named
-    pub field_types : All HasItsTypes world.named
+    -- no type that occurs has too many nodes
+    pub small : ¬ PassesNodes resolved
+    -- the named rows are the named types that occur, each with its arguments and its fields' types, in byte
+    -- order of their texts
+    pub named_types : List Closed
+    pub named : ListsAll (OccursAs is_named resolved) named_types
+    pub named_rows : AllZip IsNamedRowOf named_types world.named
+    pub named_in_order : AreInByteOrder named_texts
     -- the reference rows are the reference types that occur, in byte order of their texts
     pub ref_types : List Closed
     pub refs : ListsAll (OccursAs is_ref resolved) ref_types
-    pub ref_rows : AllZip IsRowOf ref_types world.refs
-    pub in_order : IsSorted (slice_cmp nat_cmp) ref_texts
-    -- no two of which are one, so that the numbers are the file's
-    pub texts_distinct : AreDistinct ref_texts
+    pub ref_rows : AllZip IsRefRowOf ref_types world.refs
+    pub refs_in_order : AreInByteOrder ref_texts

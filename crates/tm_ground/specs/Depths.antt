@@ -1,37 +1,67 @@
--- Depths by value, from tables of the definitions' depths.
-use Rattle.std.specs.Prelude.{◌≡◌, ℕ, zero, suc, ◌<◌, Bool, true, false, List, [], map, length, Some, slice_get, unwrap_or}
-use Rattle.std.specs.List.{list_any}
-use Rattle.tm_base.specs.declared.definition.DefId.{DefId}
-use Rattle.tm_names.specs.declared.resolved.Open.{Open}
+-- How deep types by numbers are, as far as tables of flags tell it of the named types.
+use Rattle.std.specs.Prelude.{◌≡◌, ◌<◌, ℕ, zero, suc, Bool, true, false, ◌&&◌, ◌||◌, List, [], Some, slice_get, unwrap_or}
+use Rattle.std.specs.List.{AllZip, list_any}
+use Rattle.tm_base.specs.declared.ask.Ask.{Ask}
+use Rattle.tm_base.specs.declared.definition.NamedRow.{NamedRow}
+use Rattle.tm_base.specs.declared.definition.RefRow.{RefRow}
+use Rattle.tm_base.specs.declared.ground.Ground.{Ground, out-Ground}
+use Rattle.tm_base.specs.declared.ground.Ground.TheOpen.{Ground-F}
+use Rattle.tm_base.specs.declared.ground.NamedId.{NamedId}
+use Rattle.tm_base.specs.Whole.{written_types}
 use Rattle.tm_names.specs.declared.resolved.Resolved.{Resolved}
-use Rattle.tm_ground.specs.Closed.{Closed, named}
-use Rattle.tm_ground.specs.Limits.{depth_passes, depth_limit}
-use Rattle.tm_ground.specs.Occurs.{all_fields, parts_held}
-use Rattle.tm_ground.specs.Written.{written_in}
+use Rattle.tm_ground.specs.Closed.{Closed}
+use Rattle.tm_ground.specs.Limits.{PassesDepth, depth_limit, depth_passes}
+use Rattle.tm_ground.specs.Occurs.{is_holding}
+use Rattle.tm_ground.specs.Rows.{IsNamedRow}
 
--- what a table says of a definition
-abbrev pub flag_in : List Bool → DefId → Bool
-flag_in row def = unwrap_or (slice_get row def.0) false
+-- one of the parts of a type that it holds by value passes, or its name does
+abbrev pub some_part : (Ground → Bool) → (NamedId → Bool) → Ground-F Ground → Bool
+some_part part name (Ground-F.Tuple gs) = list_any part gs
+some_part part name (Ground-F.Array g n) = part g
+some_part part name (Ground-F.Named id) = name id
+some_part part name (Ground-F.Wrap w g) = is_holding w && part g
+some_part part name _ = false
 
--- what the table at a place says of it
-abbrev pub flag_at : List (List Bool) → ℕ → DefId → Bool
-flag_at tables n def = flag_in (unwrap_or (slice_get tables n) []) def
+module _ (tables : List (List Bool)) where
+  -- what the table at a place says of a named type
+  abbrev pub flag_at : ℕ → ℕ → Bool
+  flag_at place k = unwrap_or (slice_get (unwrap_or (slice_get tables place) []) k) false
 
--- The depth by value passes n, where the table at n says whether a definition's depth passes n + 1.
-unfoldable pub passes_by : List (List Bool) → ℕ → Closed → Bool
-passes_by tables zero c = true
-passes_by tables (suc n) (named def regions) = flag_at tables n def
-passes_by tables (suc n) c = list_any (passes_by tables n) (parts_held c)
+  -- the depth by value of a type passes n: the table at n says of each named type whether its depth passes n + 1
+  unfoldable pub passes_by : ℕ → Ground → Bool
+  passes_by zero g = true
+  passes_by (suc n) g = some_part (passes_by n) (λ id. flag_at n id.0) (out-Ground g)
 
--- for each definition, whether some field's depth passes n: whether the definition's passes n + 1
-abbrev pub row_by : List (List Bool) → ℕ → List (List (List Open)) → List Bool
-row_by tables n types = map (λ variants. list_any (passes_by tables n) (all_fields [] variants)) types
+  -- that of a field of a named type does
+  abbrev pub row_passes : ℕ → NamedRow → Bool
+  row_passes n row = list_any (list_any (passes_by n)) row.types
 
--- some type that is written in a type is deeper than a type may be
-abbrev pub deep_within : List (List Bool) → Closed → Bool
-deep_within tables c = list_any (passes_by tables depth_limit) (written_in c)
+  -- a type that is written in a type is deeper than it may be
+  abbrev pub is_deep : Ground → Bool
+  is_deep g = list_any (passes_by depth_limit) (written_types g)
 
--- the first tables say what they should of the file's definitions
-pub record AreDepths (resolved : Resolved) (count : ℕ) (tables : List (List Bool)) : Type 0 where
-  pub counted : length tables ≡ count
-  pub rows : (n : ℕ) → n < count → slice_get tables n ≡ Some (map (λ variants. list_any (depth_passes resolved n) (all_fields [] variants)) resolved.types)
+  -- so it is in an argument or a field of a named type
+  abbrev pub is_row_deep : NamedRow → Bool
+  is_row_deep row = list_any is_deep row.args || list_any (list_any is_deep) row.types
+
+  -- and in a side of a question
+  abbrev pub is_ask_deep : Ask → Bool
+  is_ask_deep ask = is_deep ask.src || is_deep ask.dst
+
+  -- and in one of some rows and questions
+  abbrev pub is_some_deep : List NamedRow → List RefRow → List Ask → Bool
+  is_some_deep named refs questions =
+      list_any is_row_deep named || list_any (λ row. is_deep row.pointee) refs || list_any is_ask_deep questions
+
+-- so many tables that tell of each of these named types how deep it is
+pub record AreDepths (resolved : Resolved) (types : List Closed) (count : ℕ) (tables : List (List Bool)) : Type 0 where
+  pub told : (n k : ℕ) (c : Closed) → n < count → slice_get types k ≡ Some c → flag_at tables n k ≡ depth_passes resolved (suc n) c
+
+-- they tell it whatever types these rows are of
+pub record TellDepths (rows : List NamedRow) (count : ℕ) (tables : List (List Bool)) : Type 0 where
+  pub each : (resolved : Resolved) (types refs : List Closed) → AllZip (IsNamedRow types refs resolved) types rows → AreDepths resolved types count tables
+
+-- an answer whether some type that occurs is deeper than it may be
+abbrev pub TellsDepth : Resolved → Bool → Type 0
+TellsDepth resolved true = PassesDepth resolved
+TellsDepth resolved false = ¬ PassesDepth resolved

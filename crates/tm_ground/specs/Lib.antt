@@ -4,10 +4,15 @@ pub mod Limits
 pub mod Belongs
 pub mod Written
 pub mod Growing
-pub mod Keys
+pub mod Rooms
+pub mod Codes
+pub mod Sets
+pub mod Collecting
 pub mod Closing
-pub mod Depths
 pub mod Numbered
 pub mod Rows
 pub mod ClosedTexts
+pub mod Texted
+pub mod Found
+pub mod Depths
 pub mod OneWorld

@@ -30,7 +30,7 @@ module _ (rows refs : List Closed) where
     IsNumbered (array c n) g = (h : Ground) × (g ≡ Array h n) × IsNumbered c h
     IsNumbered (nonzero p) g = g ≡ NonZero p
     IsNumbered (wrap w c) g = (h : Ground) × (g ≡ Wrap w h) × IsNumbered c h
-    IsNumbered (named def regions) g = (id : NamedId) × (g ≡ Named id) × (slice_get rows id.0 ≡ Some (named def regions))
+    IsNumbered (named def regions args) g = (id : NamedId) × (g ≡ Named id) × (slice_get rows id.0 ≡ Some (named def regions args))
     IsNumbered (ref region mutable c) g = (r : RefId) × (g ≡ Ref r) × (slice_get refs r.0 ≡ Some (ref region mutable c))
 
     pub EachNumbered : Elements → List Ground → Type 0

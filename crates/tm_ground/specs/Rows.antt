@@ -1,5 +1,5 @@
 -- Rows of a world by numbers, for lists of the named types and of the references.
-use Rattle.std.specs.Prelude.{◌≡◌, List, []}
+use Rattle.std.specs.Prelude.{◌≡◌, List}
 use Rattle.std.specs.List.{AllZip}
 use Rattle.tm_base.specs.declared.ask.Ask.{Ask}
 use Rattle.tm_base.specs.declared.definition.NamedRow.{NamedRow}
@@ -8,8 +8,7 @@ use Rattle.tm_base.specs.declared.ground.Ground.{Ground}
 use Rattle.tm_base.specs.declared.world.World.{World}
 use Rattle.tm_names.specs.declared.resolved.OpenAsk.{OpenAsk}
 use Rattle.tm_names.specs.declared.resolved.Resolved.{Resolved}
-use Rattle.tm_ground.specs.Belongs.{type_of_row}
-use Rattle.tm_ground.specs.Closed.{Closed, ref, put_in}
+use Rattle.tm_ground.specs.Closed.{Closed, Elements, named, ref, closed, listed}
 use Rattle.tm_ground.specs.Numbered.{IsNumbered}
 use Rattle.tm_ground.specs.Occurs.{field_types}
 
@@ -20,9 +19,10 @@ module _ (rows refs : List Closed) where
 
   -- the row of a named type
   pub record IsNamedRow (resolved : Resolved) (c : Closed) (row : NamedRow) : Type 0 where
-    pub type : c ≡ type_of_row row
-    pub args : row.args ≡ []
-    pub fields : AreFields (field_types resolved row.def row.regions) row.types
+    pub args : Elements
+    pub type : c ≡ named row.def row.regions args
+    pub given : AllZip (IsNumbered rows refs) (listed args) row.args
+    pub fields : AreFields (field_types resolved row.def row.regions (listed args)) row.types
 
   -- the row of a reference type
   pub record IsRefRow (c : Closed) (row : RefRow) : Type 0 where
@@ -32,8 +32,8 @@ module _ (rows refs : List Closed) where
 
   -- a question by numbers
   pub record IsAsk (asked : OpenAsk) (ask : Ask) : Type 0 where
-    pub src : IsNumbered rows refs (put_in [] asked.src) ask.src
-    pub dst : IsNumbered rows refs (put_in [] asked.dst) ask.dst
+    pub src : IsNumbered rows refs (closed asked.src) ask.src
+    pub dst : IsNumbered rows refs (closed asked.dst) ask.dst
     pub assume : asked.assume ≡ ask.assume
 
 -- a world of the file whose named rows and reference rows are of these lists, in their order

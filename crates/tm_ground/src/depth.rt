@@ -1,147 +1,231 @@
-ghost use Rattle.std.specs.Prelude.{◌≡◌, ◌≤◌, List, [], map, length, IfOk};
+ghost use Rattle.std.specs.Prelude.{◌≡◌, map, IfOk};
 ghost use Rattle.std.specs.List.{list_any};
-ghost use Rattle.tm_base.specs.declared.definition.RegionId.{RegionId};
-ghost use Rattle.tm_ground.specs.Closed.{put_in};
-ghost use Rattle.tm_ground.specs.Depths.{deep_within, flag_at, passes_by, row_by, AreDepths};
-ghost use Rattle.tm_ground.specs.Occurs.{all_fields, asked_in};
+ghost use Rattle.tm_ground.specs.Depths.{TellDepths, TellsDepth, flag_at, is_ask_deep, is_deep, is_row_deep, is_some_deep, passes_by, row_passes};
 ghost use Rattle.tm_ground.specs.Limits.{depth_limit};
+ghost use Rattle.tm_ground.specs.Found.{IsAllOf};
+ghost use Rattle.tm_ground.specs.Occurs.{is_holding};
 
+use crate::found::Found;
 use crate::limits::depth_limit;
-use crate::written::{Head, head_with, held, parts};
+use crate::rows::{named_rows, questions, ref_rows};
 use std::alloc::Global;
-use tm_base::{DefId, List, Memory};
-use tm_names::{Open, OpenAsk, Resolved};
+use tm_base::{Ask, Ground, List, Memory, NamedId, NamedRow, RefRow, Wrapper};
+use tm_names::Resolved;
 
-/// What the table at a place says of a definition.
-fn flag(tables: &[List<bool>], place: usize, def: DefId) -> bool
-    ensures { result ≡ flag_at tables.now place def }
+/// What the table at a place says of a named type; `false` where there is no such table.
+fn flag(tables: &[List<bool>], place: usize, id: NamedId) -> bool
+    ensures { result ≡ flag_at tables.now place id.0 }
 {
     match tables.get(place) {
         None => false,
-        Some(row) => match row.get(def.0 as usize) {
+        Some(flags) => match flags.get(id.0 as usize) {
             None => false,
             Some(flag) => *flag,
         },
     }
 }
 
+/// Whether a wrapper holds its argument by value.
+fn is_holding(wrapper: Wrapper) -> bool
+    ensures { result ≡ is_holding wrapper }
+{
+    match wrapper {
+        Wrapper::PhantomData => false,
+        Wrapper::Option | Wrapper::MaybeUninit | Wrapper::ManuallyDrop => true,
+        Wrapper::Wrapping | Wrapper::Cell | Wrapper::UnsafeCell => true,
+    }
+}
+
 /// Whether the depth by value of a type passes a number.
 #[cycle(passes)]
-fn passes(tables: &[List<bool>], number: usize, written: &Open) -> bool
-    ensures { (regions : List RegionId) → result ≡ passes_by tables.now number (put_in regions written.now) }
+fn passes(tables: &[List<bool>], number: usize, ty: &Ground) -> bool
+    ensures { result ≡ passes_by tables.now number ty.now }
 {
     if number == 0 {
         return true;
     }
-    match head_with(&[], written) {
-        Head::Named(def) => flag(tables, number - 1, def),
-        _ => some_passes(tables, number - 1, held(written)),
+    match ty {
+        Ground::Tuple(elements) => some_passes(tables, number - 1, elements.as_slice()),
+        Ground::Array(element, _) => passes(tables, number - 1, element.get()),
+        Ground::Wrap(wrapper, argument) => {
+            is_holding(*wrapper) && passes(tables, number - 1, argument.get())
+        }
+        Ground::Named(id) => flag(tables, number - 1, *id),
+        Ground::Prim(_) => false,
+        Ground::Never => false,
+        Ground::Unit => false,
+        Ground::NonZero(_) => false,
+        Ground::Ref(_) => false,
     }
 }
 
-/// Whether the depth by value of some of the types passes a number.
+/// Whether the depth by value of one of some types passes a number.
 #[cycle(passes)]
-fn some_passes(tables: &[List<bool>], number: usize, types: &[Open]) -> bool
-    ensures { (regions : List RegionId) → result ≡ list_any (passes_by tables.now number) (map (put_in regions) types.now) }
+fn some_passes(tables: &[List<bool>], number: usize, types: &[Ground]) -> bool
+    ensures { result ≡ list_any (passes_by tables.now number) types.now }
 {
-    match types {
-        [] => false,
-        [first, rest @ ..] => { passes(tables, number, first) || some_passes(tables, number, rest) }
-    }
-}
-
-/// Whether the depth by value of some field of some variants passes a number.
-fn some_field_passes(tables: &[List<bool>], number: usize, variants: &[List<Open>]) -> bool
-    ensures { result ≡ list_any (passes_by tables.now number) (all_fields [] variants.now) }
-{
-    for types in variants {
-        if some_passes(tables, number, types.as_slice()) {
+    for ty in types {
+        if passes(tables, number, ty) {
             return true;
         }
     }
     false
 }
 
-/// For each definition, whether the depth by value of some of its fields passes a number.
-fn make_row(
+/// Whether the depth by value of a field of a named type passes a number.
+fn some_field_passes(tables: &[List<bool>], number: usize, row: &NamedRow) -> bool
+    ensures { result ≡ row_passes tables.now number row.now }
+{
+    row.types
+        .as_slice()
+        .iter()
+        .any(|types| some_passes(tables, number, types.as_slice()))
+}
+
+/// The next table: whether a field of each named type passes a number.
+fn next_table(
     alloc: Global,
     tables: &[List<bool>],
     number: usize,
-    types: &[List<List<Open>>],
+    named: &[NamedRow],
 ) -> Result<List<bool>, Memory>
-    ensures { IfOk result (λ row. row ≡ row_by tables.now number types.now) }
+    ensures { IfOk result (λ table. table ≡ map (row_passes tables.now number) named.now) }
 {
-    let mut row = List::new(alloc);
-    for variants in types {
-        let Ok(()) = row.push(some_field_passes(tables, number, variants.as_slice())) else {
-            return Err(Memory);
-        };
+    let mut table = List::new(alloc);
+    for row in named {
+        table.add(some_field_passes(tables, number, row))?;
     }
-    Ok(row)
+    Ok(table)
 }
 
-/// For each number below the greatest depth, and each definition, whether its depth by value passes one
-/// more.
-pub fn depth_tables(alloc: Global, resolved: &Resolved) -> Result<List<List<bool>>, Memory>
-    ensures { IfOk result (λ tables. AreDepths resolved.now depth_limit tables) }
+/// Whether some flag of a table is `true`.
+fn is_some_flagged(table: &[bool]) -> bool
+    ensures { result ≡ list_any (λ flag. flag) table.now }
+{
+    table.iter().any(|flag| *flag)
+}
+
+/// Tables that tell how deep the named types are, up to the first that says `false` of all of them.
+fn depth_tables(alloc: Global, named: &[NamedRow]) -> Result<List<List<bool>>, Memory>
+    ensures { IfOk result (TellDepths named.now depth_limit) }
 {
     let mut tables = List::new(alloc);
     for number in 0..depth_limit() {
-        let Ok(row) = make_row(alloc, tables.as_slice(), number, resolved.types.as_slice()) else {
-            return Err(Memory);
-        };
-        let Ok(()) = tables.push(row) else {
-            return Err(Memory);
-        };
+        let table = next_table(alloc, tables.as_slice(), number, named)?;
+        if !is_some_flagged(table.as_slice()) {
+            return Ok(tables);
+        }
+        tables.add(table)?;
     }
     Ok(tables)
 }
 
-/// Whether a type that is written in a type is deeper than a type may be.
+/// Whether a type, or one that is written in it, is deeper than a type may be.
 #[cycle(is_deep)]
-fn is_deep(tables: &[List<bool>], written: &Open) -> bool
-    ensures { (regions : List RegionId) → result ≡ deep_within tables.now (put_in regions written.now) }
+fn is_deep(tables: &[List<bool>], ty: &Ground) -> bool
+    ensures { result ≡ is_deep tables.now ty.now }
 {
-    if passes(tables, depth_limit(), written) {
+    if passes(tables, depth_limit(), ty) {
         return true;
     }
-    are_deep(tables, parts(written))
+    match ty {
+        Ground::Tuple(elements) => are_deep(tables, elements.as_slice()),
+        Ground::Array(element, _) => is_deep(tables, element.get()),
+        Ground::Wrap(_, argument) => is_deep(tables, argument.get()),
+        Ground::Prim(_) => false,
+        Ground::Never => false,
+        Ground::Unit => false,
+        Ground::Named(_) => false,
+        Ground::NonZero(_) => false,
+        Ground::Ref(_) => false,
+    }
 }
 
-/// Whether a type that is written in some types is deeper than a type may be.
+/// Whether one of some types, or one that is written in them, is deeper than a type may be.
 #[cycle(is_deep)]
-fn are_deep(tables: &[List<bool>], types: &[Open]) -> bool
-    ensures { (regions : List RegionId) → result ≡ list_any (deep_within tables.now) (map (put_in regions) types.now) }
+fn are_deep(tables: &[List<bool>], types: &[Ground]) -> bool
+    ensures { result ≡ list_any (is_deep tables.now) types.now }
 {
-    match types {
-        [] => false,
-        [first, rest @ ..] => is_deep(tables, first) || are_deep(tables, rest),
-    }
-}
-
-/// Whether a type that is written in the fields of some variants is deeper than a type may be.
-pub fn are_fields_deep(tables: &[List<bool>], variants: &[List<Open>]) -> bool
-    ensures { (regions : List RegionId) → result ≡ list_any (deep_within tables.now) (all_fields regions variants.now) }
-{
-    for types in variants {
-        if are_deep(tables, types.as_slice()) {
+    for ty in types {
+        if is_deep(tables, ty) {
             return true;
         }
     }
     false
 }
 
-/// Whether a type that is written in the sides of questions is deeper than a type may be.
-pub fn are_asks_deep(tables: &[List<bool>], asks: &[OpenAsk]) -> bool
-    ensures { result ≡ list_any (deep_within tables.now) (asked_in asks.now) }
+/// Whether a field of a named type is so.
+fn is_some_field_deep(tables: &[List<bool>], row: &NamedRow) -> bool
+    ensures { result ≡ list_any (list_any (is_deep tables.now)) row.now.types }
 {
-    for ask in asks {
-        if is_deep(tables, &ask.src) {
-            return true;
-        }
-        if is_deep(tables, &ask.dst) {
-            return true;
-        }
-    }
-    false
+    row.types
+        .as_slice()
+        .iter()
+        .any(|types| are_deep(tables, types.as_slice()))
+}
+
+/// Whether an argument or a field of a named type is so.
+fn is_row_deep(tables: &[List<bool>], row: &NamedRow) -> bool
+    ensures { result ≡ is_row_deep tables.now row.now }
+{
+    are_deep(tables, row.args.as_slice()) || is_some_field_deep(tables, row)
+}
+
+/// Whether an argument or a field of one of some named types is so.
+fn is_some_row_deep(tables: &[List<bool>], named: &[NamedRow]) -> bool
+    ensures { result ≡ list_any (is_row_deep tables.now) named.now }
+{
+    named.iter().any(|row| is_row_deep(tables, row))
+}
+
+/// Whether what one of some references points to is so.
+fn is_some_pointee_deep(tables: &[List<bool>], refs: &[RefRow]) -> bool
+    ensures { result ≡ list_any (λ row. is_deep tables.now row.pointee) refs.now }
+{
+    refs.iter().any(|row| is_deep(tables, &row.pointee))
+}
+
+/// Whether a side of a question is so.
+fn is_ask_deep(tables: &[List<bool>], ask: &Ask) -> bool
+    ensures { result ≡ is_ask_deep tables.now ask.now }
+{
+    is_deep(tables, &ask.src) || is_deep(tables, &ask.dst)
+}
+
+/// Whether a side of one of some questions is so.
+fn is_some_ask_deep(tables: &[List<bool>], questions: &[Ask]) -> bool
+    ensures { result ≡ list_any (is_ask_deep tables.now) questions.now }
+{
+    questions.iter().any(|ask| is_ask_deep(tables, ask))
+}
+
+/// Whether one of the types of some rows and questions is so.
+fn is_some_deep(
+    tables: &[List<bool>],
+    named: &[NamedRow],
+    refs: &[RefRow],
+    questions: &[Ask],
+) -> bool
+    ensures { result ≡ is_some_deep tables.now named.now refs.now questions.now }
+{
+    is_some_row_deep(tables, named)
+        || is_some_pointee_deep(tables, refs)
+        || is_some_ask_deep(tables, questions)
+}
+
+/// Whether some type that occurs is deeper than a type may be.
+pub fn is_too_deep(alloc: Global, resolved: &Resolved, found: &Found) -> Result<bool, Memory>
+    requires { IsAllOf found.now resolved.now }
+    ensures { IfOk result (TellsDepth resolved.now) }
+{
+    let named = named_rows(alloc, resolved, found)?;
+    let refs = ref_rows(alloc, found)?;
+    let questions = questions(alloc, resolved, found)?;
+    let tables = depth_tables(alloc, named.as_slice())?;
+    Ok(is_some_deep(
+        tables.as_slice(),
+        named.as_slice(),
+        refs.as_slice(),
+        questions.as_slice(),
+    ))
 }

@@ -1,21 +1,24 @@
-//! Closed types: the types that a file's questions lead to, with a region in place of each lifetime.
+//! Closed types: the types that a file's questions lead to, with a region in place of each lifetime and a type in
+//! place of each type parameter.
 #![tactic(auto)]
 
 mod closing;
+mod code;
+mod collector;
 mod depth;
 mod fault;
-mod gathering;
+mod fields;
+mod found;
 mod grounding;
 mod laws;
 mod limits;
-mod named_set;
+mod nodes;
 mod numbering;
 mod ordering;
-mod refs;
 mod regions;
 mod rows;
-mod same;
 mod stop;
+mod type_set;
 mod worlds;
 mod written;
 

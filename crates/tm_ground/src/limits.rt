@@ -1,5 +1,6 @@
 ghost use Rattle.std.specs.Prelude.{◌≡◌};
 ghost use Rattle.tm_ground.specs.Limits.{depth_limit, ref_limit, type_limit};
+ghost use Rattle.tm_ground.specs.Occurs.{node_limit};
 
 use tm_base::LimitKind;
 
@@ -22,4 +23,11 @@ pub fn depth_limit() -> usize
     ensures { result ≡ depth_limit }
 {
     LimitKind::Depth.number() as usize
+}
+
+/// How many nodes a type may have.
+pub fn node_limit() -> usize
+    ensures { result ≡ node_limit }
+{
+    LimitKind::ClosedNodes.number() as usize
 }

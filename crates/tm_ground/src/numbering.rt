@@ -1,118 +1,74 @@
-ghost use Rattle.std.specs.Prelude.{◌≡◌, ◌<◌, ◌^◌, map, Contains, IfOk, IfSome, length, Some, slice_get};
+ghost use Rattle.std.specs.Prelude.{◌≡◌, ◌<◌, ◌^◌, Contains, IfOk, length, Some, slice_get};
 ghost use Rattle.std.specs.List.{AllZip};
-ghost use Rattle.tm_ground.specs.Closed.{as_elements, named, put_in, region_of, tuple};
-ghost use Rattle.tm_ground.specs.Keys.{closed_types, named_types};
-ghost use Rattle.tm_ground.specs.Numbered.{HasNumbers, HaveNumbers, IsNumbered};
+ghost use Rattle.tm_ground.specs.Closed.{as_elements, closed, tuple};
+ghost use Rattle.tm_ground.specs.Found.{HasNumbersIn, HaveNumbersIn, IsNumberedIn};
+ghost use Rattle.tm_ground.specs.Sets.{closed_types, types_in};
 
-use crate::named_set::NamedSet;
-use crate::refs::place_of;
+use crate::found::Found;
+use crate::type_set::TypeSet;
 use std::alloc::Global;
-use tm_base::{Boxed, DefId, Ground, List, Memory, NamedId, RefId, RegionId};
-use tm_names::{Life, Open};
+use tm_base::{Boxed, Ground, List, Memory, NamedId, RefId};
+use tm_names::Open;
 
-/// The number of a named type.
-fn named_number(
-    alloc: Global,
-    found: &NamedSet,
-    regions: &[RegionId],
-    def: DefId,
-    lives: &[Life],
-) -> Result<NamedId, Memory>
-    requires few { length (named_types found.now) < 2 ^ 32 }
-    requires there { Contains (named_types found.now) (named def (map (region_of regions.now) lives.now)) }
-    ensures { IfOk result (λ id. slice_get (named_types found.now) id.0 ≡ Some (named def (map (region_of regions.now) lives.now))) }
+/// The place of a type that is in a set.
+fn place(alloc: Global, set: &TypeSet, ty: &Open) -> Result<u32, Memory>
+    requires few { length (types_in set.now) < 2 ^ 32 }
+    requires there { Contains (types_in set.now) (closed ty.now) }
+    ensures { IfOk result (λ k. slice_get (types_in set.now) k ≡ Some (closed ty.now)) }
 {
-    match found.place_of(alloc, regions, def, lives) {
-        Ok(Some(place)) => Ok(NamedId(place as u32)),
-        Ok(None) => unreachable!(),
-        Err(memory) => Err(memory),
-    }
-}
-
-/// The number of a reference type.
-fn ref_number(refs: &[Open], regions: &[RegionId], written: &Open) -> RefId
-    requires few { length (closed_types refs.now) < 2 ^ 32 }
-    requires there { Contains (closed_types refs.now) (put_in regions.now written.now) }
-    ensures { slice_get (closed_types refs.now) result.0 ≡ Some (put_in regions.now written.now) }
-{
-    match place_of(refs, regions, written) {
-        Some(place) => RefId(place as u32),
+    match set.place_of(alloc, ty)? {
+        Some(place) => Ok(place as u32),
         None => unreachable!(),
     }
 }
 
-/// A type with its numbers.
+/// A type with its numbers. A parameter to which nothing is given is `!`.
 #[cycle(numbered)]
-pub fn numbered(
-    alloc: Global,
-    found: &NamedSet,
-    refs: &[Open],
-    regions: &[RegionId],
-    written: &Open,
-) -> Result<Ground, Memory>
-    requires { HasNumbers (named_types found.now) (closed_types refs.now) (put_in regions.now written.now) }
-    ensures { IfOk result (λ g. IsNumbered (named_types found.now) (closed_types refs.now) (put_in regions.now written.now) g) }
+pub fn numbered(alloc: Global, found: &Found, ty: &Open) -> Result<Ground, Memory>
+    requires { HasNumbersIn found.now (closed ty.now) }
+    ensures { IfOk result (IsNumberedIn found.now (closed ty.now)) }
 {
-    match written {
+    match ty {
         Open::Prim(primitive) => Ok(Ground::Prim(*primitive)),
         Open::Never => Ok(Ground::Never),
-        Open::Tuple(elements) => {
-            numbered_tuple(alloc, found, refs, regions, elements.as_slice())
-        }
+        Open::Param(_) => Ok(Ground::Never),
+        Open::Tuple(elements) => numbered_tuple(alloc, found, elements.as_slice()),
         Open::Array(element, length) => {
-            let element = numbered(alloc, found, refs, regions, element.get())?;
+            let element = numbered(alloc, found, element.get())?;
             Ok(Ground::Array(Boxed::new(alloc, element)?, *length))
         }
         Open::NonZero(primitive) => Ok(Ground::NonZero(*primitive)),
         Open::Wrap(wrapper, argument) => {
-            let argument = numbered(alloc, found, refs, regions, argument.get())?;
+            let argument = numbered(alloc, found, argument.get())?;
             Ok(Ground::Wrap(*wrapper, Boxed::new(alloc, argument)?))
         }
-        Open::Named(def, lives) => {
-            let id = named_number(alloc, found, regions, *def, lives.as_slice())?;
-            Ok(Ground::Named(id))
-        }
-        Open::Ref(_, _, _) => Ok(Ground::Ref(ref_number(refs, regions, written))),
+        Open::Named(_, _, _) => Ok(Ground::Named(NamedId(place(alloc, &found.named, ty)?))),
+        Open::Ref(_, _, _) => Ok(Ground::Ref(RefId(place(alloc, &found.refs, ty)?))),
     }
 }
 
 /// A tuple with its numbers.
 #[cycle(numbered)]
-fn numbered_tuple(
-    alloc: Global,
-    found: &NamedSet,
-    refs: &[Open],
-    regions: &[RegionId],
-    elements: &[Open],
-) -> Result<Ground, Memory>
-    requires { HaveNumbers (named_types found.now) (closed_types refs.now) (map (put_in regions.now) elements.now) }
-    ensures { IfOk result (λ g. IsNumbered (named_types found.now) (closed_types refs.now) (tuple (as_elements (map (put_in regions.now) elements.now))) g) }
+fn numbered_tuple(alloc: Global, found: &Found, elements: &[Open]) -> Result<Ground, Memory>
+    requires { HaveNumbersIn found.now (closed_types elements.now) }
+    ensures { IfOk result (IsNumberedIn found.now (tuple (as_elements (closed_types elements.now)))) }
 {
     if elements.is_empty() {
         return Ok(Ground::Unit);
     }
-    let elements = all_numbered(alloc, found, refs, regions, elements)?;
+    let elements = all_numbered(alloc, found, elements)?;
     Ok(Ground::Tuple(elements))
 }
 
 /// Types with their numbers, in order.
 #[cycle(numbered)]
-pub fn all_numbered(
-    alloc: Global,
-    found: &NamedSet,
-    refs: &[Open],
-    regions: &[RegionId],
-    types: &[Open],
-) -> Result<List<Ground>, Memory>
-    requires { HaveNumbers (named_types found.now) (closed_types refs.now) (map (put_in regions.now) types.now) }
-    ensures { IfOk result (λ gs. AllZip (IsNumbered (named_types found.now) (closed_types refs.now)) (map (put_in regions.now) types.now) gs) }
+pub fn all_numbered(alloc: Global, found: &Found, types: &[Open]) -> Result<List<Ground>, Memory>
+    requires { HaveNumbersIn found.now (closed_types types.now) }
+    ensures { IfOk result (AllZip (IsNumberedIn found.now) (closed_types types.now)) }
 {
     let mut all = List::new(alloc);
-    for item in types {
-        let item = numbered(alloc, found, refs, regions, item)?;
-        let Ok(()) = all.push(item) else {
-            return Err(Memory);
-        };
+    for ty in types {
+        all.add(numbered(alloc, found, ty)?)?;
     }
     Ok(all)
 }

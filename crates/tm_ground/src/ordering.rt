@@ -1,89 +1,102 @@
-ghost use Rattle.std.specs.Prelude.{◌≡◌, [], All, map, IfOk};
-ghost use Rattle.tm_base.specs.declared.ground.Ground.{Ref};
-ghost use Rattle.tm_base.specs.Texts.{text_of};
-ghost use Rattle.tm_base.specs.Worlds.{tables_of};
-ghost use Rattle.tm_ground.specs.Closed.{put_in};
-ghost use Rattle.tm_ground.specs.ClosedTexts.{type_of_texted, AreInOrder, HasItsText};
-ghost use Rattle.tm_ground.specs.Closing.{AreWhole};
-ghost use Rattle.tm_names.specs.InForm.{IsInForm};
-ghost use Rattle.tm_ground.specs.Keys.{closed_types, named_types};
+ghost use Rattle.std.specs.Prelude.{◌≡◌, All, map, IfOk};
+ghost use Rattle.std.specs.List.Sorted.{IsPermutation};
+ghost use Rattle.tm_base.specs.Whole.{AreDistinct};
+ghost use Rattle.tm_ground.specs.Closed.{closed};
+ghost use Rattle.tm_ground.specs.ClosedTexts.{AreInOrder};
+ghost use Rattle.tm_ground.specs.Found.{AreSortedIn, HasItsTextIn, HasNumbersIn, HaveNumbersIn, IsAllOf};
 ghost use Rattle.tm_ground.specs.Limits.{PassesDepth};
+ghost use Rattle.tm_ground.specs.Sets.{closed_types, types_in};
+ghost use Rattle.tm_ground.specs.Texted.{type_of_texted};
+ghost use Rattle.tm_names.specs.InForm.{IsInForm};
 
-use crate::named_set::NamedSet;
+use crate::found::Found;
+use crate::numbering::numbered;
 use crate::regions::fixed;
+use crate::type_set::TypeSet;
 use crate::worlds::make_world;
 use std::alloc::Global;
-use tm_base::{Ground, List, Memory, RefId, Text, World, text_of};
+use tm_base::{List, Memory, Text, World, text_of};
 use tm_names::{Open, Resolved};
 
-/// A reference type and its canonical text.
+/// A type and its canonical text.
 #[derive(Debug, Drop)]
 pub struct Texted {
     text: Text,
-    written: Open,
+    ty: Open,
 }
 
-/// A reference type with the text of the world's reference with that number.
-fn with_text(alloc: Global, world: &World, number: RefId, written: &Open) -> Result<Texted, Memory>
-    ensures text { IfOk result (λ texted. texted.text ≡ text_of (tables_of world.now) (Ref number)) }
-    ensures same { IfOk result (λ texted. type_of_texted texted ≡ put_in [] written.now) }
+/// A type with its canonical text, where numbers are those of a world.
+fn with_text(alloc: Global, found: &Found, world: &World, ty: &Open) -> Result<Texted, Memory>
+    requires { HasNumbersIn found.now (closed ty.now) }
+    ensures text { IfOk result (HasItsTextIn found.now world.now) }
+    ensures same { IfOk result (λ texted. type_of_texted texted ≡ closed ty.now) }
 {
-    let text = text_of(alloc, world, &Ground::Ref(number))?;
-    let written = fixed(alloc, &[], written)?;
-    Ok(Texted { text, written })
+    let number = numbered(alloc, found, ty)?;
+    Ok(Texted {
+        text: text_of(alloc, world, &number)?,
+        ty: fixed(alloc, &[], &[], ty)?,
+    })
 }
 
-/// The reference types that occur, each with its canonical text.
+/// Types, each with its canonical text.
 fn with_texts(
     alloc: Global,
-    resolved: &Resolved,
-    found: &NamedSet,
-    refs: &[Open],
+    found: &Found,
+    world: &World,
+    types: &[Open],
 ) -> Result<Vec<Texted>, Memory>
-    requires form { IsInForm resolved.now }
-    requires whole { AreWhole resolved.now (named_types found.now) (closed_types refs.now) }
-    requires shallow { ¬ PassesDepth resolved.now }
-    ensures types { IfOk result (λ all. map type_of_texted all.items ≡ closed_types refs.now) }
-    ensures texts { IfOk result (λ all. All (HasItsText resolved.now) all.items) }
+    requires { HaveNumbersIn found.now (closed_types types.now) }
+    ensures types { IfOk result (λ all. map type_of_texted all.items ≡ closed_types types.now) }
+    ensures texts { IfOk result (λ all. All (HasItsTextIn found.now world.now) all.items) }
 {
-    let world = make_world(alloc, resolved, found, refs)?;
     let mut all = Vec::new(alloc);
-    for (place, written) in refs.iter().enumerate() {
-        let texted = with_text(alloc, &world, RefId(place as u32), written)?;
-        let Ok(()) = all.push(texted) else {
-            return Err(Memory);
-        };
+    for ty in types {
+        all.push(with_text(alloc, found, world, ty)?)?;
     }
     Ok(all)
 }
 
 /// The types, without their texts.
 fn without_texts(alloc: Global, all: Vec<Texted>) -> Result<List<Open>, Memory>
-    ensures { IfOk result (λ types. types ≡ map (λ texted. texted.written) all.items) }
+    ensures { IfOk result (λ types. types ≡ map (λ texted. texted.ty) all.items) }
 {
     let mut types = List::new(alloc);
     for texted in all {
-        let Ok(()) = types.push(texted.written) else {
-            return Err(Memory);
-        };
+        types.add(texted.ty)?;
     }
     Ok(types)
 }
 
-/// The reference types that occur, in byte order of their canonical texts.
-pub fn in_order(
+/// The types of a set, in byte order of their canonical texts.
+fn in_text_order(
     alloc: Global,
-    resolved: &Resolved,
-    found: &NamedSet,
-    refs: &[Open],
-) -> Result<List<Open>, Memory>
-    requires form { IsInForm resolved.now }
-    requires whole { AreWhole resolved.now (named_types found.now) (closed_types refs.now) }
-    requires shallow { ¬ PassesDepth resolved.now }
-    ensures whole { IfOk result (λ ordered. AreWhole resolved.now (named_types found.now) (closed_types ordered)) }
-    ensures sorted { IfOk result (λ ordered. AreInOrder resolved.now (closed_types ordered)) }
+    found: &Found,
+    world: &World,
+    set: &TypeSet,
+) -> Result<TypeSet, Memory>
+    requires numbers { HaveNumbersIn found.now (types_in set.now) }
+    requires distinct { AreDistinct (types_in set.now) }
+    ensures moved { IfOk result (λ ordered. IsPermutation (types_in set.now) (types_in ordered)) }
+    ensures sorted { IfOk result (λ ordered. AreSortedIn found.now world.now (types_in ordered)) }
 {
-    let mut all = with_texts(alloc, resolved, found, refs)?;
+    let mut all = with_texts(alloc, found, world, set.types())?;
     all.sort_unstable_by(|some, other| some.text.as_str().cmp(other.text.as_str()));
-    without_texts(alloc, all)
+    TypeSet::of(alloc, without_texts(alloc, all)?)
+}
+
+/// The types that occur, the named types and the references each in byte order of their canonical
+/// texts.
+pub fn in_order(alloc: Global, resolved: &Resolved, found: &Found) -> Result<Found, Memory>
+    requires form { IsInForm resolved.now }
+    requires whole { IsAllOf found.now resolved.now }
+    requires shallow { ¬ PassesDepth resolved.now }
+    ensures whole { IfOk result (λ ordered. IsAllOf ordered resolved.now) }
+    ensures named { IfOk result (λ ordered. AreInOrder resolved.now (types_in ordered.named)) }
+    ensures refs { IfOk result (λ ordered. AreInOrder resolved.now (types_in ordered.refs)) }
+{
+    let world = make_world(alloc, resolved, found)?;
+    Ok(Found {
+        named: in_text_order(alloc, found, &world, &found.named)?,
+        refs: in_text_order(alloc, found, &world, &found.refs)?,
+    })
 }

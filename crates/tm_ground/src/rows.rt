@@ -1,182 +1,131 @@
-ghost use Rattle.std.specs.Prelude.{◌≡◌, [], map, true, IfOk};
+ghost use Rattle.std.specs.Prelude.{◌≡◌, flat_map, map, true, All, IfOk};
 ghost use Rattle.std.specs.List.{AllZip};
-ghost use Rattle.tm_ground.specs.Closed.{named, put_in};
-ghost use Rattle.tm_ground.specs.Closing.{AreWhole};
-ghost use Rattle.tm_ground.specs.Keys.{closed_types, named_types};
-ghost use Rattle.tm_ground.specs.Limits.{is_ref};
-ghost use Rattle.tm_ground.specs.Numbered.{HasNumbers, HaveNumbers, IsNumbered};
-ghost use Rattle.tm_ground.specs.Occurs.{all_fields, fields_of, sides_of, asked_in};
-ghost use Rattle.tm_ground.specs.Rows.{AreFields, IsAsk, IsNamedRow, IsRefRow};
+ghost use Rattle.tm_ground.specs.Closed.{closed};
+ghost use Rattle.tm_ground.specs.Found.{AreFieldsIn, HasNumbersIn, HaveNumbersIn, IsAllOf, IsAskIn, IsNamedRowIn, IsRefRowIn};
+ghost use Rattle.tm_ground.specs.Limits.{is_named, is_ref};
+ghost use Rattle.tm_ground.specs.Occurs.{parts_of, sides_of};
+ghost use Rattle.tm_ground.specs.Sets.{closed_types, types_in};
 
-use crate::named_set::NamedSet;
+use crate::fields::fields;
+use crate::found::Found;
 use crate::numbering::{all_numbered, numbered};
-use crate::regions::region;
+use crate::regions::{region, regions};
 use std::alloc::Global;
-use tm_base::{Ask, DefId, Ground, List, Memory, NamedRow, RefRow, RegionId};
+use tm_base::{Ask, Ground, List, Memory, NamedRow, RefRow};
 use tm_names::{Open, OpenAsk, Resolved};
 
 /// The types of the fields of some variants, with their numbers.
-fn numbered_variants(
+fn numbered_fields(
     alloc: Global,
-    found: &NamedSet,
-    refs: &[Open],
-    regions: &[RegionId],
+    found: &Found,
     variants: &[List<Open>],
 ) -> Result<List<List<Ground>>, Memory>
-    requires { HaveNumbers (named_types found.now) (closed_types refs.now) (all_fields regions.now variants.now) }
-    ensures { IfOk result (λ types. AreFields (named_types found.now) (closed_types refs.now) (map (map (put_in regions.now)) variants.now) types) }
+    requires { HaveNumbersIn found.now (flat_map (λ types. types) (map closed_types variants.now)) }
+    ensures { IfOk result (AreFieldsIn found.now (map closed_types variants.now)) }
 {
     let mut all = List::new(alloc);
     for types in variants {
-        let types = all_numbered(alloc, found, refs, regions, types.as_slice())?;
-        let Ok(()) = all.push(types) else {
-            return Err(Memory);
-        };
+        all.add(all_numbered(alloc, found, types.as_slice())?)?;
     }
     Ok(all)
 }
 
 /// The row of a named type.
+#[tactic(auto, using(crate::proofs::OpenLemmas::put_ins))]
 fn named_row(
     alloc: Global,
     resolved: &Resolved,
-    found: &NamedSet,
-    refs: &[Open],
-    def: DefId,
-    regions: List<RegionId>,
+    found: &Found,
+    ty: &Open,
 ) -> Result<NamedRow, Memory>
-    requires { HaveNumbers (named_types found.now) (closed_types refs.now) (fields_of resolved.now def regions) }
-    ensures { IfOk result (λ row. IsNamedRow (named_types found.now) (closed_types refs.now) resolved.now (named def regions) row) }
+    requires kind { is_named (closed ty.now) ≡ true }
+    requires numbers { HaveNumbersIn found.now (parts_of resolved.now (closed ty.now)) }
+    ensures { IfOk result (IsNamedRowIn found.now resolved.now (closed ty.now)) }
 {
-    let types = match resolved.types.get(def.0 as usize) {
-        Some(variants) => {
-            numbered_variants(alloc, found, refs, regions.as_slice(), variants.as_slice())?
+    match ty {
+        Open::Named(def, lives, args) => {
+            let fields = fields(alloc, resolved, ty)?;
+            Ok(NamedRow {
+                def: *def,
+                regions: regions(alloc, lives.as_slice())?,
+                args: all_numbered(alloc, found, args.as_slice())?,
+                types: numbered_fields(alloc, found, fields.as_slice())?,
+            })
         }
-        None => List::new(alloc),
-    };
-    Ok(NamedRow {
-        def,
-        regions,
-        args: List::new(alloc),
-        types,
-    })
+        Open::Prim(_) | Open::Never | Open::Tuple(_) | Open::Array(_, _) => unreachable!(),
+        Open::NonZero(_) | Open::Wrap(_, _) | Open::Ref(_, _, _) => unreachable!(),
+        Open::Param(_) => unreachable!(),
+    }
+}
+
+/// The row of a reference type.
+#[tactic(auto, using(crate::proofs::OpenLemmas::put_ins))]
+fn ref_row(alloc: Global, found: &Found, ty: &Open) -> Result<RefRow, Memory>
+    requires kind { is_ref (closed ty.now) ≡ true }
+    requires numbers { HasNumbersIn found.now (closed ty.now) }
+    ensures { IfOk result (IsRefRowIn found.now (closed ty.now)) }
+{
+    match ty {
+        Open::Ref(life, mutable, pointee) => Ok(RefRow {
+            mutable: *mutable,
+            region: region(&[], *life),
+            pointee: numbered(alloc, found, pointee.get())?,
+        }),
+        Open::Prim(_) | Open::Never | Open::Tuple(_) | Open::Array(_, _) => unreachable!(),
+        Open::NonZero(_) | Open::Wrap(_, _) | Open::Named(_, _, _) => unreachable!(),
+        Open::Param(_) => unreachable!(),
+    }
 }
 
 /// A question with the numbers of its types.
-fn numbered_ask(
-    alloc: Global,
-    found: &NamedSet,
-    refs: &[Open],
-    ask: &OpenAsk,
-) -> Result<Ask, Memory>
-    requires { HaveNumbers (named_types found.now) (closed_types refs.now) (sides_of ask.now) }
-    ensures { IfOk result (λ numbered. IsAsk (named_types found.now) (closed_types refs.now) ask.now numbered) }
+fn numbered_ask(alloc: Global, found: &Found, ask: &OpenAsk) -> Result<Ask, Memory>
+    requires { HaveNumbersIn found.now (sides_of ask.now) }
+    ensures { IfOk result (IsAskIn found.now ask.now) }
 {
-    let src = numbered(alloc, found, refs, &[], &ask.src)?;
-    let dst = numbered(alloc, found, refs, &[], &ask.dst)?;
     Ok(Ask {
-        src,
-        dst,
+        src: numbered(alloc, found, &ask.src)?,
+        dst: numbered(alloc, found, &ask.dst)?,
         assume: ask.assume,
     })
-}
-
-/// The questions with the numbers of their types.
-fn numbered_asks(
-    alloc: Global,
-    found: &NamedSet,
-    refs: &[Open],
-    asks: &[OpenAsk],
-) -> Result<List<Ask>, Memory>
-    requires { HaveNumbers (named_types found.now) (closed_types refs.now) (asked_in asks.now) }
-    ensures { IfOk result (λ all. AllZip (IsAsk (named_types found.now) (closed_types refs.now)) asks.now all) }
-{
-    let mut all = List::new(alloc);
-    for ask in asks {
-        let ask = numbered_ask(alloc, found, refs, ask)?;
-        let Ok(()) = all.push(ask) else {
-            return Err(Memory);
-        };
-    }
-    Ok(all)
 }
 
 /// The rows of the named types, in their order.
 pub fn named_rows(
     alloc: Global,
     resolved: &Resolved,
-    found: &NamedSet,
-    refs: &[Open],
+    found: &Found,
 ) -> Result<List<NamedRow>, Memory>
-    requires { AreWhole resolved.now (named_types found.now) (closed_types refs.now) }
-    ensures { IfOk result (λ rows. AllZip (IsNamedRow (named_types found.now) (closed_types refs.now) resolved.now) (named_types found.now) rows) }
+    requires { IsAllOf found.now resolved.now }
+    ensures { IfOk result (AllZip (IsNamedRowIn found.now resolved.now) (types_in found.now.named)) }
 {
     let mut rows = List::new(alloc);
-    for place in 0..found.len() {
-        let (def, regions) = match found.get(alloc, place) {
-            Ok(Some(row)) => row,
-            Ok(None) => unreachable!(),
-            Err(memory) => return Err(memory),
-        };
-        let row = named_row(alloc, resolved, found, refs, def, regions)?;
-        let Ok(()) = rows.push(row) else {
-            return Err(Memory);
-        };
+    for ty in found.named.types() {
+        rows.add(named_row(alloc, resolved, found, ty)?)?;
     }
     Ok(rows)
 }
 
-/// The row of a reference type.
-#[tactic(auto, using(crate::proofs::OpenLemmas::put_ins))]
-fn ref_row(alloc: Global, found: &NamedSet, refs: &[Open], written: &Open) -> Result<RefRow, Memory>
-    requires kind { is_ref (put_in [] written.now) ≡ true }
-    requires numbers { HasNumbers (named_types found.now) (closed_types refs.now) (put_in [] written.now) }
-    ensures { IfOk result (λ row. IsRefRow (named_types found.now) (closed_types refs.now) (put_in [] written.now) row) }
-{
-    match written {
-        Open::Ref(life, mutable, pointee) => {
-            let pointee = numbered(alloc, found, refs, &[], pointee.get())?;
-            Ok(RefRow {
-                mutable: *mutable,
-                region: region(&[], *life),
-                pointee,
-            })
-        }
-        Open::Prim(_) | Open::Never | Open::Tuple(_) | Open::Array(_, _) => unreachable!(),
-        Open::NonZero(_) | Open::Wrap(_, _) | Open::Named(_, _) => unreachable!(),
-    }
-}
-
 /// The rows of the reference types, in their order.
-pub fn ref_rows(
-    alloc: Global,
-    resolved: &Resolved,
-    found: &NamedSet,
-    refs: &[Open],
-) -> Result<List<RefRow>, Memory>
-    requires { AreWhole resolved.now (named_types found.now) (closed_types refs.now) }
-    ensures { IfOk result (λ rows. AllZip (IsRefRow (named_types found.now) (closed_types refs.now)) (closed_types refs.now) rows) }
+pub fn ref_rows(alloc: Global, found: &Found) -> Result<List<RefRow>, Memory>
+    requires kind { All (λ c. is_ref c ≡ true) (types_in found.now.refs) }
+    requires numbers { HaveNumbersIn found.now (types_in found.now.refs) }
+    ensures { IfOk result (AllZip (IsRefRowIn found.now) (types_in found.now.refs)) }
 {
-    let _resolved = resolved;
     let mut rows = List::new(alloc);
-    for written in refs {
-        let row = ref_row(alloc, found, refs, written)?;
-        let Ok(()) = rows.push(row) else {
-            return Err(Memory);
-        };
+    for ty in found.refs.types() {
+        rows.add(ref_row(alloc, found, ty)?)?;
     }
     Ok(rows)
 }
 
 /// The questions of a file with the numbers of their types.
-pub fn questions(
-    alloc: Global,
-    resolved: &Resolved,
-    found: &NamedSet,
-    refs: &[Open],
-) -> Result<List<Ask>, Memory>
-    requires { AreWhole resolved.now (named_types found.now) (closed_types refs.now) }
-    ensures { IfOk result (λ all. AllZip (IsAsk (named_types found.now) (closed_types refs.now)) resolved.now.asks all) }
+pub fn questions(alloc: Global, resolved: &Resolved, found: &Found) -> Result<List<Ask>, Memory>
+    requires { IsAllOf found.now resolved.now }
+    ensures { IfOk result (AllZip (IsAskIn found.now) resolved.now.asks) }
 {
-    numbered_asks(alloc, found, refs, resolved.asks.as_slice())
+    let mut all = List::new(alloc);
+    for ask in resolved.asks.as_slice() {
+        all.add(numbered_ask(alloc, found, ask)?)?;
+    }
+    Ok(all)
 }

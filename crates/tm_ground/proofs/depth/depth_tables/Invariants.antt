@@ -1,5 +1,7 @@
-use Rattle.tm_ground.specs.Depths.{AreDepths}
+use Rattle.std.proofs.Common.{◌≡◌, length}
+use Rattle.tm_ground.specs.Depths.{TellDepths}
 use Rattle.tm_ground.proofs.depth.depth_tables.Given as goal
 
+-- there are so many tables, and they tell as many depths
 abbrev pub invariant-loop-number : goal.invariant-loop-number
-invariant-loop-number l = AreDepths l.resolved l.number l.tables
+invariant-loop-number l = (length l.tables ≡ l.number) × TellDepths l.named l.number l.tables

@@ -1,24 +1,26 @@
-use Rattle.std.proofs.Common.{subst, Err}
-use Rattle.tm_ground.specs.Closing.{FindsRefs, TellsDepth}
-use Rattle.tm_ground.specs.Keys.{closed_types, named_types}
+use Rattle.std.proofs.Common.{subst}
+use Rattle.tm_ground.specs.Depths.{TellsDepth}
+use Rattle.tm_ground.specs.Sets.{types_in}
 use Rattle.tm_ground.proofs.BelongsLemmas.{belongs}
-use Rattle.tm_ground.proofs.PigeonLemmas.{whole-fits}
-use Rattle.tm_ground.specs.Limits.{type_limit, ref_limit}
+use Rattle.tm_ground.proofs.CollectedLemmas.{no-more-types, no-more-refs}
 use Rattle.tm_ground.proofs.grounding.ground.Goals as goal
 
-pub returns-in-Err-Full-occurring_refs-clause-cause : goal.returns-in-Err-Full-occurring_refs-clause-cause
-returns-in-Err-Full-occurring_refs-clause-cause c = (whole-fits type_limit _ _ c.in-Ok.ensures.found, subst (λ stop. FindsRefs c.args.resolved.now (Err stop)) c.in-Err-Full-occurring_refs.field-0-is c.in-Err-Full-occurring_refs.ensures)
+pub returns-then-branch-clause-cause : goal.returns-then-branch-clause-cause
+returns-then-branch-clause-cause c =
+    let whole = c.in_ok-found.ensures.whole in
+    (no-more-types _ _ _ whole, whole.small, no-more-refs _ _ _ whole, subst (TellsDepth c.args.resolved.now) c.if-branch.true c.in_ok-is_too_deep.ensures)
 
-pub returns-in-Ok-true-clause-cause : goal.returns-in-Ok-true-clause-cause
-returns-in-Ok-true-clause-cause c = (whole-fits type_limit _ _ c.in-Ok.ensures.found, whole-fits ref_limit _ _ c.in-Ok-occurring_refs.ensures, subst (TellsDepth c.args.resolved.now) c.in-Ok-true.field-0-test c.in-Ok-true.ensures)
+pub returns-in-Ok-clause-world : goal.returns-in-Ok-clause-world
+returns-in-Ok-clause-world c =
+    let ordered = c.in_ok-ordered.ordered in
+    belongs c.args.resolved.now c.requires.form (types_in ordered.named) (types_in ordered.refs) c.in_ok-ordered.ensures.whole c.in-Ok.world c.in-Ok.ensures c.requires.names c.in_ok-ordered.ensures.named c.in_ok-ordered.ensures.refs
 
-pub returns-clause-world : goal.returns-clause-world
-returns-clause-world c =
-    belongs c.args.resolved.now c.requires.form (named_types c.in-Ok.found) (closed_types c.in-Ok-in_order.ordered) c.in-Ok-in_order.ensures.whole c.in-Ok-make_world.world (rw c.as_slice-2.ensures at c.in-Ok-make_world.ensures) c.requires.names c.in-Ok.ensures.sorted c.in-Ok-in_order.ensures.sorted
-
-pub returns-clause-fits : goal.returns-clause-fits
-returns-clause-fits c = record {
-  types = whole-fits type_limit _ _ c.in-Ok.ensures.found;
-  refs = whole-fits ref_limit _ _ c.in-Ok-occurring_refs.ensures;
-  depth = subst (TellsDepth c.args.resolved.now) c.in-Ok-false.field-0-test c.in-Ok-false.ensures;
-}
+pub returns-in-Ok-clause-fits : goal.returns-in-Ok-clause-fits
+returns-in-Ok-clause-fits c =
+    let whole = c.in_ok-found.ensures.whole in
+    record {
+      types = no-more-types _ _ _ whole;
+      nodes = whole.small;
+      refs = no-more-refs _ _ _ whole;
+      depth = subst (TellsDepth c.args.resolved.now) c.if-branch.false c.in_ok-is_too_deep.ensures;
+    }

@@ -1,16 +1,18 @@
-use Rattle.std.proofs.Common.{sym, ap, subst, ◌∙◌, All}
+use Rattle.std.proofs.Common.{sym, subst, All}
 use Rattle.std.proofs.lemmas.List.Elements.{All-push}
-use Rattle.tm_ground.specs.ClosedTexts.{closed_text, HasItsText}
-use Rattle.tm_ground.specs.Keys.{named_types}
-use Rattle.tm_ground.proofs.OrderLemmas.{text-at, types-more}
+use Rattle.tm_ground.specs.Closed.{closed}
+use Rattle.tm_ground.specs.Sets.{types_in}
+use Rattle.tm_ground.specs.Texted.{HasItsText}
+use Rattle.tm_ground.proofs.NumberLemmas.{contains-map}
+use Rattle.tm_ground.proofs.OrderLemmas.{types-more}
 use Rattle.tm_ground.proofs.ordering.with_texts.Goals as goal
 
-pub loop-place-preserved : goal.loop-place-preserved
-loop-place-preserved c =
-    let file = c.args.resolved.now in
-    let refs = c.args.refs.now in
-    let at = text-at file c.requires.form (named_types c.args.found.now) refs c.requires.whole c.in_ok-world.world c.in_ok-world.ensures c.loop-place.place c.index-refs-place.result c.loop-place-test.true c.index-refs-place.is in
-    let fits : HasItsText file c.in_ok-texted.texted = c.in_ok-texted.ensures.text ∙ at ∙ ap (closed_text file) (sym c.in_ok-texted.ensures.same) in (
-      types-more refs c.loop-place.place c.loop-place.all.items _ c.index-refs-place.result c.in_ok-texted.texted c.loop-place-test.true c.index-refs-place.is c.loop-place.invariant.0 c.in_ok-texted.ensures.same c.in-Ok.ensures.items,
-      subst (All (HasItsText file)) (sym c.in-Ok.ensures.items) (All-push (HasItsText file) c.loop-place.all.items c.in_ok-texted.texted c.loop-place.invariant.1 fits),
-    )
+pub with_text-requires : goal.with_text-requires
+with_text-requires c = c.requires.each _ (contains-map closed c.args.types.now c.loop-ty.ty-index c.ty-item.result c.loop-ty-test.true c.ty-item.is)
+
+pub loop-ty-preserved : goal.loop-ty-preserved
+loop-ty-preserved c = (
+  types-more c.args.types.now c.loop-ty.ty-index c.loop-ty.all.items _ c.ty-item.result c.in_ok-with_text.field-0 c.loop-ty-test.true c.ty-item.is c.loop-ty.invariant.0 c.in_ok-with_text.ensures.same c.in_ok-push.ensures.items,
+  subst (All (HasItsText (types_in c.args.found.now.named) (types_in c.args.found.now.refs) c.args.world.now)) (sym c.in_ok-push.ensures.items)
+      (All-push (HasItsText (types_in c.args.found.now.named) (types_in c.args.found.now.refs) c.args.world.now) c.loop-ty.all.items c.in_ok-with_text.field-0 c.loop-ty.invariant.1 c.in_ok-with_text.ensures.text),
+)

@@ -1,8 +1,9 @@
 use Rattle.std.proofs.Common.{◌≡◌, map, take, All}
-use Rattle.tm_ground.specs.ClosedTexts.{type_of_texted, HasItsText}
-use Rattle.tm_ground.specs.Keys.{closed_types}
+use Rattle.tm_ground.specs.Sets.{closed_types, types_in}
+use Rattle.tm_ground.specs.Texted.{type_of_texted, HasItsText}
 use Rattle.tm_ground.proofs.ordering.with_texts.Given as goal
 
 -- the first types are there, each with its text
-abbrev pub invariant-loop-place : goal.invariant-loop-place
-invariant-loop-place l = (map type_of_texted l.all.items ≡ closed_types (take l.place l.refs)) × All (HasItsText l.resolved) l.all.items
+abbrev pub invariant-loop-ty : goal.invariant-loop-ty
+invariant-loop-ty l =
+    (map type_of_texted l.all.items ≡ closed_types (take l.ty-index l.types)) × All (HasItsText (types_in l.found.named) (types_in l.found.refs) l.world) l.all.items

@@ -1,0 +1,62 @@
+use Rattle.std.proofs.Common.{◌≡◌, ◌+◌, arith, append_assoc}
+use Rattle.tm_ground.proofs.SizeLemmas.{size_of, sizes_of, size_of-at, size-Tuple, size-Array, size-Wrap, size-Named, size-Ref}
+use Rattle.tm_ground.proofs.CodeLemmas.{code-Prim, code-Tuple, code-Array, code-NonZero, code-Wrap, code-Named, code-Ref}
+use Rattle.tm_ground.proofs.code.Code.+add.Goals as goal
+
+pub add_all-add-requires : goal.add_all-add-requires
+add_all-add-requires t c =
+    let h = size_of-at c.args.types.now c.loop-item.item-index c.item-item.result c.loop-item-test.true c.item-item.is in
+    (omega (arith, h), tt)
+
+pub add-add_all-requires : goal.add-add_all-requires
+add-add_all-requires t c =
+    let same : size_of c.args.ty.now ≡ 1 + sizes_of c.as_slice.result.now = rw (c.in-Tuple.is, c.as_slice.ensures) (size-Tuple _) in
+    (omega (arith, same), tt)
+
+pub add-add-requires : goal.add-add-requires
+add-add-requires t c =
+    let same : size_of c.args.ty.now ≡ 1 + size_of c.get.result.now = rw (c.in-Array.is, c.get.ensures) (size-Array _ _) in
+    (omega (arith, same), tt)
+
+pub add-add-requires-in-Wrap : goal.add-add-requires-in-Wrap
+add-add-requires-in-Wrap t c =
+    let same : size_of c.args.ty.now ≡ 1 + size_of c.get-in-Wrap.result.now = rw (c.in-Wrap.is, c.get-in-Wrap.ensures) (size-Wrap _ _) in
+    (omega (arith, same), tt)
+
+pub add-add_all-requires-in-Named : goal.add-add_all-requires-in-Named
+add-add_all-requires-in-Named t c =
+    let same : size_of c.args.ty.now ≡ 1 + sizes_of c.as_slice-in-Named-2.result.now = rw (c.in-Named.is, c.as_slice-in-Named-2.ensures) (size-Named _ _ _) in
+    (omega (arith, same), tt)
+
+pub add-add-requires-in-Ref : goal.add-add-requires-in-Ref
+add-add-requires-in-Ref t c =
+    let same : size_of c.args.ty.now ≡ 1 + size_of c.get-in-Ref.result.now = rw (c.in-Ref.is, c.get-in-Ref.ensures) (size-Ref _ _ _) in
+    (omega (arith, same), tt)
+
+pub add-returns-in_ok-add_number-in-Prim : goal.add-returns-in_ok-add_number-in-Prim
+add-returns-in_ok-add_number-in-Prim t c =
+    rw (c.in-Prim.is, code-Prim) (rw (c.in_ok-add_number-in-Prim.ensures, c.number_of_primitive.ensures, append_assoc) at c.add_number-in-Prim.ensures)
+
+pub add-returns-in_ok-add_number-in-NonZero : goal.add-returns-in_ok-add_number-in-NonZero
+add-returns-in_ok-add_number-in-NonZero t c =
+    rw (c.in-NonZero.is, code-NonZero) (rw (c.in_ok-add_number-in-NonZero.ensures, c.number_of_primitive-in-NonZero.ensures, append_assoc) at c.add_number-in-NonZero-2.ensures)
+
+pub add-returns-in_ok-add_number-in-Tuple : goal.add-returns-in_ok-add_number-in-Tuple
+add-returns-in_ok-add_number-in-Tuple t c =
+    rw (c.in-Tuple.is, code-Tuple) (rw (c.in_ok-add_number-in-Tuple.ensures, c.as_slice.ensures, append_assoc) at c.add_all.ensures)
+
+pub add-returns-in_ok-add_number-in-Array-2 : goal.add-returns-in_ok-add_number-in-Array-2
+add-returns-in_ok-add_number-in-Array-2 t c =
+    rw (c.in-Array.is, code-Array) (rw (c.in_ok-add_number-in-Array-2.ensures, c.in_ok-add_number-in-Array.ensures, c.get.ensures, append_assoc, append_assoc) at c.add.ensures)
+
+pub add-returns-in_ok-add_number-in-Wrap-2 : goal.add-returns-in_ok-add_number-in-Wrap-2
+add-returns-in_ok-add_number-in-Wrap-2 t c =
+    rw (c.in-Wrap.is, code-Wrap) (rw (c.in_ok-add_number-in-Wrap-2.ensures, c.in_ok-add_number-in-Wrap.ensures, c.number_of_wrapper.ensures, c.get-in-Wrap.ensures, append_assoc, append_assoc) at c.add-in-Wrap.ensures)
+
+pub add-returns-in_ok-add_lives-in-Named : goal.add-returns-in_ok-add_lives-in-Named
+add-returns-in_ok-add_lives-in-Named t c =
+    rw (c.in-Named.is, code-Named) (rw (c.in_ok-add_lives-in-Named.ensures, c.in_ok-add_number-in-Named-2.ensures, c.in_ok-add_number-in-Named.ensures, c.as_slice-in-Named.ensures, c.as_slice-in-Named-2.ensures, append_assoc, append_assoc, append_assoc) at c.add_all-in-Named.ensures)
+
+pub add-returns-in_ok-add_number-in-Ref-3 : goal.add-returns-in_ok-add_number-in-Ref-3
+add-returns-in_ok-add_number-in-Ref-3 t c =
+    rw (c.in-Ref.is, code-Ref) (rw (c.in_ok-add_number-in-Ref-3.ensures, c.in_ok-add_number-in-Ref-2.ensures, c.in_ok-add_number-in-Ref.ensures, c.region.ensures, c.number_of_flag.ensures, c.get-in-Ref.ensures, append_assoc, append_assoc, append_assoc) at c.add-in-Ref.ensures)

@@ -1,0 +1,60 @@
+-- Types, rows and questions by numbers, where a number is a place in one of the sets of what is found.
+use Rattle.std.specs.Prelude.{List}
+use Rattle.tm_base.specs.declared.ask.Ask.{Ask}
+use Rattle.tm_base.specs.declared.definition.NamedRow.{NamedRow}
+use Rattle.tm_base.specs.declared.definition.RefRow.{RefRow}
+use Rattle.tm_base.specs.declared.ground.Ground.{Ground}
+use Rattle.tm_base.specs.declared.world.World.{World}
+use Rattle.tm_names.specs.declared.resolved.OpenAsk.{OpenAsk}
+use Rattle.tm_names.specs.declared.resolved.Resolved.{Resolved}
+use Rattle.tm_ground.specs.declared.found.Found.{Found}
+use Rattle.tm_ground.specs.declared.ordering.Texted.{Texted}
+use Rattle.tm_ground.specs.Closed.{Closed}
+use Rattle.tm_ground.specs.Closing.{AreWhole}
+use Rattle.tm_ground.specs.Numbered.{HasNumbers, HaveNumbers, IsNumbered}
+use Rattle.tm_ground.specs.Rows.{AreFields, IsAsk, IsNamedRow, IsRefRow, IsWorldOf}
+use Rattle.tm_ground.specs.Sets.{types_in}
+use Rattle.tm_ground.specs.Texted.{AreInTextOrder, HasItsText}
+
+module _ (found : Found) where
+  -- all named types and references that occur are found, and no more
+  abbrev pub IsAllOf : Resolved → Type 0
+  IsAllOf resolved = AreWhole resolved (types_in found.named) (types_in found.refs)
+
+  -- the named types and the references that are written in a type are found, and so in each of some types
+  abbrev pub HasNumbersIn : Closed → Type 0
+  HasNumbersIn = HasNumbers (types_in found.named) (types_in found.refs)
+
+  abbrev pub HaveNumbersIn : List Closed → Type 0
+  HaveNumbersIn = HaveNumbers (types_in found.named) (types_in found.refs)
+
+  -- a type with its numbers is the closed type
+  abbrev pub IsNumberedIn : Closed → Ground → Type 0
+  IsNumberedIn = IsNumbered (types_in found.named) (types_in found.refs)
+
+  -- the types of fields, a list for each variant
+  abbrev pub AreFieldsIn : List (List Closed) → List (List Ground) → Type 0
+  AreFieldsIn = AreFields (types_in found.named) (types_in found.refs)
+
+  -- the row of a named type of the file, and that of a reference type
+  abbrev pub IsNamedRowIn : Resolved → Closed → NamedRow → Type 0
+  IsNamedRowIn = IsNamedRow (types_in found.named) (types_in found.refs)
+
+  abbrev pub IsRefRowIn : Closed → RefRow → Type 0
+  IsRefRowIn = IsRefRow (types_in found.named) (types_in found.refs)
+
+  -- a question by numbers
+  abbrev pub IsAskIn : OpenAsk → Ask → Type 0
+  IsAskIn = IsAsk (types_in found.named) (types_in found.refs)
+
+  -- a world of the file with the rows of what is found
+  abbrev pub IsWorldIn : Resolved → World → Type 0
+  IsWorldIn resolved = IsWorldOf resolved (types_in found.named) (types_in found.refs)
+
+  -- a text is that of the type beside it in a world with these numbers
+  abbrev pub HasItsTextIn : World → Texted → Type 0
+  HasItsTextIn = HasItsText (types_in found.named) (types_in found.refs)
+
+  -- types whose texts in such a world don't fall in byte order
+  abbrev pub AreSortedIn : World → List Closed → Type 0
+  AreSortedIn = AreInTextOrder (types_in found.named) (types_in found.refs)
