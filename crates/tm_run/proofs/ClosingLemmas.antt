@@ -35,41 +35,43 @@ by_late options file P limits (BadRefutation line) h = absurd h
 by_late options file P limits (NoQuestion number) h = absurd h
 
 module _ (mode : Option Mode) (resolved : Resolved) where
-  -- what holds of the four kinds of limits on closed types holds of each that is the first
-  by_kind : (P : LimitKind → Type 0) → (HasCause resolved ground_err.TooManyTypes → P limit.NamedTypes) → (HasCause resolved ground_err.TooManyRefs → P limit.References)
+  -- what holds of the five kinds of limits on closed types holds of each that is the first
+  by_kind : (P : LimitKind → Type 0) → (HasCause resolved ground_err.TooManyTypes → P limit.NamedTypes) → (HasCause resolved ground_err.TooManyNodes → P limit.ClosedNodes)
+      → (HasCause resolved ground_err.TooManyRefs → P limit.References)
       → (HasCause resolved ground_err.TooDeep → P limit.Depth) → (IsWithinLimits resolved × (passes_mode mode (length resolved.asks) ≡ true) → P limit.MatrixTypes)
       → (kind : LimitKind) → IsFirstLimit mode resolved kind → P kind
-  by_kind P types refs depth matrix limit.FileBytes h = absurd h
-  by_kind P types refs depth matrix limit.Definitions h = absurd h
-  by_kind P types refs depth matrix limit.Questions h = absurd h
-  by_kind P types refs depth matrix limit.Lifetimes h = absurd h
-  by_kind P types refs depth matrix limit.Parameters h = absurd h
-  by_kind P types refs depth matrix limit.TypeParameters h = absurd h
-  by_kind P types refs depth matrix limit.Fields h = absurd h
-  by_kind P types refs depth matrix limit.Variants h = absurd h
-  by_kind P types refs depth matrix limit.Nesting h = absurd h
-  by_kind P types refs depth matrix limit.TypeNodes h = absurd h
-  by_kind P types refs depth matrix limit.ArrayLength h = absurd h
-  by_kind P types refs depth matrix limit.NameBytes h = absurd h
-  by_kind P types refs depth matrix limit.NamedTypes h = types h
-  by_kind P types refs depth matrix limit.ClosedNodes h = absurd h
-  by_kind P types refs depth matrix limit.References h = refs h
-  by_kind P types refs depth matrix limit.Depth h = depth h
-  by_kind P types refs depth matrix limit.RefutationCells h = absurd h
-  by_kind P types refs depth matrix limit.TextBytes h = absurd h
-  by_kind P types refs depth matrix limit.MatrixTypes h = matrix h
+  by_kind P types nodes refs depth matrix limit.FileBytes h = absurd h
+  by_kind P types nodes refs depth matrix limit.Definitions h = absurd h
+  by_kind P types nodes refs depth matrix limit.Questions h = absurd h
+  by_kind P types nodes refs depth matrix limit.Lifetimes h = absurd h
+  by_kind P types nodes refs depth matrix limit.Parameters h = absurd h
+  by_kind P types nodes refs depth matrix limit.TypeParameters h = absurd h
+  by_kind P types nodes refs depth matrix limit.Fields h = absurd h
+  by_kind P types nodes refs depth matrix limit.Variants h = absurd h
+  by_kind P types nodes refs depth matrix limit.Nesting h = absurd h
+  by_kind P types nodes refs depth matrix limit.TypeNodes h = absurd h
+  by_kind P types nodes refs depth matrix limit.ArrayLength h = absurd h
+  by_kind P types nodes refs depth matrix limit.NameBytes h = absurd h
+  by_kind P types nodes refs depth matrix limit.NamedTypes h = types h
+  by_kind P types nodes refs depth matrix limit.ClosedNodes h = nodes h
+  by_kind P types nodes refs depth matrix limit.References h = refs h
+  by_kind P types nodes refs depth matrix limit.Depth h = depth h
+  by_kind P types nodes refs depth matrix limit.RefutationCells h = absurd h
+  by_kind P types nodes refs depth matrix limit.TextBytes h = absurd h
+  by_kind P types nodes refs depth matrix limit.MatrixTypes h = matrix h
 
   -- a file has one first limit, and none where it is within the limits
   one_limit : (kind other : LimitKind) → IsFirstLimit mode resolved kind → IsFirstLimit mode resolved other → other ≡ kind
   one_limit kind other h = by_kind (λ kind. IsFirstLimit mode resolved other → other ≡ kind)
-      (λ a. by_kind (λ other. other ≡ limit.NamedTypes) (λ b. refl) (λ b. absurd (b.0 a)) (λ b. absurd (b.0 a)) (λ b. absurd (b.0.types a)) other)
-      (λ a. by_kind (λ other. other ≡ limit.References) (λ b. absurd (a.0 b)) (λ b. refl) (λ b. absurd (b.1 a.1)) (λ b. absurd (b.0.refs a.1)) other)
-      (λ a. by_kind (λ other. other ≡ limit.Depth) (λ b. absurd (a.0 b)) (λ b. absurd (a.1 b.1)) (λ b. refl) (λ b. absurd (b.0.depth a.2)) other)
-      (λ a. by_kind (λ other. other ≡ limit.MatrixTypes) (λ b. absurd (a.0.types b)) (λ b. absurd (a.0.refs b.1)) (λ b. absurd (a.0.depth b.2)) (λ b. refl) other)
+      (λ a. by_kind (λ other. other ≡ limit.NamedTypes) (λ b. refl) (λ b. absurd (b.0 a)) (λ b. absurd (b.0 a)) (λ b. absurd (b.0 a)) (λ b. absurd (b.0.types a)) other)
+      (λ a. by_kind (λ other. other ≡ limit.ClosedNodes) (λ b. absurd (a.0 b)) (λ b. refl) (λ b. absurd (b.1 a.1)) (λ b. absurd (b.1 a.1)) (λ b. absurd (b.0.nodes a.1)) other)
+      (λ a. by_kind (λ other. other ≡ limit.References) (λ b. absurd (a.0 b)) (λ b. absurd (a.1 b.1)) (λ b. refl) (λ b. absurd (b.2 a.2)) (λ b. absurd (b.0.refs a.2)) other)
+      (λ a. by_kind (λ other. other ≡ limit.Depth) (λ b. absurd (a.0 b)) (λ b. absurd (a.1 b.1)) (λ b. absurd (a.2 b.2)) (λ b. refl) (λ b. absurd (b.0.depth a.3)) other)
+      (λ a. by_kind (λ other. other ≡ limit.MatrixTypes) (λ b. absurd (a.0.types b)) (λ b. absurd (a.0.nodes b.1)) (λ b. absurd (a.0.refs b.2)) (λ b. absurd (a.0.depth b.3)) (λ b. refl) other)
       kind h
 
   no_limit : IsWithinLimits resolved → passes_mode mode (length resolved.asks) ≡ false → (kind : LimitKind) → IsFirstLimit mode resolved kind → ⊥
-  no_limit w few = by_kind (λ kind. ⊥) (λ h. w.types h) (λ h. w.refs h.1) (λ h. w.depth h.2) (λ h. let passed = h.1 in cc)
+  no_limit w few = by_kind (λ kind. ⊥) (λ h. w.types h) (λ h. w.nodes h.1) (λ h. w.refs h.2) (λ h. w.depth h.3) (λ h. let passed = h.1 in cc)
 
 module _ (options : Options) (file : List ℕ) (resolved : Resolved) (m : IsMeaningOf options file resolved) where
   first_here : (kind : LimitKind) (h : PassesLimitOnTypes options file kind) → IsFirstLimit options.mode resolved kind
@@ -88,6 +90,7 @@ module _ (options : Options) (file : List ℕ) (resolved : Resolved) (m : IsMean
   -- a cause for which the types aren't closed stops the file
   pub cause_stops : (err : GroundErr) → HasCause resolved err → IsStop options file (stop_of err)
   cause_stops ground_err.TooManyTypes h = limit_only limit.NamedTypes h
+  cause_stops ground_err.TooManyNodes h = limit_only limit.ClosedNodes h
   cause_stops ground_err.TooManyRefs h = limit_only limit.References h
   cause_stops ground_err.TooDeep h = limit_only limit.Depth h
   cause_stops ground_err.Memory h = tt

@@ -13,21 +13,22 @@ use Rattle.tm_run.specs.declared.options.Mode.TheVariants.{Needs, Matrix, Bytes}
 
 -- the type of a definition without parameters, by its number
 abbrev pub own_type : ℕ → Open
-own_type k = Named (record { 0 = k }) []
+own_type k = Named (record { 0 = k }) [] []
 
 -- the question from such a type to itself
 abbrev pub own_question : ℕ → OpenAsk
 own_question k = record { src = own_type k; dst = own_type k; assume = nothing }
 
--- that of a definition with these parameters; none where there are some
-abbrev pub own_if_plain : ℕ → List ℕ → List OpenAsk
-own_if_plain k [] = own_question k ∷ []
-own_if_plain k (param ∷ params) = []
+-- that of a definition with these lifetime and type parameters; none where there are some
+abbrev pub own_if_plain : ℕ → List ℕ → List ℕ → List OpenAsk
+own_if_plain k [] [] = own_question k ∷ []
+own_if_plain k [] (type ∷ types) = []
+own_if_plain k (param ∷ params) types = []
 
 -- those of definitions that are numbered one after another
 abbrev pub own_questions : ℕ → List Decl → List OpenAsk
 own_questions k [] = []
-own_questions k (decl ∷ decls) = own_if_plain k decl.params ++ own_questions (k + 1) decls
+own_questions k (decl ∷ decls) = own_if_plain k decl.params decl.type_params ++ own_questions (k + 1) decls
 
 -- with `--matrix` the file's questions are put aside
 abbrev pub with_questions : Option Mode → Parsed → Resolved → Resolved

@@ -1,7 +1,7 @@
 -- What the steps of examining a file find: what is found is all that there is, and a fault is the only one.
 use Rattle.std.specs.Prelude.{◌≡◌, ℕ, Some, None, Option, List, length, All, ⊤}
 use Rattle.tm_base.specs.declared.limit.LimitKind.{LimitKind}
-use Rattle.tm_base.specs.declared.limit.LimitKind.TheVariants.{NamedTypes, References, Depth}
+use Rattle.tm_base.specs.declared.limit.LimitKind.TheVariants.{NamedTypes, ClosedNodes, References, Depth}
 use Rattle.tm_base.specs.declared.world.World.{World}
 use Rattle.tm_ground.specs.declared.fault.GroundErr.{GroundErr}
 use Rattle.tm_ground.specs.declared.fault.GroundErr.TheVariants as ground_err
@@ -85,6 +85,7 @@ pub record IsMeaningOf (options : Options) (file : List ℕ) (resolved : Resolve
 -- how a file stops whose types can't be closed
 abbrev pub stop_of : GroundErr → Stop
 stop_of ground_err.TooManyTypes = Fault (fault.Passed NamedTypes None)
+stop_of ground_err.TooManyNodes = Fault (fault.Passed ClosedNodes None)
 stop_of ground_err.TooManyRefs = Fault (fault.Passed References None)
 stop_of ground_err.TooDeep = Fault (fault.Passed Depth None)
 stop_of ground_err.Memory = Memory

@@ -2,10 +2,10 @@
 use Rattle.std.specs.Prelude.{◌≡◌, ℕ, ◌<◌, ◌≤◌, ◌⊎◌, true, Option, Some, None, List, length, slice_get, IsUtf8}
 use Rattle.std.specs.Str.{IsValidUpTo}
 use Rattle.tm_base.specs.declared.limit.LimitKind.{LimitKind}
-use Rattle.tm_base.specs.declared.limit.LimitKind.TheVariants.{FileBytes, NamedTypes, References, Depth, MatrixTypes}
+use Rattle.tm_base.specs.declared.limit.LimitKind.TheVariants.{FileBytes, NamedTypes, ClosedNodes, References, Depth, MatrixTypes}
 use Rattle.tm_base.specs.declared.limit.NameWhy.{NameWhy}
 use Rattle.tm_ground.specs.Limits.{HasCause, IsWithinLimits}
-use Rattle.tm_ground.specs.declared.fault.GroundErr.TheVariants.{TooManyTypes, TooManyRefs, TooDeep}
+use Rattle.tm_ground.specs.declared.fault.GroundErr.TheVariants.{TooManyTypes, TooManyNodes, TooManyRefs, TooDeep}
 use Rattle.tm_lex.specs.Lexes.{IsFault}
 use Rattle.tm_lex.specs.declared.fault.LexWhy.{LexWhy}
 use Rattle.tm_lex.specs.declared.fault.LexWhy.TheVariants as why
@@ -83,6 +83,7 @@ pub record HasNameFaultAt (options : Options) (file : List ℕ) (why : NameWhy) 
 -- of the limits on closed types, and behind them that on a matrix, the first that is passed is of the kind
 abbrev pub IsFirstLimit : Option Mode → Resolved → LimitKind → Type 0
 IsFirstLimit mode resolved NamedTypes = HasCause resolved TooManyTypes
+IsFirstLimit mode resolved ClosedNodes = HasCause resolved TooManyNodes
 IsFirstLimit mode resolved References = HasCause resolved TooManyRefs
 IsFirstLimit mode resolved Depth = HasCause resolved TooDeep
 IsFirstLimit mode resolved MatrixTypes = IsWithinLimits resolved × (passes_mode mode (length resolved.asks) ≡ true)

@@ -13,7 +13,7 @@ use tm_parse::{Decl, Parsed};
 fn own_type(alloc: Global, number: u32) -> Open
     ensures { result ≡ own_type number }
 {
-    Open::Named(DefId(number), List::new(alloc))
+    Open::Named(DefId(number), List::new(alloc), List::new(alloc))
 }
 
 /// The question from such a type to itself.
@@ -33,12 +33,13 @@ fn add_own(
     asks: &mut List<OpenAsk>,
     number: u32,
     params: &[u32],
+    types: &[u32],
 ) -> Result<(), Memory>
-    ensures { OnOk result (asks.new ≡ asks.old ++ own_if_plain number params.now) }
+    ensures { OnOk result (asks.new ≡ asks.old ++ own_if_plain number params.now types.now) }
 {
-    match params.first() {
-        Some(_) => Ok(()),
-        None => asks.add(own_question(alloc, number)),
+    match (params, types) {
+        ([], []) => asks.add(own_question(alloc, number)),
+        _ => Ok(()),
     }
 }
 
@@ -49,7 +50,8 @@ fn own_questions(alloc: Global, decls: &[Decl]) -> Result<List<OpenAsk>, Memory>
 {
     let mut asks = List::new(alloc);
     for (number, decl) in decls.iter().enumerate() {
-        add_own(alloc, &mut asks, number as u32, decl.params.as_slice())?;
+        let (params, types) = (decl.params.as_slice(), decl.type_params.as_slice());
+        add_own(alloc, &mut asks, number as u32, params, types)?;
     }
     Ok(asks)
 }

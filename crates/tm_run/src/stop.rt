@@ -36,6 +36,7 @@ impl From<GroundErr> for Stop {
     fn from(err: GroundErr) -> Stop {
         let kind = match err {
             GroundErr::TooManyTypes => LimitKind::NamedTypes,
+            GroundErr::TooManyNodes => LimitKind::ClosedNodes,
             GroundErr::TooManyRefs => LimitKind::References,
             GroundErr::TooDeep => LimitKind::Depth,
             GroundErr::Memory => return Stop::Memory,
