@@ -1,6 +1,6 @@
 -- The text of a source word, as bytes: its cells from the first on, with equal ones joined. The form is this
 -- project's.
-use Rattle.std.specs.Prelude.{ℕ, zero, suc, ◌+◌, ◌/◌, ◌%◌, ◌==◌, ◌&&◌, Bool, true, false, nat_lt, if◌then◌else◌, List, [], ◌∷◌, ◌++◌, flat_map, replicate, codes}
+use Rattle.std.specs.Prelude.{ℕ, zero, suc, ◌+◌, ◌<◌, ◌^◌, ◌/◌, ◌%◌, ◌==◌, ◌&&◌, Bool, true, false, nat_lt, if◌then◌else◌, List, [], ◌∷◌, ◌++◌, flat_map, replicate, codes}
 use Rattle.std.specs.Fmt.{decimal, digit_glyph}
 use Rattle.tm_base.specs.declared.cell.Cell.{Cell}
 use Rattle.tm_base.specs.declared.cell.Cell.TheVariants.{Byte, Uninit, Ptr}
@@ -23,6 +23,12 @@ abbrev pub cell_text : Cell → List ℕ
 cell_text (Byte b) = byte_text b
 cell_text Uninit = codes "--"
 cell_text (Ptr id k) = reference_text id
+
+-- a cell's numbers are in the ranges of their types
+abbrev pub IsCell : Cell → Type 0
+IsCell (Byte b) = b < 2 ^ 8
+IsCell Uninit = Unit {0}
+IsCell (Ptr id k) = id.0 < 2 ^ 32
 
 -- What is written of a word, one after another.
 pub data Piece : Type 0 where

@@ -42,14 +42,14 @@ fn said(alloc: Global, world: &World, answer: &Answer) -> Result<String, Memory>
         Answer::Yes => Ok(String::from_str(alloc, "yes")?),
         Answer::YesBecause(word) => {
             let word = spaced_word(alloc, word.as_slice())?;
-            Ok(format!(in alloc; "yes, example{word}")?)
+            Ok(format!(in alloc; "yes, example{}", word.as_str())?)
         }
         Answer::No(rule) => Ok(format!(in alloc; "no, {}", rule_word(*rule))?),
         Answer::NoAt(rule, offset, word, fault) => {
             let rule = rule_word(*rule);
             let fault = pair_if_some(alloc, *fault)?;
             let word = spaced_word(alloc, word.as_slice())?;
-            Ok(format!(in alloc; "no, {rule} at {offset}{fault}, bytes{word}")?)
+            Ok(format!(in alloc; "no, {rule} at {offset}{fault}, bytes{}", word.as_str())?)
         }
         Answer::Refused(side, why, g) => {
             let side = side_word(*side);

@@ -1,9 +1,9 @@
-ghost use Rattle.std.specs.Prelude.{◌≡◌, ◌+◌, ◌^◌, ◌<◌, ◌≤◌, ◌++◌, [], List, IfOk, OnOk, codes, string_bytes};
+ghost use Rattle.std.specs.Prelude.{◌≡◌, ◌+◌, ◌^◌, ◌<◌, ◌≤◌, ◌++◌, [], List, IfOk, OnOk, All, codes, string_bytes};
 ghost use Rattle.tm_report.specs.Runs.{counted, unwritten};
-ghost use Rattle.tm_report.specs.WordTexts.{Piece, cell_before, cell_text, run_before, word_text};
+ghost use Rattle.tm_report.specs.WordTexts.{IsCell, Piece, cell_before, cell_text, run_before, word_text};
 
 use std::alloc::{AllocError, Global};
-use tm_base::Cell;
+use tm_base::{Cell, Memory, Text};
 
 /// Equal cells that stand together, none of them a reference's.
 #[derive(Clone, Copy)]
@@ -17,9 +17,13 @@ struct Run {
 /// From how many equal cells on a run is written as one piece.
 const JOINED: usize = 4;
 
-/// The text of a word, behind a space.
-pub fn spaced_word(alloc: Global, cells: &[Cell]) -> Result<String, AllocError>
-    ensures { IfOk result (λ text. string_bytes text ≡ codes " " ++ word_text cells.now) }
+/// The text of a word, behind a space. Each number of a cell is told to be in the range of its type, so
+/// that what is written can be shown to be read back.
+///
+/// `Memory`: there wasn't enough memory for the text.
+pub fn spaced_word(alloc: Global, cells: &[Cell]) -> Result<Text, Memory>
+    ensures text { IfOk result (λ text. text ≡ codes " " ++ word_text cells.now) }
+    ensures numbers { OnOk result (All IsCell cells.now) }
 {
     let mut text = String::new(alloc);
     let mut pending = None;
@@ -30,7 +34,7 @@ pub fn spaced_word(alloc: Global, cells: &[Cell]) -> Result<String, AllocError>
     if text.is_empty() {
         text.push_str(" empty")?;
     }
-    Ok(text)
+    Ok(Text::from(text))
 }
 
 /// Takes up one more cell, and answers the run that isn't written yet. A reference is written at its
@@ -40,6 +44,7 @@ fn take_up(pending: Option<Run>, cell: Cell, text: &mut String) -> Result<Option
     ensures written { IfOk result (λ after. (rest : List Piece) →
         string_bytes text.new ++ unwritten after rest
         ≡ string_bytes text.old ++ unwritten pending (cell_before cell rest)) }
+    ensures numbers { OnOk result (IsCell cell) }
     ensures count { IfOk result (λ after. counted after ≤ counted pending + 1) }
 {
     match cell {

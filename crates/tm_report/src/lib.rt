@@ -8,5 +8,6 @@ mod lines;
 mod words;
 
 pub use answers::{line, ref_line, summary};
+pub use cells::spaced_word;
 pub use fault::{At, FileFault};
 pub use lines::fault_line;
