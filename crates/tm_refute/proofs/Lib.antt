@@ -8,6 +8,7 @@ mod LineReadLemmas
 mod NumberLemmas
 mod PartFormLemmas
 mod PieceReadLemmas
+mod ReadBackLemmas
 mod Rows
 mod RunLemmas
 mod ShownLemmas
@@ -17,3 +18,5 @@ mod TextReadLemmas
 mod VerifyLemmas
 mod WordFormLemmas
 mod WordReadLemmas
+mod WrittenLemmas
+mod WrittenWordLemmas

@@ -8,3 +8,4 @@ pub mod TextForms
 pub mod Taken
 pub mod Runs
 pub mod LinesRead
+pub mod Written

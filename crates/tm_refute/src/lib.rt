@@ -5,7 +5,7 @@
 //! lesser depths. [`verify`] says whether one holds; it asks what a value is, how references break the
 //! local rules, and nothing else. [`refutations_are_true`] is what one shows wherever it holds. [`read_text`]
 //! reads one from its text, or tells the first line that is bad; [`texts_are_read_one_way`] says that there
-//! is one way to do so.
+//! is one way to do so. [`write_text`] writes one, so that it is read back.
 #![tactic(auto)]
 
 mod depths;
@@ -25,9 +25,11 @@ mod text;
 mod verifier;
 mod verifying;
 mod word;
+mod writing;
 
 pub use law::{refutations_are_true, texts_are_read_one_way};
 pub use refutation::{Entry, Piece, Proof, Refutation};
 pub use stop::TextErr;
 pub use text::read_text;
 pub use verifying::verify;
+pub use writing::write_text;

@@ -3,6 +3,7 @@ ghost use Rattle.std.specs.Prelude.{◌≡◌, ℕ, ◌<◌, ◌⊎◌, ◌^◌,
 ghost use Rattle.tm_refute.specs.LinesRead.{IsFaultOf, IsFitting, IsRead, IsText, IsTold, Tells};
 ghost use Rattle.tm_refute.specs.Runs.{Reads};
 ghost use Rattle.tm_refute.specs.TextForms.{IsBadLine, IsRefutationText, proof_cells};
+ghost use Rattle.tm_refute.specs.Written.{IsWritable};
 ghost use Rattle.tm_refute.specs.declared.refutation.Refutation.{Refutation};
 
 use crate::entry::entry;
@@ -15,6 +16,7 @@ use tm_base::List;
 
 /// Reads the text of a refutation, where a reference has so many bytes: the question's number, the
 /// refutation, and the place, in bytes from 0, behind the line `end`. What stands there is no part of it.
+/// What is read can be written.
 ///
 /// It takes time in proportion to the bytes and the cells. `At`: this line, from 1, is the first that isn't
 /// in the form of its place, or isn't ended. `Memory`: there wasn't enough memory.
@@ -31,6 +33,7 @@ pub fn read_text(
         → IsRefutationText pointer bytes.now number x rest
         → IsRead bytes.now number x rest result }
     ensures told { (line : ℕ) → IsBadLine pointer bytes.now line → IsTold line result }
+    ensures writable { IfOk result (λ text. IsWritable pointer text.1) }
 {
     lines(alloc, bytes, pointer)
 }
