@@ -19,6 +19,7 @@ mod piece_text;
 mod pieces;
 mod reader;
 mod refutation;
+mod rule;
 mod standing;
 mod stop;
 mod text;

@@ -1,11 +1,12 @@
 //! The text of a refutation, as it is written.
 ghost use Rattle.std.specs.Prelude.{◌≡◌, ℕ, ◌++◌, List, IfOk, OnOk, string_bytes};
-ghost use Rattle.tm_refute.specs.TextForms.{IsRefutationText, local_text};
+ghost use Rattle.tm_refute.specs.TextForms.{IsRefutationText};
 ghost use Rattle.tm_refute.specs.Written.{IsEntryReadBack, IsPieceReadBack, IsProofReadBack, IsWritable, ended, entry_text, piece_text, proof_text, refutation_text};
 
 use crate::refutation::{Entry, Piece, Proof, Refutation};
+use crate::rule::local_word;
 use std::alloc::Global;
-use tm_base::{LocalRule, Memory, Text};
+use tm_base::{Memory, Text};
 use tm_report::spaced_word;
 
 /// The text of the refutation of the question with a number. Reading gives both back, whatever stands
@@ -74,17 +75,4 @@ fn write_piece(alloc: Global, piece: &Piece, text: &mut String) -> Result<(), Me
     let word = spaced_word(alloc, piece.word.as_slice())?;
     write!(text, "{offset}:{}", word.as_str())?;
     Ok(())
-}
-
-/// The word of a local rule.
-fn local_word(rule: LocalRule) -> &'static str
-    ensures { result.now ≡ local_text rule }
-{
-    match rule {
-        LocalRule::MoreUnique => "ref-more-unique",
-        LocalRule::TooBig => "ref-too-big",
-        LocalRule::Alignment => "ref-alignment",
-        LocalRule::Interior => "ref-interior",
-        LocalRule::Lifetime => "ref-lifetime",
-    }
 }
