@@ -10,7 +10,7 @@ use Rattle.std.proofs.lemmas.Fmt.{decimal_digit, decimal_is_IsNumeral, decimal_n
 use Rattle.std.proofs.Math.Seq.{take-append_seam, drop-append_seam}
 use Rattle.std.proofs.lemmas.Bool.Decides.{Decides-eqb}
 use Rattle.std.proofs.lemmas.Slice.Eq.{slice_eq-Decides}
-use Rattle.tm_refute.specs.Taken.{IsNumber, IsNumbered, Stops, Takes, is_digit, is_number}
+use Rattle.tm_refute.specs.Taken.{IsNumber, IsNumbered, Stops, Takes, is_digit, IsWholeNumber}
 use Rattle.tm_refute.proofs.TextLemmas.{cut, decimal-digits, digit-is}
 
 -- what was taken of a number's digits, and those left
@@ -134,10 +134,10 @@ number-behind text before behind after None e none =
 
 -- ---- whole numbers
 
-pub none-whole : (text : List ℕ) → ((n : ℕ) (rest : List ℕ) → IsNumber text n rest → ⊥) → (n : ℕ) → is_number n text → ⊥
+pub none-whole : (text : List ℕ) → ((n : ℕ) (rest : List ℕ) → IsNumber text n rest → ⊥) → (n : ℕ) → IsWholeNumber n text → ⊥
 none-whole text none n (small, e) = none n [] (record { small = small; text_is = e ∙ sym (append-nil (decimal n)); stops = tt })
 
-pub more-behind : (text : List ℕ) (n : ℕ) (rest : List ℕ) → IsNumber text n rest → (rest ≡ [] → ⊥) → (m : ℕ) → is_number m text → ⊥
+pub more-behind : (text : List ℕ) (n : ℕ) (rest : List ℕ) → IsNumber text n rest → (rest ≡ [] → ⊥) → (m : ℕ) → IsWholeNumber m text → ⊥
 more-behind text n rest is more m (small, e) =
     let fits = is.small in
     more (cut is_digit (decimal n) (decimal m) rest [] (decimal-digits n (omega arith)) (decimal-digits m (omega arith)) is.stops tt (sym is.text_is ∙ e ∙ sym (append-nil (decimal m)))).1

@@ -5,8 +5,8 @@ use Rattle.std.specs.List.{list_all}
 use Rattle.std.specs.Fmt.{decimal}
 use Rattle.std.proofs.lemmas.Fmt.{decimal_injective}
 use Rattle.tm_base.specs.Cells.{Word}
-use Rattle.tm_refute.specs.Runs.{as_part, part_is, run_cells, run_is, times_are}
-use Rattle.tm_refute.specs.Taken.{IsUpTo, Stops, but, is_number}
+use Rattle.tm_refute.specs.Runs.{as_part, IsPartText, run_cells, IsRunText, IsTimesText}
+use Rattle.tm_refute.specs.Taken.{IsUpTo, Stops, but, IsWholeNumber}
 use Rattle.tm_refute.specs.WordForms as form
 use Rattle.tm_refute.specs.WordForms.{IsOnce, IsPiece, IsTimes, most_cells, part_cells, repeated}
 use Rattle.tm_refute.specs.declared.part.Part.{Part}
@@ -27,9 +27,9 @@ back-again (form.byte b) = refl
 back-again form.uninit = refl
 back-again (form.reference k) = refl
 
-pub run-piece : (pointer : ℕ) (run : Run) (text : List ℕ) → run_is run text → IsPiece pointer text (run_cells pointer run)
+pub run-piece : (pointer : ℕ) (run : Run) (text : List ℕ) → IsRunText run text → IsPiece pointer text (run_cells pointer run)
 run-piece pointer run text is = go is.times where
-  go : times_are run.times is.back → IsPiece pointer text (run_cells pointer run)
+  go : IsTimesText run.times is.back → IsPiece pointer text (run_cells pointer run)
   go (inl (one, e)) = (
     as_part run.part,
     is.part.0,
@@ -53,7 +53,7 @@ run-piece pointer run text is = go is.times where
   )
 
 -- a piece is some run
-pub piece-run : (pointer : ℕ) (text : List ℕ) (cells : Word) → IsPiece pointer text cells → (run : Run) × run_is run text
+pub piece-run : (pointer : ℕ) (text : List ℕ) (cells : Word) → IsPiece pointer text cells → (run : Run) × IsRunText run text
 piece-run pointer text cells (p, is, inl a) =
     let q : Part = from_part p in
     let same : p ≡ as_part q = sym (back-again p) in (
@@ -80,24 +80,24 @@ piece-run pointer text cells (p, is, inr (n, a)) =
     )
 
 -- behind the part stands nothing, or what begins with an asterisk
-times-stop : (n : ℕ) (text : List ℕ) → times_are n text → Stops (but 42) text
+times-stop : (n : ℕ) (text : List ℕ) → IsTimesText n text → Stops (but 42) text
 times-stop n text (inl (one, e)) = subst (Stops (but 42)) (sym e) tt
 times-stop n text (inr (some, few, e)) = subst (Stops (but 42)) (sym e) refl
 
-module _ (text front back : List ℕ) (up : IsUpTo 42 text front back) (run : Run) (is : run_is run text) where
+module _ (text front back : List ℕ) (up : IsUpTo 42 text front back) (run : Run) (is : IsRunText run text) where
   parts : (front ≡ is.front) × (back ≡ is.back)
   parts = cut (but 42) front is.front back is.back up.whole (subst (λ (xs : List ℕ). list_all (but 42) xs ≡ true) (sym is.part.1) (part-whole (as_part run.part) is.part.0)) up.stops (times-stop run.times is.back is.times) (sym up.text_is ∙ is.text_is)
 
-  pub front-part : part_is run.part front
-  front-part = subst (part_is run.part) (sym parts.0) is.part
+  pub front-part : IsPartText run.part front
+  front-part = subst (IsPartText run.part) (sym parts.0) is.part
 
-  pub back-times : times_are run.times back
-  back-times = subst (times_are run.times) (sym parts.1) is.times
+  pub back-times : IsTimesText run.times back
+  back-times = subst (IsTimesText run.times) (sym parts.1) is.times
 
 -- ---- how often
 
 module _ (text digits : List ℕ) (star : text ≡ codes "*" ++ digits) where
-  pub bad-times : (n : ℕ) → is_number n digits → ((1 ≤ n) × (n ≤ most_cells) → ⊥) → (m : ℕ) → times_are m text → ⊥
+  pub bad-times : (n : ℕ) → IsWholeNumber n digits → ((1 ≤ n) × (n ≤ most_cells) → ⊥) → (m : ℕ) → IsTimesText m text → ⊥
   bad-times n is out m (inl (one, e)) = let never : 42 ∷ digits ≡ [] = sym star ∙ e in cc
   bad-times n (small, f) out m (inr (some, few, e)) =
       let whole : 42 ∷ digits ≡ 42 ∷ decimal m = sym star ∙ e in

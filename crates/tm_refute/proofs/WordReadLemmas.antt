@@ -4,7 +4,7 @@ use Rattle.std.specs.Prelude.{codes}
 use Rattle.std.proofs.lemmas.List.{take_all}
 use Rattle.std.proofs.lemmas.Bool.Decides.{nat_tests}
 use Rattle.tm_base.specs.Cells.{Word}
-use Rattle.tm_refute.specs.Runs.{AddsRun, Reads, run_cells, run_is}
+use Rattle.tm_refute.specs.Runs.{AddsRun, Reads, run_cells, IsRunText}
 use Rattle.tm_refute.specs.Taken.{IsUpTo, Stops, but}
 use Rattle.tm_refute.specs.WordForms.{ArePieces, IsPiece, IsWordText, more, most_cells, one}
 use Rattle.tm_refute.specs.declared.part.Run.{Run}
@@ -48,13 +48,13 @@ module _ (pointer : ℕ) where
           (v, e, first-of rest front after v up those)
 
     -- what isn't a piece
-    pub no-run : ((run : Run) → run_is run front → ⊥) → (w : Word) → IsWordText pointer text w → ⊥
+    pub no-run : ((run : Run) → IsRunText run front → ⊥) → (w : Word) → IsWordText pointer text w → ⊥
     no-run none w is =
         let (v, e, first) = begins w is in let (cells, piece, behind) = first in
         let (run, runs) = piece-run pointer front cells piece in
         none run runs
 
-    module _ (run : Run) (runs : run_is run front) where
+    module _ (run : Run) (runs : IsRunText run front) where
       here : IsPiece pointer front (run_cells pointer run)
       here = run-piece pointer run front runs
 

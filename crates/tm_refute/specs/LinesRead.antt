@@ -9,12 +9,12 @@ use Rattle.tm_refute.specs.declared.stop.TextErr.{TextErr}
 use Rattle.tm_refute.specs.declared.stop.TextErr.TheVariants.{At, Memory}
 
 -- the line names the question
-abbrev pub is_question : ℕ → List ℕ → Type 0
-is_question number line = (number < 2 ^ 32) × (line ≡ codes "refutation of question " ++ decimal number)
+abbrev pub IsQuestion : ℕ → List ℕ → Type 0
+IsQuestion number line = (number < 2 ^ 32) × (line ≡ codes "refutation of question " ++ decimal number)
 
 -- the line is the top
-abbrev pub is_top : ℕ → List ℕ → Piece → Type 0
-is_top pointer line top = (text : List ℕ) × (line ≡ codes "word at " ++ text) × IsPieceText pointer text top
+abbrev pub IsTop : ℕ → List ℕ → Piece → Type 0
+IsTop pointer line top = (text : List ℕ) × (line ≡ codes "word at " ++ text) × IsPieceText pointer text top
 
 -- what was read, or the line that is bad
 abbrev pub Tells : {V : Type 0} → ℕ → List ℕ → (V → Type 0) → Result V TextErr → Type 0

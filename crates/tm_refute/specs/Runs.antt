@@ -22,20 +22,20 @@ as_part Uninit = form.uninit
 as_part (Reference id) = form.reference id.0
 
 -- the text is that of the part
-abbrev pub part_is : Part → List ℕ → Type 0
-part_is part text = IsPart (as_part part) × (text ≡ part_text (as_part part))
+abbrev pub IsPartText : Part → List ℕ → Type 0
+IsPartText part text = IsPart (as_part part) × (text ≡ part_text (as_part part))
 
 -- nothing for once, or as `*8`
-abbrev pub times_are : ℕ → List ℕ → Type 0
-times_are n text = ((n ≡ 1) × (text ≡ [])) ⊎ ((1 ≤ n) × (n ≤ most_cells) × (text ≡ codes "*" ++ decimal n))
+abbrev pub IsTimesText : ℕ → List ℕ → Type 0
+IsTimesText n text = ((n ≡ 1) × (text ≡ [])) ⊎ ((1 ≤ n) × (n ≤ most_cells) × (text ≡ codes "*" ++ decimal n))
 
 -- a part, and how often
-pub record run_is (run : Run) (text : List ℕ) : Type 0 where
+pub record IsRunText (run : Run) (text : List ℕ) : Type 0 where
   pub front : List ℕ
   pub back : List ℕ
   pub text_is : text ≡ front ++ back
-  pub part : part_is run.part front
-  pub times : times_are run.times back
+  pub part : IsPartText run.part front
+  pub times : IsTimesText run.times back
 
 -- its cells, where a reference has so many bytes
 abbrev pub run_cells : ℕ → Run → Word

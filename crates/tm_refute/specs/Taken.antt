@@ -60,8 +60,8 @@ pub record IsUpTo (end : ℕ) (before front after : List ℕ) : Type 0 where
   pub stops : Stops (but end) after
 
 -- the text is the number's
-abbrev pub is_number : ℕ → List ℕ → Type 0
-is_number n text = (n < 2 ^ 32) × (text ≡ decimal n)
+abbrev pub IsWholeNumber : ℕ → List ℕ → Type 0
+IsWholeNumber n text = (n < 2 ^ 32) × (text ≡ decimal n)
 
 -- a line and its end were taken, or no line is ended
 abbrev pub TakesLine : List ℕ → List ℕ → Option (Bor (List ℕ)) → Type 0

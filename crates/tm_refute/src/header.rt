@@ -2,7 +2,7 @@
 ghost use Rattle.std.specs.Prelude.{◌≡◌, ◌++◌, ◌<◌, codes};
 ghost use Rattle.tm_refute.specs.Runs.{Reads};
 ghost use Rattle.tm_refute.specs.Taken.{ReadsAll};
-ghost use Rattle.tm_refute.specs.LinesRead.{IsHeader, Tells, is_question, is_top};
+ghost use Rattle.tm_refute.specs.LinesRead.{IsHeader, Tells, IsQuestion, IsTop};
 
 use crate::piece_text::piece;
 use crate::reader::{Reader, whole_number};
@@ -34,7 +34,7 @@ pub fn header(alloc: Global, text: &mut Reader<'_>, pointer: u32) -> Result<(u32
 
 /// The number of the question that a line names, as `refutation of question 1`.
 fn question(text: &[u8]) -> Option<u32>
-    ensures { ReadsAll is_question text.now result }
+    ensures { ReadsAll IsQuestion text.now result }
 {
     let mut line = Reader { rest: text };
     if !line.accept(b"refutation of question ") {
@@ -46,7 +46,7 @@ fn question(text: &[u8]) -> Option<u32>
 /// The top that a line is, as `word at 0: &1`.
 fn top(alloc: Global, text: &[u8], pointer: u32) -> Result<Piece, Stop>
     requires { pointer < 256 }
-    ensures { Reads (is_top pointer text.now) result }
+    ensures { Reads (IsTop pointer text.now) result }
 {
     let mut line = Reader { rest: text };
     if !line.accept(b"word at ") {

@@ -1,6 +1,6 @@
 //! The pieces of a word's text.
 ghost use Rattle.std.specs.Prelude.{◌≡◌, ◌++◌, ◌<◌, ◌≤◌, OnOk, length};
-ghost use Rattle.tm_refute.specs.Runs.{AddsRun, TakesGlyph, as_part, part_is, run_cells, run_is, times_are};
+ghost use Rattle.tm_refute.specs.Runs.{AddsRun, TakesGlyph, as_part, IsPartText, run_cells, IsRunText, IsTimesText};
 ghost use Rattle.tm_refute.specs.Taken.{ReadsAll};
 ghost use Rattle.tm_refute.specs.WordForms.{most_cells, part_cells};
 
@@ -31,7 +31,7 @@ pub struct Run {
 impl Part {
     /// The part that a text is, as `0a`, `--` or `&1`.
     fn of_text(text: &[u8]) -> Option<Part>
-        ensures { ReadsAll part_is text.now result }
+        ensures { ReadsAll IsPartText text.now result }
     {
         match text {
             [b'&', digits @ ..] => Some(Part::Reference(RefId(whole_number(digits)?))),
@@ -72,7 +72,7 @@ impl Part {
 impl Run {
     /// The run that a piece's text is, as `00` or `00*8`.
     pub fn of_text(text: &[u8]) -> Option<Run>
-        ensures { ReadsAll run_is text.now result }
+        ensures { ReadsAll IsRunText text.now result }
     {
         let mut line = Reader { rest: text };
         let part = Part::of_text(line.until(b'*'))?;
@@ -98,7 +98,7 @@ impl Run {
 
 /// How often a piece stands, by what is behind its part: nothing, or as `*8`.
 fn times(text: &[u8]) -> Option<u32>
-    ensures { ReadsAll times_are text.now result }
+    ensures { ReadsAll IsTimesText text.now result }
 {
     if text.is_empty() {
         return Some(1);

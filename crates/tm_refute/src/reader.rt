@@ -1,6 +1,6 @@
 //! What is left of a text, from whose front parts are taken.
 ghost use Rattle.std.specs.Prelude.{◌≤◌, drop, length, take};
-ghost use Rattle.tm_refute.specs.Taken.{IsNumber, IsNumbered, IsUpTo, ReadsAll, Takes, TakesDigit, TakesLine, TakesText, is_number};
+ghost use Rattle.tm_refute.specs.Taken.{IsNumber, IsNumbered, IsUpTo, ReadsAll, Takes, TakesDigit, TakesLine, TakesText, IsWholeNumber};
 
 /// A place in a text. What was read moves it on; where something isn't in its form, it may stand anywhere.
 #[derive(Drop)]
@@ -84,7 +84,7 @@ impl<'a> Reader<'a> {
 
 /// The number below 2^32 that a text is, in decimal digits without leading zeros.
 pub fn whole_number(text: &[u8]) -> Option<u32>
-    ensures { ReadsAll is_number text.now result }
+    ensures { ReadsAll IsWholeNumber text.now result }
 {
     let mut line = Reader { rest: text };
     let number = line.number()?;

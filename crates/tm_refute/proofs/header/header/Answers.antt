@@ -1,5 +1,5 @@
 use Rattle.std.proofs.Common.{Err, subst}
-use Rattle.tm_refute.specs.LinesRead.{is_top}
+use Rattle.tm_refute.specs.LinesRead.{IsTop}
 use Rattle.tm_refute.specs.Runs.{Reads}
 use Rattle.tm_refute.specs.declared.refutation.Piece.{Piece}
 use Rattle.tm_refute.specs.declared.stop.Stop.{Stop}
@@ -26,4 +26,4 @@ returns-in-Ok c =
 pub returns-in-Err-Form : goal.returns-in-Err-Form
 returns-in-Err-Form c =
     no-top c.args.pointer c.args.text.now.rest.now c.in-Some.first.now c.line.new.self.rest.now c.in-Some.ensures.0 c.in-Some.ensures.1
-    c.in-Some-question.number c.in-Some-question.ensures c.in-Some-line.second.now c.line-2.new.self.rest.now c.in-Some-line.ensures.0 c.in-Some-line.ensures.1 (subst (λ (s : Stop). Reads {V = Piece} (is_top c.args.pointer c.in-Some-line.second.now) (Err s)) c.in-Err-Form.field-0-is c.in-Err-Form.ensures)
+    c.in-Some-question.number c.in-Some-question.ensures c.in-Some-line.second.now c.line-2.new.self.rest.now c.in-Some-line.ensures.0 c.in-Some-line.ensures.1 (subst (λ (s : Stop). Reads {V = Piece} (IsTop c.args.pointer c.in-Some-line.second.now) (Err s)) c.in-Err-Form.field-0-is c.in-Err-Form.ensures)
