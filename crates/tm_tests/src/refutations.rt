@@ -1,10 +1,19 @@
-//! A refutation of `&'a &'a u8` as `&'a &'a bool`, and some that are almost one.
+//! A refutation of `&'a &'a u8` as `&'a &'a bool`, its text, and some that are almost one.
+ghost use Rattle.std.specs.Prelude.{◌<◌, ◌^◌, length};
+
 use crate::worlds::{question, world};
 use std::alloc::Global;
-use tm_base::{Cell, List, Memory, RefId, Word};
+use tm_base::{Cell, List, Memory, RefId, Text, Word};
 use tm_layout::Layouts;
-use tm_refute::{Entry, Piece, Proof, Refutation, verify};
+use tm_refute::{Entry, Piece, Proof, Refutation, read_text, verify, write_text};
 use tm_region::Order;
+
+/// The text of the refutation.
+const TEXT: &str = "refutation of question 1\n\
+    word at 0: &1\n\
+    &1 to &0, depth 2, forward at 0: &3\n\
+    &3 to &2, depth 1, forward at 0: 02\n\
+    end\n";
 
 /// The cells of a reference.
 fn reference(alloc: Global, id: u32) -> Result<Word, Memory> {
@@ -70,4 +79,23 @@ fn refutations_are_verified(rt: HostRuntime) {
     assert_eq!(rt; is_verified(rt.alloc(), 1, 1, 2), Some(false));
     assert_eq!(rt; is_verified(rt.alloc(), 2, 2, 2), Some(false));
     assert_eq!(rt; is_verified(rt.alloc(), 2, 0, 2), Some(false));
+}
+
+/// What is written of the refutation that a text is, where it holds.
+fn rewritten(alloc: Global, text: &str) -> Option<Text>
+    requires { length text.now < 2 ^ 31 }
+{
+    let Ok((number, x, _)) = read_text(alloc, text.as_bytes(), 8) else {
+        return None;
+    };
+    if holds(alloc, &x) != Some(true) {
+        return None;
+    }
+    write_text(alloc, number, &x).ok()
+}
+
+#[test]
+fn a_refutation_is_written_as_it_was_read(rt: HostRuntime) {
+    let text = rewritten(rt.alloc(), TEXT);
+    assert_eq!(rt; text.is_some_and(|text| text.as_str() == TEXT), true);
 }
