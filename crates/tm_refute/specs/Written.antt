@@ -41,12 +41,12 @@ refutation_text number x =
     ++ ended (codes "end")
 
 module _ (pointer : ℕ) where
-  -- a word whose references all have so many bytes
+  -- a word that isn't too long, and whose references are whole, each of so many bytes
   pub record IsWritableWord (w : Word) : Type 0 where
     pub whole : HasWholeReferences pointer w
     pub few : length w ≤ most_cells
 
-  -- an entry of depth 0 names a local rule, and no other does; its word can be written
+  -- a proof names a local rule exactly where its depth is 0; else its word can be written
   abbrev pub IsWritableProof : ℕ → Proof → Type 0
   IsWritableProof depth (Local rule) = depth ≡ 0
   IsWritableProof depth (Forward piece) = (0 < depth) × IsWritableWord piece.word
