@@ -106,4 +106,4 @@ pub spelled_apart : (profile : Profile) (text : List ℕ) (tokens : List Token) 
 spelled_apart profile text tokens file utf8 tokenized spelled sound =
     names_apart profile (name_at text tokens) file sound
     (declared_kept (λ place. is_own_name (name_at text tokens place) ≡ true) (λ place. is_region_name (name_at text tokens place) ≡ true) file
-    (terminals_of text tokens) spelled.after spelled.file (terminals_suit text tokens utf8 tokenized))
+    (terminals_of text tokens) spelled (terminals_suit text tokens utf8 tokenized))

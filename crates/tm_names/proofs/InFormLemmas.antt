@@ -28,12 +28,12 @@ use Rattle.tm_parse.specs.declared.parsed.Parsed.{Parsed}
 
 -- what a text's tokens spell is within the limits
 pub spelled_within : (text : List ℕ) (tokens : List Token) (file : Parsed) → SpellsFile (terminals_of text tokens) file → IsWithinLimits file
-spelled_within text tokens file h = within_limits file (terminals_of text tokens) h.after h.file (terminals_carry text tokens)
+spelled_within text tokens file h = within_limits file (terminals_of text tokens) h (terminals_carry text tokens)
 
 -- and its places are those of tokens
 pub spelled_placed : (text : List ℕ) (tokens : List Token) (file : Parsed) → SpellsFile (terminals_of text tokens) file → EachPlace (λ place. place < length tokens) file
 spelled_placed text tokens file h =
-    places_kept (λ place. place < length tokens) file (terminals_of text tokens) h.after h.file (terminals_placed text tokens)
+    places_kept (λ place. place < length tokens) file (terminals_of text tokens) h (terminals_placed text tokens)
 
 module _ (profile : Profile) (name : ℕ → List ℕ) (file : Parsed) where
   -- each field has its type

@@ -2,10 +2,11 @@
 use Rattle.std.proofs.Common.{◌≡◌, refl, sym, ap, ◌∙◌, subst, List, [], ◌∷◌, ◌++◌, append-nil, append_assoc}
 use Rattle.tm_parse.proofs.FileLaws.{file_laws}
 use Rattle.tm_parse.proofs.Lawful.{Same, IsDone, Stops, IsPast, IsRight}
-use Rattle.tm_parse.specs.Accepted.{SpelledBy, PassesAt, NoFile, IsFile, whole, answer_of, IsAnswer}
+use Rattle.tm_parse.specs.Accepted.{SpelledBy, NoFile, whole, answer_of}
+use Rattle.tm_parse.specs.Counted.{PassesCounted, IsCountedFile, IsCountedAnswer}
 use Rattle.tm_parse.specs.Events.{Event, terminals}
 use Rattle.tm_parse.specs.Files.{file}
-use Rattle.tm_parse.specs.Limits.{Verdict, Within, Beyond, count, none_yet}
+use Rattle.tm_parse.specs.Counting.{Verdict, Within, Beyond, count, none_yet}
 use Rattle.tm_parse.specs.Parts.{Outcome, Done, Stuck, Passed, finish}
 use Rattle.tm_parse.specs.declared.counts.Counts.{Counts}
 use Rattle.tm_base.specs.declared.limit.LimitKind.{LimitKind}
@@ -29,7 +30,7 @@ not-longer : (v w : Parsed) (c : Counts) (x : Verdict) (t : Terminal) (ts : List
 not-longer v w c (Within d) t ts h = let a : [] ≡ t ∷ ts = cc in cc
 not-longer v w c (Beyond kind left) t ts h = cc
 
-stuck-answer : (ts rest : List Terminal) (back : List Event) (after : Counts) → Stops file none_yet ts rest back after Stuck → IsAnswer ts (Stuck rest)
+stuck-answer : (ts rest : List Terminal) (back : List Event) (after : Counts) → Stops file none_yet ts rest back after Stuck → IsCountedAnswer ts (Stuck rest)
 stuck-answer ts rest back after g = (
   terminals g.front,
   g.text,
@@ -41,11 +42,11 @@ stuck-answer ts rest back after g = (
     hopeless (t ∷ rest) alone = λ b. not-stuck b.value (count none_yet b.events) (t ∷ b.others)
         (sym (reads b.value b.events b.spelled) ∙ ap read (b.text ∙ append_assoc (terminals g.front) (t ∷ []) b.others) ∙ alone (t ∷ b.others) refl)
 
-passed-answer : (ts rest : List Terminal) (kind : LimitKind) (back : List Event) (after : Counts) → Stops file none_yet ts rest back after (Passed kind) → IsPast kind rest back after → IsAnswer ts (Passed kind rest)
+passed-answer : (ts rest : List Terminal) (kind : LimitKind) (back : List Event) (after : Counts) → Stops file none_yet ts rest back after (Passed kind) → IsPast kind rest back after → IsCountedAnswer ts (Passed kind rest)
 passed-answer ts [] kind back after g past = absurd (past.some refl)
 passed-answer ts (t ∷ rest) kind back after g past = (terminals g.front, t, rest, refl, g.text, next (terminals back) refl past.next)
   where
-    next : (u : List Terminal) → terminals back ≡ u → Same (t ∷ rest) u → PassesAt kind (terminals g.front) t
+    next : (u : List Terminal) → terminals back ≡ u → Same (t ∷ rest) u → PassesCounted kind (terminals g.front) t
     next [] e n = absurd n
     next (y ∷ u) e n = record {
       value = g.value;
@@ -60,7 +61,7 @@ passed-answer ts (t ∷ rest) kind back after g past = (terminals g.front, t, re
       passes = past.passes;
     }
 
-done-answer : (ts : List Terminal) (v : Parsed) (c : Counts) (rest : List Terminal) → IsDone file none_yet ts v c rest → IsAnswer ts (whole (Done v c rest))
+done-answer : (ts : List Terminal) (v : Parsed) (c : Counts) (rest : List Terminal) → IsDone file none_yet ts v c rest → IsCountedAnswer ts (whole (Done v c rest))
 done-answer ts v c [] g = (record { events = g.events; spelled = record { levels = g.depth; spelled = g.spelled }; text = sym (g.text ∙ append-nil (terminals g.events)); within = g.within }, refl)
 done-answer ts v c (t ∷ rest) g = (
   terminals g.events,
@@ -72,23 +73,23 @@ done-answer ts v c (t ∷ rest) g = (
   ),
 )
 
-answers : (ts : List Terminal) (o : Outcome Parsed) → IsRight file none_yet ts o → IsAnswer ts (whole o)
+answers : (ts : List Terminal) (o : Outcome Parsed) → IsRight file none_yet ts o → IsCountedAnswer ts (whole o)
 answers ts (Done v c rest) g = done-answer ts v c rest g
 answers ts (Stuck rest) (back, after, g) = stuck-answer ts rest back after g
 answers ts (Passed kind rest) (back, after, g, past) = passed-answer ts rest kind back after g past
 
 -- each answer is right
-pub answer_is_right : (ts : List Terminal) → IsAnswer ts (answer_of ts)
+pub answer_is_right : (ts : List Terminal) → IsCountedAnswer ts (answer_of ts)
 unfolding answer_of
 answer_is_right ts = answers ts (read ts) (is_right ts)
 
 -- a file within the limits is answered
-pub file_is_answered : (v : Parsed) (ts : List Terminal) (after : Counts) → IsFile v ts after → answer_of ts ≡ Done v after []
+pub file_is_answered : (v : Parsed) (ts : List Terminal) (after : Counts) → IsCountedFile v ts after → answer_of ts ≡ Done v after []
 unfolding answer_of
 file_is_answered v ts after f = ap (λ x. whole (read x)) (sym f.text) ∙ ap whole (reads v f.events f.spelled ∙ ap (finish v []) f.within)
 
 -- and the terminals spell no other file
-pub one_file : (v w : Parsed) (ts : List Terminal) (after : Counts) (e : List Event) → IsFile v ts after → SpelledBy w e → terminals e ≡ ts → v ≡ w
+pub one_file : (v w : Parsed) (ts : List Terminal) (after : Counts) (e : List Event) → IsCountedFile v ts after → SpelledBy w e → terminals e ≡ ts → v ≡ w
 unfolding answer_of
 one_file v w ts after e f h eq = same (count none_yet e) (sym (ap whole (reads w e h)) ∙ ap answer_of eq ∙ file_is_answered v ts after f)
   where

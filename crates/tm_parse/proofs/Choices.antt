@@ -8,7 +8,7 @@ use Rattle.tm_parse.proofs.Lawful.{Clear, Front, Begun, IsRight, Laws}
 use Rattle.tm_parse.specs.Classes.{among, apart, joined}
 use Rattle.tm_parse.specs.Combinators.{starts, pick, ◌or◌, mapped, to}
 use Rattle.tm_parse.specs.Events.{Event, terminals}
-use Rattle.tm_parse.specs.Limits.{Verdict, Within, Beyond, count}
+use Rattle.tm_parse.specs.Counting.{Verdict, Within, Beyond, count}
 use Rattle.tm_parse.specs.Parts.{Part, finish}
 use Rattle.tm_parse.specs.declared.counts.Counts.{Counts}
 use Rattle.tm_parse.specs.declared.terminal.Terminal.{Terminal}

@@ -9,7 +9,6 @@ use Rattle.tm_parse.specs.Files.{item}
 use Rattle.tm_parse.specs.NameClasses.{is_lifetime, may_name}
 use Rattle.tm_parse.specs.Types.{definition_names}
 use Rattle.tm_parse.specs.declared.class.Class.TheVariants as c
-use Rattle.tm_parse.specs.declared.counts.Counts.{Counts}
 use Rattle.tm_parse.specs.declared.parsed.Decl.{Decl}
 use Rattle.tm_parse.specs.declared.parsed.DeclRepr.{DeclRepr}
 use Rattle.tm_parse.specs.declared.parsed.Parsed.{Parsed}
@@ -51,7 +50,7 @@ module _ (IsName IsLifetime : ℕ → Type 0) where
     of-item = or_keeps (to_keeps (seq_keeps skipped (seq_keeps (mark_keeps (one_keeps (c.Lifetime ∷ []) {K = λ t. IsLifetime t.place} (λ t h is. is.lifetime h))) skipped)) (λ v k. k.1.0))
         (or_keeps (to_keeps skipped (λ v k. tt)) (or_keeps (to_keeps skipped (λ v k. tt)) (to_keeps of-definition (λ v k. k))))
 
-  pub declared_kept : (v : Parsed) (ts : List Terminal) (after : Counts) → IsFile v ts after → All Is ts → Declares IsName IsLifetime v
-  declared_kept v ts after f h =
-      let kept = kept_of_file IsLifetime (λ b. Unit {0}) (λ d. IsName d.name) (λ q. Unit {0}) Is of-item v ts after f h in
+  pub declared_kept : (v : Parsed) (ts : List Terminal) → IsFile v ts → All Is ts → Declares IsName IsLifetime v
+  declared_kept v ts f h =
+      let kept = kept_of_file IsLifetime (λ b. Unit {0}) (λ d. IsName d.name) (λ q. Unit {0}) Is of-item v ts f h in
       record { names = kept.definitions; lifetimes = kept.lifetimes }

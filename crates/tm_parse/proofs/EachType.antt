@@ -10,7 +10,6 @@ use Rattle.tm_parse.specs.Definitions.{field, place, variant_field, variant_plac
 use Rattle.tm_parse.specs.Events.{a_type}
 use Rattle.tm_parse.specs.Files.{question}
 use Rattle.tm_parse.specs.Types.{or_none, behind_paren, plain_type, type_part, read_none, SpellsType}
-use Rattle.tm_parse.specs.declared.counts.Counts.{Counts}
 use Rattle.tm_parse.specs.declared.parsed.Decl.{Decl}
 use Rattle.tm_parse.specs.declared.parsed.DeclAsk.{DeclAsk}
 use Rattle.tm_parse.specs.declared.parsed.DeclField.{DeclField}
@@ -94,9 +93,9 @@ module _ (K : Expr → Type 0) where
     of-definition : Keeps Is OfDefinition (definition levels).spells
     of-definition = to_keeps (seq_keeps skipped (seq_keeps skipped of-headed)) (λ v k. k.1.1 (together v.0))
 
-  pub each_type : (Is : Terminal → Type 0) → KeepsTypes Is K → (v : Parsed) (ts : List Terminal) (after : Counts) → IsFile v ts after → All Is ts → EachType K v
-  each_type Is keeps v ts after f h =
-      let kept = kept_of_file (λ t. Unit {0}) (λ b. Unit {0}) OfDefinition OfQuestion Is (λ levels. definitions_and_questions OfDefinition OfQuestion Is levels (of-definition Is keeps levels) (asked levels)) v ts after f h in
+  pub each_type : (Is : Terminal → Type 0) → KeepsTypes Is K → (v : Parsed) (ts : List Terminal) → IsFile v ts → All Is ts → EachType K v
+  each_type Is keeps v ts f h =
+      let kept = kept_of_file (λ t. Unit {0}) (λ b. Unit {0}) OfDefinition OfQuestion Is (λ levels. definitions_and_questions OfDefinition OfQuestion Is levels (of-definition Is keeps levels) (asked levels)) v ts f h in
       record { fields = kept.definitions; questions = kept.questions }
     where
       asked : (levels : ℕ) → Keeps Is (λ i. KeptItem (λ t. Unit {0}) (λ b. Unit {0}) OfDefinition OfQuestion i) (question levels).spells

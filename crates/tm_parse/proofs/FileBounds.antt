@@ -4,11 +4,11 @@ use Rattle.tm_parse.proofs.Counters.{definitions, questions, lifetimes, definiti
 use Rattle.tm_parse.proofs.Least.{AtLeast, total, any_least, fewer, to_least, seq_least, or_least, mark_least, many_least}
 use Rattle.tm_parse.proofs.Weights.{weigh-nothing, counter_within}
 use Rattle.tm_parse.specs.Accepted.{IsFile}
+use Rattle.tm_parse.proofs.LimitLemmas.{is-counted}
 use Rattle.tm_parse.specs.Bounds.{HasFewItems}
 use Rattle.tm_parse.specs.Definitions.{headed_any, definition}
 use Rattle.tm_parse.specs.Files.{item, sorted, file}
-use Rattle.tm_parse.specs.Limits.{none_yet}
-use Rattle.tm_parse.specs.declared.counts.Counts.{Counts}
+use Rattle.tm_parse.specs.Counting.{none_yet}
 use Rattle.tm_parse.specs.declared.items.Item.{Item}
 use Rattle.tm_parse.specs.declared.items.Item.TheVariants as sort
 use Rattle.tm_parse.specs.declared.parsed.Parsed.{Parsed}
@@ -66,12 +66,13 @@ file-questions levels = to_least (many_least (question-items levels)) questions-
 file-lifetimes : (levels : ℕ) → AtLeast lifetimes (λ v. length v.lifetimes) (file levels).spells
 file-lifetimes levels = to_least (many_least (lifetime-items levels)) lifetimes-sorted
 
-pub has_few_items : (v : Parsed) (ts : List Terminal) (after : Counts) → IsFile v ts after → HasFewItems v
-has_few_items v ts after f =
+pub has_few_items : (v : Parsed) (ts : List Terminal) → IsFile v ts → HasFewItems v
+has_few_items v ts f =
     let levels = f.spelled.levels in
     let none = weigh-nothing f.events in
+    let (after, within) = is-counted f.events f.within in
     record {
-      lifetimes = (let all = (file-lifetimes levels).least v f.events f.spelled.spelled in let few = counter_within lifetime_counter none_yet after f.events f.within none (omega arith) in omega (arith, all, few));
-      definitions = (let all = (file-definitions levels).least v f.events f.spelled.spelled in let few = counter_within definition_counter none_yet after f.events f.within none (omega arith) in omega (arith, all, few));
-      questions = (let all = (file-questions levels).least v f.events f.spelled.spelled in let few = counter_within question_counter none_yet after f.events f.within none (omega arith) in omega (arith, all, few));
+      lifetimes = (let all = (file-lifetimes levels).least v f.events f.spelled.spelled in let few = counter_within lifetime_counter none_yet after f.events within none (omega arith) in omega (arith, all, few));
+      definitions = (let all = (file-definitions levels).least v f.events f.spelled.spelled in let few = counter_within definition_counter none_yet after f.events within none (omega arith) in omega (arith, all, few));
+      questions = (let all = (file-questions levels).least v f.events f.spelled.spelled in let few = counter_within question_counter none_yet after f.events within none (omega arith) in omega (arith, all, few));
     }

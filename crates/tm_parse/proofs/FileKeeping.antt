@@ -3,10 +3,10 @@ use Rattle.std.proofs.Common.{ℕ, sym, subst, List, [], ◌∷◌, All}
 use Rattle.std.proofs.lemmas.List.Elements.{All-nil, All-cons, All-head, All-tail}
 use Rattle.tm_parse.proofs.Keeping.{each-terminals, IsGood, Keeps, skipped, to_keeps, or_keeps, many_keeps}
 use Rattle.tm_parse.specs.Accepted.{IsFile}
+use Rattle.tm_parse.proofs.LimitLemmas.{is-counted}
 use Rattle.tm_parse.specs.Definitions.{definition}
 use Rattle.tm_parse.specs.Files.{question, item, with_item, sorted, file}
-use Rattle.tm_parse.specs.Limits.{none_yet}
-use Rattle.tm_parse.specs.declared.counts.Counts.{Counts}
+use Rattle.tm_parse.specs.Counting.{none_yet}
 use Rattle.tm_parse.specs.declared.items.Item.{Item}
 use Rattle.tm_parse.specs.declared.items.Item.TheVariants as sort
 use Rattle.tm_parse.specs.declared.parsed.Decl.{Decl}
@@ -43,11 +43,11 @@ module _ (L : ℕ → Type 0) (B : DeclBound → Type 0) (D : Decl → Type 0) (
     file-keeps : (levels : ℕ) → Keeps Is KeptFile (file levels).spells
     file-keeps levels = to_keeps (many_keeps (items levels)) all-sorted
 
-    good-file : (v : Parsed) (ts : List Terminal) (after : Counts) (f : IsFile v ts after) → All Is ts → IsGood Is f.events
-    good-file v ts after f h = record { before = none_yet; after = after; within = f.within; each = each-terminals Is f.events (subst (All Is) (sym f.text) h) }
+    good-file : (v : Parsed) (ts : List Terminal) (f : IsFile v ts) → All Is ts → IsGood Is f.events
+    good-file v ts f h = let (after, within) = is-counted f.events f.within in record { before = none_yet; after = after; within = within; each = each-terminals Is f.events (subst (All Is) (sym f.text) h) }
 
-    pub kept_of_file : (v : Parsed) (ts : List Terminal) (after : Counts) → IsFile v ts after → All Is ts → KeptFile v
-    kept_of_file v ts after f h = (file-keeps f.spelled.levels).kept v f.events f.spelled.spelled (good-file v ts after f h)
+    pub kept_of_file : (v : Parsed) (ts : List Terminal) → IsFile v ts → All Is ts → KeptFile v
+    kept_of_file v ts f h = (file-keeps f.spelled.levels).kept v f.events f.spelled.spelled (good-file v ts f h)
 
 -- where nothing is kept of lifetimes and bounds
 pub definitions_and_questions : (D : Decl → Type 0) (Q : DeclAsk → Type 0) (Is : Terminal → Type 0) (levels : ℕ) → Keeps Is D (definition levels).spells
@@ -55,6 +55,6 @@ pub definitions_and_questions : (D : Decl → Type 0) (Q : DeclAsk → Type 0) (
 definitions_and_questions D Q Is levels definitions questions = or_keeps (to_keeps skipped (λ v k. tt)) (or_keeps (to_keeps skipped (λ v k. tt)) (or_keeps questions (to_keeps definitions (λ v k. k))))
 
 -- where nothing is asked of terminals, and something kept of definitions alone
-pub kept_definitions : (D : Decl → Type 0) → ((levels : ℕ) → Keeps (λ t. Unit {0}) D (definition levels).spells) → (v : Parsed) (ts : List Terminal) (after : Counts) → IsFile v ts after → All D v.decls
-kept_definitions D definitions v ts after f = (kept_of_file (λ t. Unit {0}) (λ b. Unit {0}) D (λ q. Unit {0}) (λ t. Unit {0})
-    (λ levels. definitions_and_questions D (λ q. Unit {0}) (λ t. Unit {0}) levels (definitions levels) (to_keeps skipped (λ v k. tt))) v ts after f (λ k d l. tt)).definitions
+pub kept_definitions : (D : Decl → Type 0) → ((levels : ℕ) → Keeps (λ t. Unit {0}) D (definition levels).spells) → (v : Parsed) (ts : List Terminal) → IsFile v ts → All D v.decls
+kept_definitions D definitions v ts f = (kept_of_file (λ t. Unit {0}) (λ b. Unit {0}) D (λ q. Unit {0}) (λ t. Unit {0})
+    (λ levels. definitions_and_questions D (λ q. Unit {0}) (λ t. Unit {0}) levels (definitions levels) (to_keeps skipped (λ v k. tt))) v ts f (λ k d l. tt)).definitions

@@ -5,7 +5,7 @@ use Rattle.tm_parse.proofs.Lawful.{Clear, Front, Same}
 use Rattle.tm_parse.specs.Classes.{among, apart, joined}
 use Rattle.tm_parse.specs.Combinators.{starts}
 use Rattle.tm_parse.specs.Events.{Event, terminal, mark, terminals}
-use Rattle.tm_parse.specs.Limits.{Step, Fine, Passes, step, Within, Beyond, counted, count}
+use Rattle.tm_parse.specs.Counting.{Step, Fine, Passes, step, Within, Beyond, counted, count}
 use Rattle.tm_parse.specs.declared.class.Class.{Class}
 use Rattle.tm_parse.specs.declared.counts.Counts.{Counts}
 use Rattle.tm_base.specs.declared.limit.LimitKind.{LimitKind}

@@ -6,7 +6,7 @@ use Rattle.tm_parse.proofs.Least.{Spells, WithComma, MayBe, AndOthers, LifetimeO
 use Rattle.tm_parse.specs.Classes.{among}
 use Rattle.tm_parse.specs.Combinators.{Others, Repeats}
 use Rattle.tm_parse.specs.Events.{Mark, Role, Event, terminal, mark, terminals}
-use Rattle.tm_parse.specs.Limits.{Step, Fine, Passes, step, Within, counted, count}
+use Rattle.tm_parse.specs.Counting.{Step, Fine, Passes, step, Within, counted, count}
 use Rattle.tm_parse.specs.Shapes.{and_others, in_two, and_then_others, or_neither}
 use Rattle.tm_parse.specs.declared.class.Class.{Class}
 use Rattle.tm_parse.specs.declared.counts.Counts.{Counts}

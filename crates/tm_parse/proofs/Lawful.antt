@@ -3,7 +3,7 @@
 use Rattle.std.proofs.Common.{◌≡◌, ℕ, zero, suc, Bool, true, false, List, [], ◌∷◌, ◌++◌}
 use Rattle.tm_parse.specs.Classes.{among}
 use Rattle.tm_parse.specs.Events.{Event, terminals}
-use Rattle.tm_parse.specs.Limits.{Within, Beyond, count}
+use Rattle.tm_parse.specs.Counting.{Within, Beyond, count}
 use Rattle.tm_parse.specs.Parts.{Outcome, Done, Stuck, Passed, Part, finish}
 use Rattle.tm_parse.specs.declared.class.Class.{Class}
 use Rattle.tm_parse.specs.declared.counts.Counts.{Counts}

@@ -6,7 +6,8 @@ use Rattle.tm_base.specs.Limits.{limit_number}
 use Rattle.tm_parse.proofs.Keeping.{Keeps}
 use Rattle.tm_parse.specs.Combinators.{one}
 use Rattle.tm_parse.specs.Events.{array_length, terminal}
-use Rattle.tm_parse.specs.Limits.{Within, Fine, Passes, and_then, count, counted, name_bytes, number_of, step}
+use Rattle.tm_parse.specs.Counting.{Within, Fine, Passes, and_then, count, counted, name_bytes, step}
+use Rattle.tm_parse.specs.Limits.{number_of}
 use Rattle.tm_parse.specs.Types.{number}
 use Rattle.tm_parse.specs.declared.counts.Counts.{Counts}
 use Rattle.tm_parse.specs.declared.terminal.Terminal.{Terminal}

@@ -2,7 +2,7 @@
 use Rattle.std.proofs.Common.{◌≡◌, ℕ, zero, suc, ◌+◌, ◌-◌, ◌<◌, ◌≤◌, refl, sym, ap, ◌∙◌, Bool, true, false, if◌then◌else◌, List, nat_lt, arith, lt-ltb, ltb-true, ltb-false}
 use Rattle.tm_parse.specs.Combinators.{starts, read_marked}
 use Rattle.tm_parse.specs.Events.{mark, a_type}
-use Rattle.tm_parse.specs.Limits.{Fine, Passes, and_then, nodes_before, step, within}
+use Rattle.tm_parse.specs.Counting.{Fine, Passes, and_then, nodes_before, step, within}
 use Rattle.tm_parse.specs.Parts.{Outcome, Stuck}
 use Rattle.tm_parse.specs.Types.{type_at, type_first, type_part, SpellsType, read_type, one_level, too_deep}
 use Rattle.tm_parse.specs.declared.counts.Counts.{Counts}

@@ -25,8 +25,12 @@ pub mod FileLaws
 pub mod Answering
 pub mod Prefixes
 pub mod Exactness
+pub mod AcceptedLaws
 pub mod Returning
 pub mod Weights
+pub mod LimitNumbers
+pub mod LimitSteps
+pub mod LimitLemmas
 pub mod Counters
 pub mod Least
 pub mod FileBounds

@@ -10,7 +10,7 @@ use Rattle.tm_parse.proofs.ShapeLaws.{the_laws, optional_laws, comma_laws, liste
 use Rattle.tm_parse.specs.Classes.{apart, joined}
 use Rattle.tm_parse.specs.Combinators.{pick, repeat, to}
 use Rattle.tm_parse.specs.Events.{Event, terminals}
-use Rattle.tm_parse.specs.Limits.{count}
+use Rattle.tm_parse.specs.Counting.{count}
 use Rattle.tm_parse.specs.Parts.{Part, finish}
 use Rattle.tm_parse.specs.Shapes.{with_comma, listed1, lifetime_or_items, lifetimes_then}
 use Rattle.tm_parse.specs.declared.class.Class.TheVariants as c

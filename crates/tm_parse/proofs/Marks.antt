@@ -5,7 +5,7 @@ use Rattle.tm_parse.proofs.Fronts.{starts-same, starts-front, same-text}
 use Rattle.tm_parse.proofs.Lawful.{Clear, Same, Spelling, Stops, IsRight, Laws}
 use Rattle.tm_parse.specs.Combinators.{starts, read_marked, counts_as}
 use Rattle.tm_parse.specs.Events.{Mark, mark, Event, terminals}
-use Rattle.tm_parse.specs.Limits.{Step, Fine, Passes, step, counted, count}
+use Rattle.tm_parse.specs.Counting.{Step, Fine, Passes, step, counted, count}
 use Rattle.tm_parse.specs.Parts.{Outcome, Done, Stuck, Passed, Part, finish}
 use Rattle.tm_parse.specs.declared.counts.Counts.{Counts}
 use Rattle.tm_parse.specs.declared.terminal.Terminal.{Terminal}

@@ -9,7 +9,7 @@ use Rattle.tm_parse.proofs.Spellings.{deeper, deeper-too}
 use Rattle.tm_parse.specs.Classes.{among, apart, joined}
 use Rattle.tm_parse.specs.Combinators.{paired, followed, ◌>>◌}
 use Rattle.tm_parse.specs.Events.{Event, terminals}
-use Rattle.tm_parse.specs.Limits.{Verdict, Within, Beyond, count}
+use Rattle.tm_parse.specs.Counting.{Verdict, Within, Beyond, count}
 use Rattle.tm_parse.specs.Parts.{Outcome, Done, Stuck, Passed, Part, finish}
 use Rattle.tm_parse.specs.declared.counts.Counts.{Counts}
 use Rattle.tm_parse.specs.declared.terminal.Terminal.{Terminal}

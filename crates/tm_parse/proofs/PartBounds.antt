@@ -11,7 +11,7 @@ use Rattle.tm_parse.proofs.Without.{Without, one_without, seq_without}
 use Rattle.tm_parse.specs.Bounds.{fields_of, HasFewParts}
 use Rattle.tm_parse.specs.Definitions as d
 use Rattle.tm_parse.specs.Events.{a_definition, Event, mark}
-use Rattle.tm_parse.specs.Limits.{Within, count}
+use Rattle.tm_parse.specs.Counting.{Within, count}
 use Rattle.tm_parse.specs.Combinators.{◌>>◌}
 use Rattle.tm_parse.specs.Parts.{Part}
 use Rattle.tm_parse.specs.Shapes.{any, the, or_neither}

@@ -14,7 +14,6 @@ use Rattle.tm_parse.specs.Places.{own_places, PlacesOfType, PlacesOfField, Place
 use Rattle.tm_parse.specs.Shapes.{or_neither}
 use Rattle.tm_parse.specs.Spelling.{terminal_of, terminals_of}
 use Rattle.tm_parse.specs.Types.{places, or_none}
-use Rattle.tm_parse.specs.declared.counts.Counts.{Counts}
 use Rattle.tm_parse.specs.declared.parsed.Decl.{Decl}
 use Rattle.tm_parse.specs.declared.parsed.DeclField.{DeclField}
 use Rattle.tm_parse.specs.declared.parsed.DeclRepr.{DeclRepr}
@@ -145,9 +144,9 @@ module _ (IsPlace : ℕ → Type 0) where
         (or_keeps (to_keeps (seq_keeps skipped (seq_keeps word_keeps (seq_keeps skipped (seq_keeps word_keeps skipped)))) (λ v k. record { longer = k.1.0; shorter = k.1.1.1.0 }))
         (or_keeps of-question (to_keeps of-definition (λ v k. k))))
 
-  pub places_kept : (v : Parsed) (ts : List Terminal) (after : Counts) → IsFile v ts after → All At ts → EachPlace IsPlace v
-  places_kept v ts after f h =
-      let kept = kept_of_file IsPlace (PlacesOfBound IsPlace) (PlacesOfDefinition IsPlace) (PlacesOfQuestion IsPlace) At of-item v ts after f h in
+  pub places_kept : (v : Parsed) (ts : List Terminal) → IsFile v ts → All At ts → EachPlace IsPlace v
+  places_kept v ts f h =
+      let kept = kept_of_file IsPlace (PlacesOfBound IsPlace) (PlacesOfDefinition IsPlace) (PlacesOfQuestion IsPlace) At of-item v ts f h in
       record { lifetimes = kept.lifetimes; bounds = kept.bounds; definitions = kept.definitions; questions = kept.questions }
 
 -- the terminals of a text's tokens have the tokens' places

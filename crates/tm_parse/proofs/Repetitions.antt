@@ -9,7 +9,7 @@ use Rattle.tm_parse.proofs.Spellings.{deeper, deeper-too}
 use Rattle.tm_parse.specs.Classes.{apart}
 use Rattle.tm_parse.specs.Combinators.{starts, pick, Others, put_first, go_on, and_again, read_most, read_all, repeat}
 use Rattle.tm_parse.specs.Events.{Event, terminals}
-use Rattle.tm_parse.specs.Limits.{Verdict, Within, Beyond, count}
+use Rattle.tm_parse.specs.Counting.{Verdict, Within, Beyond, count}
 use Rattle.tm_parse.specs.Parts.{Outcome, Done, Stuck, Passed, Reader, Part, finish}
 use Rattle.tm_parse.specs.declared.class.Class.{Class}
 use Rattle.tm_parse.specs.declared.counts.Counts.{Counts}

@@ -1,12 +1,12 @@
 -- What is returned for a list of terminals says what the list is, and what it is decides what is returned.
 use Rattle.std.proofs.Common.{◌≡◌, ◌⊎◌, ℕ, ◌+◌, ◌-◌, ◌≤◌, refl, sym, ap, ◌∙◌, subst, List, ◌∷◌, ◌++◌, length, length-append, Result, IfOk, IfErr, MatchResult, inl, inr, arith}
-use Rattle.tm_parse.proofs.Answering.{read, is_right, answer_is_right, file_is_answered}
-use Rattle.tm_parse.proofs.Exactness.{fault_exact, limit_answered}
+use Rattle.tm_parse.proofs.AcceptedLaws.{answer_is_said, file_said, fault_said, limit_said}
+use Rattle.tm_parse.proofs.Answering.{read, is_right}
 use Rattle.tm_parse.proofs.Lawful.{IsRight}
 use Rattle.tm_parse.specs.Accepted.{answer_of, IsAnswer}
 use Rattle.tm_parse.specs.Events.{terminals}
 use Rattle.tm_parse.specs.Files.{file}
-use Rattle.tm_parse.specs.Limits.{none_yet}
+use Rattle.tm_parse.specs.Counting.{none_yet}
 use Rattle.tm_parse.specs.Parsing.{SpellsFile, StopsAt, PassesLimitAt, HasCause, returned, IsAnswered}
 use Rattle.tm_parse.specs.Parts.{Outcome, Done, Stuck, Passed}
 use Rattle.tm_parse.specs.declared.counts.Counts.{Counts}
@@ -24,16 +24,16 @@ counts-front ts front rest h = let whole : length ts ≡ length front + length r
 
 pub file_returned : (ts : List Terminal) (r : Result Parsed ParseErr) → IsAnswered ts r → IfOk r (SpellsFile ts)
 file_returned ts r (inr e) = subst (λ x. IfOk x (SpellsFile ts)) (sym e) tt
-file_returned ts r (inl e) = subst (λ x. IfOk x (SpellsFile ts)) (sym e) (told (answer_of ts) (answer_is_right ts))
+file_returned ts r (inl e) = subst (λ x. IfOk x (SpellsFile ts)) (sym e) (told (answer_of ts) (answer_is_said ts))
   where
     told : (o : Outcome Parsed) → IsAnswer ts o → IfOk (returned ts o) (SpellsFile ts)
-    told (Done v after rest) g = record { after = after; file = g.0 }
+    told (Done v after rest) g = g.0
     told (Stuck rest) g = tt
     told (Passed kind rest) g = tt
 
 pub cause_returned : (ts : List Terminal) (r : Result Parsed ParseErr) → IsAnswered ts r → IfErr r (HasCause ts)
 cause_returned ts r (inr e) = subst (λ x. IfErr x (HasCause ts)) (sym e) tt
-cause_returned ts r (inl e) = subst (λ x. IfErr x (HasCause ts)) (sym e) (told (answer_of ts) (answer_is_right ts))
+cause_returned ts r (inl e) = subst (λ x. IfErr x (HasCause ts)) (sym e) (told (answer_of ts) (answer_is_said ts))
   where
     told : (o : Outcome Parsed) → IsAnswer ts o → IfErr (returned ts o) (HasCause ts)
     told (Done v after rest) g = tt
@@ -45,19 +45,19 @@ cause_returned ts r (inl e) = subst (λ x. IfErr x (HasCause ts)) (sym e) (told 
 
 pub spelled_returned : (ts : List Terminal) (r : Result Parsed ParseErr) → IsAnswered ts r → (v : Parsed) → SpellsFile ts v → MatchResult r (λ found. found ≡ v) (λ err. err ≡ Memory)
 spelled_returned ts r (inr e) v s = subst (λ x. MatchResult x (λ found. found ≡ v) (λ err. err ≡ Memory)) (sym e) refl
-spelled_returned ts r (inl e) v s = subst (λ x. MatchResult x (λ found. found ≡ v) (λ err. err ≡ Memory)) (sym (e ∙ ap (returned ts) (file_is_answered v ts s.after s.file))) refl
+spelled_returned ts r (inl e) v s = subst (λ x. MatchResult x (λ found. found ≡ v) (λ err. err ≡ Memory)) (sym (e ∙ ap (returned ts) ((file_said v ts).1 s).1)) refl
 
 pub fault_returned : (ts : List Terminal) (r : Result Parsed ParseErr) → IsAnswered ts r → (place : ℕ) → StopsAt ts place → MatchResult r (λ _. ⊥) (λ err. (err ≡ At place) ⊎ (err ≡ Memory))
 fault_returned ts r (inr e) place s = subst (λ x. MatchResult x (λ _. ⊥) (λ err. (err ≡ At place) ⊎ (err ≡ Memory))) (sym e) (inr refl)
 fault_returned ts r (inl e) place s =
-    let told : answer_of ts ≡ Stuck s.rest = ap answer_of s.splits ∙ (fault_exact s.front s.rest).1 s.fault in
+    let told : answer_of ts ≡ Stuck s.rest = ap answer_of s.splits ∙ (fault_said s.front s.rest).1 s.fault in
     let at : length ts - length s.rest ≡ place = counts-front ts s.front s.rest s.splits ∙ s.long in
     subst (λ x. MatchResult x (λ _. ⊥) (λ err. (err ≡ At place) ⊎ (err ≡ Memory))) (sym (e ∙ ap (returned ts) told)) (inl (ap At at))
 
 pub limit_returned : (ts : List Terminal) (r : Result Parsed ParseErr) → IsAnswered ts r → (kind : LimitKind) (place : ℕ) → PassesLimitAt ts kind place → MatchResult r (λ _. ⊥) (λ err. (err ≡ Limit kind place) ⊎ (err ≡ Memory))
 limit_returned ts r (inr e) kind place s = subst (λ x. MatchResult x (λ _. ⊥) (λ err. (err ≡ Limit kind place) ⊎ (err ≡ Memory))) (sym e) (inr refl)
 limit_returned ts r (inl e) kind place s =
-    let told : answer_of ts ≡ Passed kind (s.next ∷ s.rest) = ap answer_of s.splits ∙ limit_answered kind s.front s.next s.passes s.rest in
+    let told : answer_of ts ≡ Passed kind (s.next ∷ s.rest) = ap answer_of s.splits ∙ (limit_said kind s.front s.next s.rest).1 s.passes in
     let at : length ts - length (s.next ∷ s.rest) ≡ place = counts-front ts s.front (s.next ∷ s.rest) s.splits ∙ s.long in
     subst (λ x. MatchResult x (λ _. ⊥) (λ err. (err ≡ Limit kind place) ⊎ (err ≡ Memory))) (sym (e ∙ ap (returned ts) told)) (inl (ap (Limit kind) at))
 

@@ -5,7 +5,7 @@ use Rattle.tm_parse.proofs.Lawful.{Clear, Same, Spelling, IsRight, Laws}
 use Rattle.tm_parse.specs.Classes.{code, among}
 use Rattle.tm_parse.specs.Combinators.{read_step, read_if, read_one, one, nothing}
 use Rattle.tm_parse.specs.Events.{Role, Event, terminal, terminals}
-use Rattle.tm_parse.specs.Limits.{Step, Fine, Passes, step, Within, counted, count}
+use Rattle.tm_parse.specs.Counting.{Step, Fine, Passes, step, Within, counted, count}
 use Rattle.tm_parse.specs.Parts.{Done, Stuck, Passed, Part, finish}
 use Rattle.tm_parse.specs.declared.class.Class.{Class}
 use Rattle.tm_parse.specs.declared.counts.Counts.{Counts}

@@ -13,7 +13,8 @@ use Rattle.tm_parse.proofs.WrittenLemmas.{written-Prim, written-Never, written-T
 use Rattle.tm_parse.specs.Bounds.{IsSmall}
 use Rattle.tm_parse.specs.Combinators.{counts_as}
 use Rattle.tm_parse.specs.Events.{a_type, Event, mark}
-use Rattle.tm_parse.specs.Limits.{number_of, Within, count}
+use Rattle.tm_parse.specs.Counting.{Within, count}
+use Rattle.tm_parse.specs.Limits.{number_of}
 use Rattle.tm_parse.specs.Shapes.{is_there, or_neither}
 use Rattle.tm_parse.specs.Types.{wrapper_of, places, named_with, arguments, tuple_or_inner, behind_paren, plain_type, one_level, type_part, read_none, SpellsType}
 use Rattle.tm_parse.specs.Written.{written}

@@ -12,7 +12,7 @@ use Rattle.tm_parse.proofs.TypeForms.{TellsTypes, level_form, level_laws}
 use Rattle.tm_parse.specs.Classes.{among, alike}
 use Rattle.tm_parse.specs.Combinators.{starts, counts_as}
 use Rattle.tm_parse.specs.Events.{a_type, mark, Event, terminals}
-use Rattle.tm_parse.specs.Limits.{Beyond, counted, count}
+use Rattle.tm_parse.specs.Counting.{Beyond, counted, count}
 use Rattle.tm_parse.specs.Parts.{Reader, Part, finish}
 use Rattle.tm_parse.specs.Types.{integer, scalar, type_first, primitive_type, one_level, type_part, read_none, SpellsType, too_deep, read_type, type_at}
 use Rattle.tm_parse.specs.declared.class.Class.TheVariants as c

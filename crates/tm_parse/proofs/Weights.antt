@@ -6,7 +6,8 @@ use Rattle.tm_base.specs.declared.limit.LimitKind.{LimitKind}
 use Rattle.tm_base.specs.declared.limit.LimitKind.TheVariants as limit
 use Rattle.tm_base.specs.Limits.{limit_number}
 use Rattle.tm_parse.specs.Events.{Mark, a_definition, a_question, a_lifetime, a_parameter, a_type_parameter, a_field, a_variant, a_type, Role, plain, array_length, Event, terminal, mark}
-use Rattle.tm_parse.specs.Limits.{Step, Fine, Passes, within, and_then, name_bytes, number_of, is_number_or_sign, nodes_before, step, Within, counted, count}
+use Rattle.tm_parse.specs.Counting.{Step, Fine, Passes, within, and_then, name_bytes, nodes_before, step, Within, counted, count}
+use Rattle.tm_parse.specs.Limits.{number_of, is_number_or_sign}
 use Rattle.tm_parse.specs.declared.counts.Counts.{Counts}
 use Rattle.tm_parse.specs.declared.terminal.Terminal.{Terminal}
 

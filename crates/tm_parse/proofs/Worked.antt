@@ -6,7 +6,7 @@ use Rattle.tm_base.specs.declared.ground.Wrapper.TheVariants as wrapper
 use Rattle.tm_parse.specs.Accepted.{answer_of}
 use Rattle.tm_parse.specs.Classes.{code}
 use Rattle.tm_parse.specs.Combinators.{read_most}
-use Rattle.tm_parse.specs.Limits.{step, none_yet}
+use Rattle.tm_parse.specs.Counting.{step, none_yet}
 use Rattle.tm_parse.specs.Parts.{Done, Stuck}
 use Rattle.tm_parse.specs.Types.{read_type}
 use Rattle.tm_parse.specs.declared.class.Class.{Class}

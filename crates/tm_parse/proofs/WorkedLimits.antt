@@ -5,7 +5,7 @@ use Rattle.tm_parse.proofs.Worked.{from}
 use Rattle.tm_parse.specs.Combinators.{read_most}
 use Rattle.tm_parse.specs.Definitions.{field, variant, parameters}
 use Rattle.tm_parse.specs.Files.{lifetime, item}
-use Rattle.tm_parse.specs.Limits.{step, none_yet}
+use Rattle.tm_parse.specs.Counting.{step, none_yet}
 use Rattle.tm_parse.specs.Parts.{Outcome, Done, Stuck, Passed}
 use Rattle.tm_parse.specs.Types.{read_type, type_at}
 use Rattle.tm_parse.specs.declared.class.Class.{Class}

@@ -3,9 +3,9 @@
 use Rattle.std.specs.Prelude.{◌≡◌, ℕ, List, [], ◌∷◌, ◌++◌}
 use Rattle.tm_parse.specs.Events.{Event, terminals}
 use Rattle.tm_parse.specs.Files.{file}
-use Rattle.tm_parse.specs.Limits.{Within, Beyond, count, none_yet}
+use Rattle.tm_parse.specs.Counting.{none_yet}
+use Rattle.tm_parse.specs.Limits.{IsFirstPassed, IsWithin}
 use Rattle.tm_parse.specs.Parts.{Outcome, Done, Stuck, Passed}
-use Rattle.tm_parse.specs.declared.counts.Counts.{Counts}
 use Rattle.tm_base.specs.declared.limit.LimitKind.{LimitKind}
 use Rattle.tm_parse.specs.declared.parsed.Parsed.{Parsed}
 use Rattle.tm_parse.specs.declared.terminal.Terminal.{Terminal}
@@ -20,23 +20,21 @@ pub record BeginsWithin (p : List Terminal) : Type 0 where
   pub value : Parsed
   pub front : List Event
   pub back : List Event
-  pub after : Counts
   pub spelled : SpelledBy value (front ++ back)
   pub text : terminals front ≡ p
-  pub within : count none_yet front ≡ Within after
+  pub within : IsWithin front
 
--- some file goes on with this terminal behind these; it passes a limit, and none of these does
+-- some file goes on with this terminal behind these; with it a limit is passed, and none is before it
 pub record PassesAt (kind : LimitKind) (p : List Terminal) (t : Terminal) : Type 0 where
   pub value : Parsed
   pub front : List Event
+  pub event : Event
   pub back : List Event
   pub others : List Terminal
-  pub after : Counts
-  pub spelled : SpelledBy value (front ++ back)
+  pub spelled : SpelledBy value (front ++ (event ∷ back))
   pub text : terminals front ≡ p
-  pub next : terminals back ≡ t ∷ others
-  pub within : count none_yet front ≡ Within after
-  pub passes : count after back ≡ Beyond kind back
+  pub next : terminals (event ∷ back) ≡ t ∷ others
+  pub passes : IsFirstPassed kind front event
 
 -- some file begins with these terminals
 pub record Begins (p : List Terminal) : Type 0 where
@@ -52,11 +50,11 @@ NoFile p [] = (v : Parsed) (e : List Event) → SpelledBy v e → terminals e �
 NoFile p (t ∷ rest) = Begins (p ++ (t ∷ [])) → ⊥
 
 -- these terminals spell the file, within the limits
-pub record IsFile (v : Parsed) (ts : List Terminal) (after : Counts) : Type 0 where
+pub record IsFile (v : Parsed) (ts : List Terminal) : Type 0 where
   pub events : List Event
   pub spelled : SpelledBy v events
   pub text : terminals events ≡ ts
-  pub within : count none_yet events ≡ Within after
+  pub within : IsWithin events
 
 -- behind `p` stands the first terminal with which no file goes on
 abbrev pub IsFaultAt : List Terminal → List Terminal → Type 0
@@ -74,6 +72,6 @@ answer_of ts = whole ((file 0).read none_yet ts)
 
 -- an answer says what the list is
 abbrev pub IsAnswer : List Terminal → Outcome Parsed → Type 0
-IsAnswer ts (Done v after rest) = IsFile v ts after × (rest ≡ [])
+IsAnswer ts (Done v after rest) = IsFile v ts × (rest ≡ [])
 IsAnswer ts (Stuck rest) = (p : List Terminal) × (ts ≡ p ++ rest) × IsFaultAt p rest
 IsAnswer ts (Passed kind rest) = (p : List Terminal) × (t : Terminal) × (others : List Terminal) × (rest ≡ t ∷ others) × (ts ≡ p ++ rest) × PassesAt kind p t

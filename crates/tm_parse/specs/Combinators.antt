@@ -3,7 +3,7 @@
 use Rattle.std.specs.Prelude.{◌≡◌, ℕ, zero, suc, Bool, true, false, ◌&&◌, ◌⊎◌, List, [], ◌∷◌, ◌++◌, length}
 use Rattle.tm_parse.specs.Classes.{among, joined}
 use Rattle.tm_parse.specs.Events.{Mark, Role, Event, terminal, mark}
-use Rattle.tm_parse.specs.Limits.{Step, Fine, Passes, step}
+use Rattle.tm_parse.specs.Counting.{Step, Fine, Passes, step}
 use Rattle.tm_parse.specs.Parts.{Outcome, Done, Stuck, Passed, Reader, Part}
 use Rattle.tm_parse.specs.declared.class.Class.{Class}
 use Rattle.tm_parse.specs.declared.terminal.Terminal.{Terminal}

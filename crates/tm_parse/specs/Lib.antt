@@ -3,6 +3,7 @@ pub mod Words
 pub mod Spelling
 pub mod Events
 pub mod Limits
+pub mod Counting
 pub mod Parts
 pub mod Combinators
 pub mod Shapes
@@ -10,6 +11,7 @@ pub mod Types
 pub mod Definitions
 pub mod Files
 pub mod Accepted
+pub mod Counted
 pub mod Written
 pub mod Bounds
 pub mod Places

@@ -1,28 +1,61 @@
--- The limits that are passed at a terminal.
-use Rattle.std.specs.Prelude.{ℕ, zero, suc, ◌+◌, Bool, nat_lt, if◌then◌else◌, List, [], ◌∷◌}
-use Rattle.tm_parse.specs.Classes.{among}
-use Rattle.tm_parse.specs.Events.{a_definition, a_question, a_lifetime, a_parameter, a_type_parameter, a_field, a_variant, a_type, plain, array_length, Event, terminal, mark}
-use Rattle.tm_parse.specs.declared.class.Class.{Class}
-use Rattle.tm_parse.specs.declared.class.Class.TheVariants as c
-use Rattle.tm_parse.specs.declared.counts.Counts.{Counts}
+-- The limits on what a file has. A limit is passed at the first event that is too much for it: a thing that begins, or a
+-- terminal.
+use Rattle.std.specs.Prelude.{◌≡◌, ◌⊎◌, ℕ, zero, ◌+◌, ◌<◌, Bool, true, false, if◌then◌else◌, count_by, List, [], ◌∷◌, ◌++◌}
+use Rattle.std.specs.List.{list_any}
 use Rattle.tm_base.specs.declared.limit.LimitKind.{LimitKind}
 use Rattle.tm_base.specs.declared.limit.LimitKind.TheVariants as limit
 use Rattle.tm_base.specs.Limits.{limit_number}
+use Rattle.tm_parse.specs.Classes.{among}
+use Rattle.tm_parse.specs.Events.{Mark, a_definition, a_question, a_lifetime, a_parameter, a_type_parameter, a_field, a_variant, a_type, Role, plain, array_length, Event, terminal, mark}
+use Rattle.tm_parse.specs.declared.class.Class.{Class}
+use Rattle.tm_parse.specs.declared.class.Class.TheVariants as c
 use Rattle.tm_parse.specs.declared.terminal.Terminal.{Terminal}
 
--- an event is counted, or passes a limit
-pub data Step : Type 0 where
-  Fine : Counts → Step
-  Passes : LimitKind → Step
+-- the limit on how many things of a sort there are
+abbrev pub limit_on : Mark → LimitKind
+limit_on a_definition = limit.Definitions
+limit_on a_question = limit.Questions
+limit_on a_lifetime = limit.Lifetimes
+limit_on a_parameter = limit.Parameters
+limit_on a_type_parameter = limit.TypeParameters
+limit_on a_field = limit.Fields
+limit_on a_variant = limit.Variants
+limit_on (a_type depth) = limit.TypeNodes
 
--- a number against a limit
-abbrev pub within : LimitKind → ℕ → Counts → Step
-within kind n after = if nat_lt (limit_number kind) n then Passes kind else Fine after
+-- a thing of the sort begins
+abbrev pub is_of_sort : Mark → Event → Bool
+is_of_sort a_definition (mark a_definition) = true
+is_of_sort a_question (mark a_question) = true
+is_of_sort a_lifetime (mark a_lifetime) = true
+is_of_sort a_parameter (mark a_parameter) = true
+is_of_sort a_type_parameter (mark a_type_parameter) = true
+is_of_sort a_field (mark a_field) = true
+is_of_sort a_variant (mark a_variant) = true
+is_of_sort (a_type depth) (mark (a_type other)) = true
+is_of_sort sort event = false
 
--- a second limit, where the first isn't passed
-abbrev pub and_then : Step → Step → Step
-and_then (Fine counts) next = next
-and_then (Passes kind) next = Passes kind
+-- things of the sort are counted anew from here: parts of a definition in each, and types in each that has none around it
+abbrev pub begins_anew : Mark → Event → Bool
+begins_anew a_parameter (mark a_definition) = true
+begins_anew a_type_parameter (mark a_definition) = true
+begins_anew a_field (mark a_definition) = true
+begins_anew a_variant (mark a_definition) = true
+begins_anew (a_type depth) (mark (a_type zero)) = true
+begins_anew sort event = false
+
+-- the events from the last on from which things of the sort are counted anew; all of them where there is none
+unfoldable pub since : Mark → List Event → List Event
+since sort [] = []
+since sort (x ∷ events) = if list_any (begins_anew sort) events then since sort events else x ∷ events
+
+-- how many things of the sort there are among these
+abbrev pub number_since : Mark → List Event → ℕ
+number_since sort events = count_by (is_of_sort sort) (since sort events)
+
+-- how many types there are around a type, itself included
+abbrev pub nesting : Mark → ℕ
+nesting (a_type depth) = depth + 1
+nesting other = 0
 
 -- the number that a terminal stands for; 0 for any other one
 abbrev pub number_of : Terminal → ℕ
@@ -32,46 +65,35 @@ number_of t = value t.class
     value (c.Number n) = n
     value other = 0
 
+-- the length of an array
+abbrev pub length_of : Role → Terminal → ℕ
+length_of plain t = 0
+length_of array_length t = number_of t
+
 -- all but signs and numbers are words or lifetimes
 abbrev pub is_number_or_sign : Class → Bool
 is_number_or_sign k = among (c.OpenBrace ∷ c.CloseBrace ∷ c.OpenParen ∷ c.CloseParen ∷ c.OpenBracket ∷ c.CloseBracket ∷ c.Less ∷ c.Greater ∷ c.Comma ∷ c.Semicolon ∷ c.Colon ∷ c.Equals ∷ c.Ampersand ∷ c.Bang ∷ c.Hash ∷ c.Minus ∷ c.Arrow ∷ c.Number 0 ∷ []) k
 
--- words and lifetimes have a greatest length
-abbrev pub name_bytes : Counts → Terminal → Step
-name_bytes counts t = if is_number_or_sign t.class then Fine counts else within limit.NameBytes t.size counts
+-- the bytes of a word or a lifetime
+abbrev pub name_size : Terminal → ℕ
+name_size t = if is_number_or_sign t.class then 0 else t.size
 
--- the types in the outermost one, before one with so many around it
-abbrev pub nodes_before : ℕ → Counts → ℕ
-nodes_before zero counts = 0
-nodes_before (suc depth) counts = counts.nodes
+-- An event is too much for a limit, behind others. With a thing that begins there are too many of its sort, or a type
+-- is nested too deep; an array is too long; a name is.
+abbrev pub Exceeds : LimitKind → List Event → Event → Type 0
+Exceeds kind front (mark m) =
+    ((kind ≡ limit.Nesting) × (limit_number limit.Nesting < nesting m))
+    ⊎ ((kind ≡ limit_on m) × (limit_number kind < number_since m (front ++ mark m ∷ [])))
+Exceeds kind front (terminal role t) =
+    ((kind ≡ limit.ArrayLength) × (limit_number limit.ArrayLength < length_of role t))
+    ⊎ ((kind ≡ limit.NameBytes) × (limit_number limit.NameBytes < name_size t))
 
--- the table of limits: what is counted at each event, and against which limit
-unfoldable pub step : Counts → Event → Step
-step n (mark a_definition) = within limit.Definitions (n.definitions + 1) (record n { definitions = n.definitions + 1; parameters = 0; type_parameters = 0; fields = 0; variants = 0 })
-step n (mark a_question) = within limit.Questions (n.questions + 1) (record n { questions = n.questions + 1 })
-step n (mark a_lifetime) = within limit.Lifetimes (n.lifetimes + 1) (record n { lifetimes = n.lifetimes + 1 })
-step n (mark a_parameter) = within limit.Parameters (n.parameters + 1) (record n { parameters = n.parameters + 1 })
-step n (mark a_type_parameter) = within limit.TypeParameters (n.type_parameters + 1) (record n { type_parameters = n.type_parameters + 1 })
-step n (mark a_field) = within limit.Fields (n.fields + 1) (record n { fields = n.fields + 1 })
-step n (mark a_variant) = within limit.Variants (n.variants + 1) (record n { variants = n.variants + 1 })
-step n (mark (a_type depth)) = and_then (within limit.Nesting (depth + 1) n)
-    (let nodes = nodes_before depth n + 1 in within limit.TypeNodes nodes (record n { nodes = nodes }))
-step n (terminal array_length t) = and_then (within limit.ArrayLength (number_of t) n) (name_bytes n t)
-step n (terminal plain t) = name_bytes n t
+-- no event is too much for a limit, behind those before it
+abbrev pub IsWithin : List Event → Type 0
+IsWithin events = (front : List Event) (x : Event) (back : List Event) → events ≡ front ++ (x ∷ back) → (kind : LimitKind) → ¬ Exceeds kind front x
 
--- a list of events stays within the limits, or passes one where these events are left
-pub data Verdict : Type 0 where
-  Within : Counts → Verdict
-  Beyond : LimitKind → List Event → Verdict
-
-abbrev pub counted : Step → List Event → (Counts → Verdict) → Verdict
-counted (Fine after) left next = next after
-counted (Passes kind) left next = Beyond kind left
-
-abbrev pub count : Counts → List Event → Verdict
-count n [] = Within n
-count n (x ∷ events) = counted (step n x) (x ∷ events) (λ after. count after events)
-
--- before a file's first terminal
-abbrev pub none_yet : Counts
-none_yet = record { definitions = 0; questions = 0; lifetimes = 0; parameters = 0; type_parameters = 0; fields = 0; variants = 0; nodes = 0 }
+-- the event is the first that is too much for a limit; what is nested too deep isn't told as one type too many
+pub record IsFirstPassed (kind : LimitKind) (front : List Event) (x : Event) : Type 0 where
+  pub within : IsWithin front
+  pub exceeds : Exceeds kind front x
+  pub nests : kind ≡ limit.TypeNodes → ¬ Exceeds limit.Nesting front x

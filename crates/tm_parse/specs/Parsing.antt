@@ -3,7 +3,6 @@
 use Rattle.std.specs.Prelude.{◌≡◌, ◌⊎◌, ℕ, ◌-◌, List, ◌∷◌, ◌++◌, length, Result, Ok, Err, ⊤}
 use Rattle.tm_parse.specs.Accepted.{IsFile, IsFaultAt, PassesAt, answer_of}
 use Rattle.tm_parse.specs.Parts.{Outcome, Done, Stuck, Passed}
-use Rattle.tm_parse.specs.declared.counts.Counts.{Counts}
 use Rattle.tm_base.specs.declared.limit.LimitKind.{LimitKind}
 use Rattle.tm_parse.specs.declared.parsed.Parsed.{Parsed}
 use Rattle.tm_parse.specs.declared.parsing.ParseErr.{ParseErr}
@@ -11,9 +10,8 @@ use Rattle.tm_parse.specs.declared.parsing.ParseErr.TheVariants.{At, Limit, Memo
 use Rattle.tm_parse.specs.declared.terminal.Terminal.{Terminal}
 
 -- the terminals spell the file within the limits
-pub record SpellsFile (ts : List Terminal) (v : Parsed) : Type 0 where
-  pub after : Counts
-  pub file : IsFile v ts after
+abbrev pub SpellsFile : List Terminal → Parsed → Type 0
+SpellsFile ts v = IsFile v ts
 
 -- The first terminals, as many as the place says, begin a file within the limits, and no file goes on with
 -- the next; where there is no next, they are no file.

@@ -2,7 +2,7 @@
 -- of look-ahead.
 use Rattle.std.specs.Prelude.{Bool, List, ◌++◌}
 use Rattle.tm_parse.specs.Events.{Event, terminals}
-use Rattle.tm_parse.specs.Limits.{Verdict, Within, Beyond}
+use Rattle.tm_parse.specs.Counting.{Verdict, Within, Beyond}
 use Rattle.tm_parse.specs.declared.class.Class.{Class}
 use Rattle.tm_parse.specs.declared.counts.Counts.{Counts}
 use Rattle.tm_base.specs.declared.limit.LimitKind.{LimitKind}

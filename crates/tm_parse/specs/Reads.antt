@@ -3,7 +3,7 @@ use Rattle.std.specs.Prelude.{◌≡◌, ℕ, ◌+◌, ◌<◌, ◌≤◌, Bool,
 use Rattle.tm_base.specs.Limits.{limit_number}
 use Rattle.tm_base.specs.declared.limit.LimitKind.{LimitKind}
 use Rattle.tm_parse.specs.Events.{Mark, mark}
-use Rattle.tm_parse.specs.Limits.{Step, Fine, Passes, step}
+use Rattle.tm_parse.specs.Counting.{Step, Fine, Passes, step}
 use Rattle.tm_parse.specs.Parts.{Outcome, Done, Stuck, Passed, Part}
 use Rattle.tm_parse.specs.declared.counts.Counts.{Counts}
 use Rattle.tm_parse.specs.declared.reader.Reader.{Reader}

@@ -1,6 +1,6 @@
 ghost use Rattle.std.specs.Prelude.{◌≡◌};
 ghost use Rattle.tm_parse.specs.Events.{a_type, mark as counted};
-ghost use Rattle.tm_parse.specs.Limits.{none_yet, step};
+ghost use Rattle.tm_parse.specs.Counting.{none_yet, step};
 ghost use Rattle.tm_parse.specs.Reads.{IsMore, IsStep};
 
 use crate::mark::Mark;
@@ -52,7 +52,7 @@ impl Counts {
 
     /// The counts where one more thing has begun, or the limit that it passes. Parameters, fields and
     /// variants are counted anew in each definition, and types in each outermost one.
-    #[tactic(auto, unfolding(crate::specs::Limits::step))]
+    #[tactic(auto, unfolding(crate::specs::Counting::step))]
     pub fn with(self, mark: Mark) -> Result<Counts, LimitKind>
         ensures { IsStep result (step self (counted mark)) }
     {
@@ -94,7 +94,7 @@ impl Counts {
     }
 
     /// The counts with one more type, which has so many around it.
-    #[tactic(auto, unfolding(crate::specs::Limits::step))]
+    #[tactic(auto, unfolding(crate::specs::Counting::step))]
     fn with_type(self, depth: u32) -> Result<Counts, LimitKind>
         ensures { IsStep result (step self (counted (a_type depth))) }
     {

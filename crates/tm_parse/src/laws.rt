@@ -17,8 +17,9 @@ ghost use Rattle.tm_parse.specs.declared.terminal.Terminal.{Terminal as Sign};
 /// no limit is passed before it. A limit is answered exactly at the first terminal that passes one, and
 /// only where some file goes on with that terminal. Each list is answered in one of these ways.
 pub fn grammar_is_exact()
-    ensures file { (v : File) (ts : List Sign) (after : CountsValue) → (answer_of ts ≡ Done v after []) ↔ IsFile v ts after }
-    ensures one_file { (v w : File) (ts : List Sign) (after : CountsValue) (events : List Event) → IsFile v ts after → SpelledBy w events → terminals events ≡ ts → v ≡ w }
+    ensures file { (v : File) (ts : List Sign)
+        → ((after : CountsValue) × (answer_of ts ≡ Done v after [])) ↔ IsFile v ts }
+    ensures one_file { (v w : File) (ts : List Sign) (events : List Event) → IsFile v ts → SpelledBy w events → terminals events ≡ ts → v ≡ w }
     ensures fault { (front rest : List Sign) → (answer_of (front ++ rest) ≡ Stuck rest) ↔ IsFaultAt front rest }
     ensures limit { (kind : Limit) (front : List Sign) (t : Sign) (rest : List Sign) → (answer_of (front ++ (t ∷ rest)) ≡ Passed kind (t ∷ rest)) ↔ PassesAt kind front t }
     ensures every { (ts : List Sign) → IsAnswer ts (answer_of ts) }
@@ -31,13 +32,13 @@ pub fn grammar_is_exact()
 /// array's length is within the limit, and each `NonZero` is of an integer type where the terminals for
 /// integer types carry one. Each place is that of a terminal.
 pub fn files_keep_limits()
-    ensures items { (v : File) (ts : List Sign) (after : CountsValue) → IsFile v ts after → HasFewItems v }
-    ensures variants { (v : File) (ts : List Sign) (after : CountsValue) → IsFile v ts after → All HasItsVariants v.decls }
-    ensures parts { (v : File) (ts : List Sign) (after : CountsValue) → IsFile v ts after → All HasFewParts v.decls }
-    ensures types { (v : File) (ts : List Sign) (after : CountsValue) → IsFile v ts after → EachType IsSmall v }
-    ensures arrays { (v : File) (ts : List Sign) (after : CountsValue) → IsFile v ts after → EachType HasShortArrays v }
-    ensures integers { (v : File) (ts : List Sign) (after : CountsValue) → IsFile v ts after → All CarriesInteger ts → EachType HasIntegers v }
-    ensures places { (v : File) (ts : List Sign) (after : CountsValue) (n : ℕ) → IsFile v ts after → All (λ t. t.place < n) ts → EachPlace (λ place. place < n) v }
+    ensures items { (v : File) (ts : List Sign) → IsFile v ts → HasFewItems v }
+    ensures variants { (v : File) (ts : List Sign) → IsFile v ts → All HasItsVariants v.decls }
+    ensures parts { (v : File) (ts : List Sign) → IsFile v ts → All HasFewParts v.decls }
+    ensures types { (v : File) (ts : List Sign) → IsFile v ts → EachType IsSmall v }
+    ensures arrays { (v : File) (ts : List Sign) → IsFile v ts → EachType HasShortArrays v }
+    ensures integers { (v : File) (ts : List Sign) → IsFile v ts → All CarriesInteger ts → EachType HasIntegers v }
+    ensures places { (v : File) (ts : List Sign) (n : ℕ) → IsFile v ts → All (λ t. t.place < n) ts → EachPlace (λ place. place < n) v }
 {}
 
 /// At which terminals a file declares names.
@@ -45,6 +46,6 @@ pub fn files_keep_limits()
 /// A definition's name stands at a word that a definition may be called by, and a declared lifetime at a
 /// lifetime: what holds of the places of all these holds of the file's.
 pub fn files_declare_names()
-    ensures names { (holds : ℕ → Truth) (v : File) (ts : List Sign) (after : CountsValue) → IsFile v ts after → All (λ t. IsTrue (may_name t) → IsTrue (holds t.place)) ts → All (λ d. IsTrue (holds d.name)) v.decls }
-    ensures lifetimes { (holds : ℕ → Truth) (v : File) (ts : List Sign) (after : CountsValue) → IsFile v ts after → All (λ t. IsTrue (is_lifetime t) → IsTrue (holds t.place)) ts → All (λ place. IsTrue (holds place)) v.lifetimes }
+    ensures names { (holds : ℕ → Truth) (v : File) (ts : List Sign) → IsFile v ts → All (λ t. IsTrue (may_name t) → IsTrue (holds t.place)) ts → All (λ d. IsTrue (holds d.name)) v.decls }
+    ensures lifetimes { (holds : ℕ → Truth) (v : File) (ts : List Sign) → IsFile v ts → All (λ t. IsTrue (is_lifetime t) → IsTrue (holds t.place)) ts → All (λ place. IsTrue (holds place)) v.lifetimes }
 {}

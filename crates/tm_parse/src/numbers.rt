@@ -37,7 +37,7 @@ impl<'a> Reader<'a> {
     }
 
     /// The length of an array.
-    #[tactic(auto, unfolding(crate::specs::Limits::step))]
+    #[tactic(auto, unfolding(crate::specs::Counting::step))]
     pub fn length(&mut self) -> Result<u32, Stop>
         ensures { Reads (to number_of (one array_length (a_number ∷ []))) self.old self.new result }
     {

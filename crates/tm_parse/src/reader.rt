@@ -1,6 +1,6 @@
 ghost use Rattle.std.specs.Prelude.{◌≡◌, ◌∷◌, []};
 ghost use Rattle.tm_parse.specs.Combinators.{starts, to};
-ghost use Rattle.tm_parse.specs.Limits.{none_yet};
+ghost use Rattle.tm_parse.specs.Counting.{none_yet};
 ghost use Rattle.tm_parse.specs.Reads.{Begins, Reads};
 ghost use Rattle.tm_parse.specs.Shapes.{any, is_there, optional, the};
 
@@ -61,7 +61,7 @@ impl<'a> Reader<'a> {
     }
 
     /// One terminal of any of these classes.
-    #[tactic(auto, unfolding(crate::specs::Limits::step))]
+    #[tactic(auto, unfolding(crate::specs::Counting::step))]
     pub fn take_any(&mut self, classes: &[Class]) -> Result<Terminal, Stop>
         ensures { Reads (any classes.now) self.old self.new result }
     {

@@ -23,4 +23,4 @@ pub returns-clause-integers : goal.returns-clause-integers
 returns-clause-integers c = integers_kept
 
 pub returns-clause-places : goal.returns-clause-places
-returns-clause-places c v ts after n f h = places_kept (λ place. place < n) v ts after f h
+returns-clause-places c v ts n f h = places_kept (λ place. place < n) v ts f h
