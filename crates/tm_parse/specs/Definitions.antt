@@ -84,7 +84,7 @@ abbrev pub unnamed : Bool → Expr → DeclField
 unnamed public ty = record { name = None; public = public; ty = ty }
 
 abbrev pub field : ℕ → Part DeclField
-field levels = counts_as a_field (to (λ v. named_as v.1.0 (is_public v.0) v.1.1.1)
+field levels = counts_as a_field (to (λ (public, (name, (colon, ty))). named_as name (is_public public) ty)
     (optional visibility >> any names >> the c.Colon >> type_at 0 levels))
 
 -- What may stand behind `pub` in a field of a tuple. Behind `pub (` the next terminal tells whether the
@@ -94,7 +94,7 @@ abbrev pub bare : ℕ → Part DeclField
 bare levels = to (λ ty. unnamed true ty) (counts_as (a_type 0) (plain_type (type_at 1 levels)))
 
 abbrev pub narrowed : ℕ → Part DeclField
-narrowed levels = to (λ v. unnamed false v.1.1) (narrower >> the c.CloseParen >> type_at 0 levels)
+narrowed levels = to (λ (word, (close, ty)). unnamed false ty) (narrower >> the c.CloseParen >> type_at 0 levels)
 
 abbrev pub opened : ℕ → Part DeclField
 opened levels = to (λ ty. unnamed true ty) (counts_as (a_type 0) (behind_paren (type_at 1 levels)))
@@ -107,7 +107,7 @@ place levels = counts_as a_field (to (λ ty. unnamed false ty) (type_at 0 levels
 
 -- the fields of a variant have no visibility of their own
 abbrev pub variant_field : ℕ → Part DeclField
-variant_field levels = counts_as a_field (to (λ v. named_as v.0 false v.1.1) (any names >> the c.Colon >> type_at 0 levels))
+variant_field levels = counts_as a_field (to (λ (name, (colon, ty)). named_as name false ty) (any names >> the c.Colon >> type_at 0 levels))
 
 abbrev pub variant_place : ℕ → Part DeclField
 variant_place levels = counts_as a_field (to (λ ty. unnamed false ty) (type_at 0 levels))
@@ -120,14 +120,14 @@ variant_fields levels = between c.OpenBrace (listed (variant_field levels)) c.Cl
 
 -- `= 3` or `= -3`
 abbrev pub discriminant : Part (Bool × ℕ)
-discriminant = to (λ v. (is_there v.1.0, number_of v.1.1)) (the c.Equals >> optional (the c.Minus) >> the number)
+discriminant = to (λ (equals, (minus, value)). (is_there minus, number_of value)) (the c.Equals >> optional (the c.Minus) >> the number)
 
 abbrev pub variant_of : Terminal → Option (List DeclField) → Option (Bool × ℕ) → DeclVariant
 variant_of name fields None = record { name = Some name.place; negative = false; value = None; fields = or_none fields }
 variant_of name fields (Some d) = record { name = Some name.place; negative = d.0; value = Some d.1; fields = or_none fields }
 
 abbrev pub variant : ℕ → Part DeclVariant
-variant levels = counts_as a_variant (to (λ v. variant_of v.0 v.1.0 v.1.1)
+variant levels = counts_as a_variant (to (λ (name, (fields, value)). variant_of name fields value)
     (any names >> optional (variant_fields levels) >> optional discriminant))
 
 -- definitions
@@ -168,7 +168,7 @@ abbrev pub defined : Kind → Terminal × Terminal × (List ℕ × List ℕ) × 
 defined what v reprs = record { kind = what; name = v.1.place; reprs = reprs; params = v.2.0; type_params = v.2.1; variants = v.3 }
 
 abbrev pub headed : Kind → Part Terminal → Part (List DeclVariant) → Part (List DeclRepr → Decl)
-headed what word body = counts_as a_definition (to (λ v. defined what (v.0, v.1.0, v.1.1.0, v.1.1.1)) (word >> any definition_names >> parameters >> body))
+headed what word body = counts_as a_definition (to (λ (word, (name, (given, variants))). defined what (word, name, given, variants)) (word >> any definition_names >> parameters >> body))
 
 -- the word and the body of each kind of definition
 abbrev pub word_of : Kind → Class
@@ -199,4 +199,4 @@ abbrev pub headed_any : ℕ → Part (List DeclRepr → Decl)
 headed_any levels = headed_struct levels or headed_union levels or headed_enum levels
 
 abbrev pub definition : ℕ → Part Decl
-definition levels = to (λ v. v.1.1 (together v.0)) (many attribute >> optional visibility >> headed_any levels)
+definition levels = to (λ (attributes, (public, headed)). headed (together attributes)) (many attribute >> optional visibility >> headed_any levels)

@@ -17,10 +17,10 @@ use Rattle.tm_parse.specs.declared.parsed.Parsed.{Parsed}
 use Rattle.tm_parse.specs.declared.terminal.Terminal.{Terminal}
 
 abbrev pub lifetime : Part Item
-lifetime = to (λ v. sort.Lifetime v.1.0.place) (the c.Declare >> counts_as a_lifetime (the c.Lifetime) >> the c.Semicolon)
+lifetime = to (λ (word, (name, end)). sort.Lifetime name.place) (the c.Declare >> counts_as a_lifetime (the c.Lifetime) >> the c.Semicolon)
 
 abbrev pub outlives : Part Item
-outlives = to (λ v. sort.Outlives (record { longer = v.1.0.place; shorter = v.1.1.1.0.place }))
+outlives = to (λ (word, (longer, (colon, (shorter, end)))). sort.Outlives (record { longer = longer.place; shorter = shorter.place }))
     (the c.Outlives >> the c.Lifetime >> the c.Colon >> the c.Lifetime >> the c.Semicolon)
 
 -- the flags that are written, each once or several times
@@ -42,7 +42,7 @@ abbrev pub assume : Part (Option (Terminal × List Terminal))
 assume = optional (the c.Assume >> listed1 flag)
 
 abbrev pub question : ℕ → Part Item
-question levels = to (λ v. sort.Question (record { src = v.1.0; dst = v.1.1.1.0; assume = assumed v.1.1.1.1.0 }))
+question levels = to (λ (word, (src, (arrow, (dst, (given, end))))). sort.Question (record { src = src; dst = dst; assume = assumed given }))
     (counts_as a_question (the c.Ask) >> type_at 0 levels >> the c.Arrow >> type_at 0 levels >> assume >> the c.Semicolon)
 
 abbrev pub item : ℕ → Part Item

@@ -71,7 +71,7 @@ or_neither (Some both) = both
 
 -- a part between two signs
 abbrev pub between : {V : Type 0} → Class → Part V → Class → Part V
-between opening p closing = to (λ v. v.1.0) (the opening >> p >> the closing)
+between opening p closing = to (λ (opening, (v, closing)). v) (the opening >> p >> the closing)
 
 -- a list with commas as far as it is read, and whether another may follow: none is read, or a comma comes last
 abbrev pub is_open : {V : Type 0} → List (V × Bool) → Bool

@@ -88,17 +88,17 @@ module _ (type : Part Expr) where
   -- what stands behind `(`
   abbrev pub behind_paren : Part Expr
   behind_paren = to (λ t. expr.Tuple []) (the c.CloseParen)
-      or to (λ v. tuple_or_inner v.0 v.1.0) (type >> optional (the c.Comma >> listed type) >> the c.CloseParen)
+      or to (λ (first, (others, close)). tuple_or_inner first others) (type >> optional (the c.Comma >> listed type) >> the c.CloseParen)
 
   abbrev pub paren_type : Part Expr
   paren_type = to (λ v. v.1) (the c.OpenParen >> behind_paren)
 
   abbrev pub array_type : Part Expr
-  array_type = to (λ v. expr.Array v.1.0 (number_of v.1.1.1.0))
+  array_type = to (λ (opening, (element, (semicolon, (length, closing)))). expr.Array element (number_of length))
       (the c.OpenBracket >> type >> the c.Semicolon >> one array_length (number ∷ []) >> the c.CloseBracket)
 
   abbrev pub reference_type : Part Expr
-  reference_type = to (λ v. expr.Ref v.1.0.place (is_there v.1.1.0) v.1.1.1)
+  reference_type = to (λ (ampersand, (region, (mutable, pointee))). expr.Ref region.place (is_there mutable) pointee)
       (the c.Ampersand >> the c.Lifetime >> optional (the c.Mut) >> type)
 
   abbrev pub nonzero_type : Part Expr
