@@ -30,7 +30,7 @@ none_or_some (x ∷ xs) = inr (λ e. cc)
 pub none_among : {X : Type 0} {x : X} → Among x [] → ⊥
 none_among h = elim h [ ]
 
-pub only : (s n : ℕ) → Among s (n ∷ []) → s ≡ n
+pub only : {X : Type 0} (s n : X) → Among s (n ∷ []) → s ≡ n
 only s n here = refl
 only s n (there h) = elim h [ ]
 

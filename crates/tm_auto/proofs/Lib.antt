@@ -19,3 +19,4 @@ pub mod EvenLemmas
 pub mod BuiltLemmas
 pub mod ClassLemmas
 pub mod ClassedLemmas
+pub mod OnlyLemmas

@@ -8,3 +8,4 @@ pub mod Classes
 pub mod Loose
 pub mod Shapes
 pub mod Builds
+pub mod OnlyEdges

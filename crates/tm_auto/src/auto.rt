@@ -62,7 +62,7 @@ impl Auto {
             Some(start) => Ok(Auto {
                 states: b.states,
                 edges: Edges::of(alloc, b.edges)?,
-                starts: StateSet::of_one(alloc, start)?,
+                starts: StateSet::of_one(alloc, start),
                 size,
                 pointer,
             }),

@@ -93,8 +93,8 @@ fn uncut_to(labels: &[Label], at: u16, end: u16) -> u16
     least
 }
 
-// How far one label does.
-fn cut(label: Label, at: u16, end: u16) -> u16
+/// How far one label does.
+pub(crate) fn cut(label: Label, at: u16, end: u16) -> u16
     requires { at < end }
     ensures past { at < result }
     ensures most { result ≤ end }

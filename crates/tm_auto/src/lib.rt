@@ -40,9 +40,11 @@ mod class;
 mod edge;
 mod edges;
 mod extent;
+mod only;
 mod set;
 
 pub use auto::Auto;
 pub use class::classes;
 pub use edge::{Edge, Label, Symbol};
+pub use only::{OnlyStep, only_step};
 pub use set::StateSet;

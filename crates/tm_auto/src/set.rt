@@ -42,13 +42,13 @@ impl StateSet {
         }
     }
 
-    /// The set of one state.
-    pub(crate) fn of_one(alloc: Global, state: u32) -> Result<StateSet, Memory>
-        ensures { IfOk result (λ set. set ≡ state ∷ []) }
+    /// The set of one state. It takes no memory.
+    pub(crate) fn of_one(alloc: Global, state: u32) -> StateSet
+        ensures { result ≡ state ∷ [] }
     {
-        let mut set = StateSet::new(alloc);
-        set.insert(state)?;
-        Ok(set)
+        let mut states = SmallVec::new(alloc);
+        states.push_reserved(state);
+        StateSet { states }
     }
 
     /// A set of the same states.

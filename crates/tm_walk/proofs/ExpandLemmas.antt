@@ -72,6 +72,11 @@ module _ (A : ℕ → ℕ → Bool) (src dst : Automaton) (from to : List ℕ) (
       subst (λ (z : List Symbol). AreOffered (offers A src dst from to k z) before after) (sym (drop_more xs i d l))
       (between, subst (λ (z : Entry). IsOffered z before between) same o, rest)
 
+  -- one symbol is offered
+  pub only_offered : (x : Symbol) (s t : List ℕ) (c : Cell) → IsStep equal src from x s → IsStep A dst to x t → c ≡ first_cell x
+      → (before after : List Entry) → IsOffered (record { src = s; dst = t; parent = k; cell = c }) before after → AreOffered (offers A src dst from to k (x ∷ [])) before after
+  only_offered x s t c hs ht hc before after o = offer_turn (x ∷ []) 0 x (omega arith) s t c hs ht hc before after after o refl
+
   pub offers_end : (xs : List Symbol) (i : ℕ) → length xs ≤ i → (next : List Entry) → AreOffered (offers A src dst from to k (drop i xs)) next next
   offers_end xs i l next = subst (λ (z : List Symbol). AreOffered (offers A src dst from to k z) next next) (sym (drop_all i xs l)) refl
 

@@ -1,6 +1,6 @@
 //! One layer from the layer before it.
-ghost use Rattle.std.specs.Prelude.{◌≡◌, ℕ, ◌+◌, ◌<◌, ◌≤◌, [], ◌∷◌, ◌⊎◌, IfOk, OnOk, length, slice_get, Some};
-ghost use Rattle.tm_auto.specs.Automata.{AreStates};
+ghost use Rattle.std.specs.Prelude.{◌≡◌, ℕ, ◌+◌, ◌<◌, ◌≤◌, [], ◌∷◌, ◌⊎◌, IfOk, OnOk, IfSome, length, slice_get, Some};
+ghost use Rattle.tm_auto.specs.Automata.{AreStates, IsStep, equal};
 ghost use Rattle.tm_auto.specs.Paths.{Among};
 ghost use Rattle.tm_walk.specs.Layers.{Entry, HasStates, AreSymbols, AreOffered, IsExpanded, IsNext, offers, weight_at, weights, IsStart};
 
@@ -11,7 +11,7 @@ use crate::symbol::least;
 use crate::way::Way;
 use std::alloc::Global;
 use std::sync::ledger::Ledger;
-use tm_auto::{Auto, StateSet, Symbol, classes};
+use tm_auto::{Auto, OnlyStep, StateSet, Symbol, classes, only_step};
 use tm_base::{Equal, List, Memory, RefTest, Steps};
 
 /// What is walked, and what is sought.
@@ -53,6 +53,24 @@ impl<'a, Q: Quantifier, M: RefTest> Walk<'a, Q, M> {
         let mut symbols = List::new(self.alloc);
         symbols.add(Symbol::Uninit)?;
         Ok(symbols)
+    }
+
+    /// The only step by which a pair of sets is expanded at a place; `None` says nothing.
+    fn only_step(&self, place: u32, from: &StateSet, to: &StateSet) -> Option<OnlyStep>
+        requires from { AreStates self.now.src.now from.now }
+        requires to { AreStates self.now.dst.now to.now }
+        ensures symbols { IfSome result (λ step. AreSymbols
+            (M.test self.now.refs.now) self.now.src.now self.now.dst.now
+            place from.now to.now (step.symbol ∷ [])) }
+        ensures source { IfSome result (λ step.
+            IsStep equal self.now.src.now from.now step.symbol step.src) }
+        ensures target { IfSome result (λ step.
+            IsStep (M.test self.now.refs.now) self.now.dst.now to.now step.symbol step.dst) }
+    {
+        if place >= self.src.size() {
+            return None;
+        }
+        only_step(self.alloc, self.refs, self.src, from, self.dst, to)
     }
 
     /// Offers the next layer what the symbols make of a pair of sets, the layer's k-th.
@@ -107,6 +125,13 @@ impl<'a, Q: Quantifier, M: RefTest> Walk<'a, Q, M> {
             return Ok(());
         }
         steps.tick();
+        if let Some(step) = self.only_step(place, from, to) {
+            let way = Way {
+                parent: k,
+                cell: least(step.symbol),
+            };
+            return next.offer(self.alloc, step.src, step.dst, way);
+        }
         let symbols = self.symbols(place, from, to)?;
         self.offer_steps(from, to, k, symbols.as_slice(), next)
     }
