@@ -1,6 +1,6 @@
 -- Sets of states, and pairs of them, by numbers.
 use Rattle.std.specs.Prelude.{◌≡◌, ℕ, ◌<◌, Option, Some, None, List, [], ◌∷◌, map, length}
-use Rattle.std.specs.Global.{Vec}
+use Rattle.std.specs.Global.{Vec, Box}
 use Rattle.std.specs.List.{slice_index_or}
 use Rattle.tm_auto.specs.Paths.{Among}
 use Rattle.tm_walk.specs.declared.way.Pair.{Pair}
@@ -30,10 +30,15 @@ abbrev pub only_or : Option Reached → List Entry → List Entry
 only_or None several = several
 only_or (Some only) several = entry_by only.src only.dst only.way ∷ []
 
+-- several pairs, where there are some
+abbrev pub pairs_in : Option (Box (List Entry)) → List Entry
+pairs_in None = []
+pairs_in (Some several) = several.value
+
 -- beside an only pair stand no several
-abbrev pub IsAlone : Option Reached → List Entry → Type 0
+abbrev pub IsAlone : Option Reached → Option (Box (List Entry)) → Type 0
 IsAlone None several = Unit {0}
-IsAlone (Some only) several = several ≡ []
+IsAlone (Some only) several = several ≡ None
 
 abbrev pub way_of : Entry → Way
 way_of e = record { parent = e.parent; cell = e.cell }

@@ -30,7 +30,7 @@ impl<'a, Q: Quantifier, M: RefTest> Walk<'a, Q, M> {
     pub fn start(&self) -> Result<Layer, Memory>
         ensures { IfOk result (λ layer. IsStart self.now.src.now self.now.dst.now layer) }
     {
-        let mut layer = Layer::new(self.alloc);
+        let mut layer = Layer::new();
         let src = self.src.start(self.alloc)?;
         if is_live(&src) {
             let dst = self.dst.start(self.alloc)?;
@@ -152,7 +152,7 @@ impl<'a, Q: Quantifier, M: RefTest> Walk<'a, Q, M> {
             ≤ steps.old + weights (Q.skip self.now.quantifier.now) layer.now }
         ensures counted { steps.old ≤ steps.new }
     {
-        let mut next = Layer::new(self.alloc);
+        let mut next = Layer::new();
         for k in 0..layer.len() {
             self.expand(place, layer, k, &mut next, steps)?;
         }

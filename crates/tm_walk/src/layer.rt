@@ -12,33 +12,33 @@ use tm_base::Memory;
 /// Pairs of a source's and a target's set, each once, in the order in which they were reached, with the
 /// way by which each first was. Contracts see the list of the pairs.
 ///
-/// Most layers have one pair: as long as it is the only one, nothing is looked up.
+/// Most layers have one pair: as long as it is the only one, nothing is looked up, and no memory is taken.
 #[derive(Drop)]
 pub struct Layer {
     only: Option<Reached>,
-    several: Pairs,
+    several: Option<Box<Pairs>>,
 }
 
 impl Model for Layer {
     ghost use Rattle.std.specs.Prelude.{List};
     ghost use Rattle.tm_walk.specs.Layers.{Entry};
-    ghost use Rattle.tm_walk.specs.Numbers.{only_or, IsAlone};
+    ghost use Rattle.tm_walk.specs.Numbers.{only_or, pairs_in, IsAlone};
 
     ghost Value = { List Entry };
 
-    ghost view = { λ layer. only_or layer.only layer.several };
+    ghost view = { λ layer. only_or layer.only (pairs_in layer.several) };
 
     ghost invariant = { λ layer. IsAlone layer.only layer.several };
 }
 
 impl Layer {
     /// No pairs. It takes no memory.
-    pub fn new(alloc: Global) -> Layer
+    pub fn new() -> Layer
         ensures { result ≡ [] }
     {
         Layer {
             only: None,
-            several: Pairs::new(alloc),
+            several: None,
         }
     }
 
@@ -46,9 +46,10 @@ impl Layer {
     pub fn len(&self) -> usize
         ensures { result ≡ length self.now }
     {
-        match &self.only {
-            Some(_) => 1,
-            None => self.several.len(),
+        match (&self.only, &self.several) {
+            (Some(_), _) => 1,
+            (None, Some(several)) => several.len(),
+            (None, None) => 0,
         }
     }
 
@@ -58,9 +59,10 @@ impl Layer {
         ensures { ((e : Entry) × (slice_get self.now place ≡ Some e)
             × (result.0.now ≡ e.src) × (result.1.now ≡ e.dst)) }
     {
-        match &self.only {
-            Some(only) => (&only.src, &only.dst),
-            None => self.several.sets(place),
+        match (&self.only, &self.several) {
+            (Some(only), _) => (&only.src, &only.dst),
+            (None, Some(several)) => several.sets(place),
+            (None, None) => unreachable!(),
         }
     }
 
@@ -74,28 +76,32 @@ impl Layer {
     ) -> Result<(), Memory>
         ensures { OnOk result (IsOffered (entry_by src dst way) self.old self.new) }
     {
+        if let Some(several) = &mut self.several {
+            return several.offer(alloc, src, dst, way);
+        }
         let Some(only) = self.only.take() else {
-            if self.several.len() == 0 {
-                self.only = Some(Reached { src, dst, way });
-                return Ok(());
-            }
-            return self.several.offer(alloc, src, dst, way);
+            self.only = Some(Reached { src, dst, way });
+            return Ok(());
         };
         if only.has(&src, &dst) {
             self.only = Some(only);
             return Ok(());
         }
-        self.several.offer(alloc, only.src, only.dst, only.way)?;
-        self.several.offer(alloc, src, dst, way)
+        let mut several = Pairs::new(alloc);
+        several.offer(alloc, only.src, only.dst, only.way)?;
+        several.offer(alloc, src, dst, way)?;
+        self.several = Some(Box::new(alloc, several)?);
+        Ok(())
     }
 
     /// The ways by which the pairs were reached, in order.
     pub fn ways(&self, alloc: Global) -> Result<Ways, Memory>
         ensures { IfOk result (λ ways. ways.items ≡ map way_of self.now) }
     {
-        match &self.only {
-            Some(only) => Ok(Ways::from_slice(alloc, &[only.way])?),
-            None => Ok(Ways::from_slice(alloc, self.several.ways())?),
+        match (&self.only, &self.several) {
+            (Some(only), _) => Ok(Ways::from_slice(alloc, &[only.way])?),
+            (None, Some(several)) => Ok(Ways::from_slice(alloc, several.ways())?),
+            (None, None) => Ok(Ways::new(alloc)),
         }
     }
 }

@@ -1,12 +1,14 @@
 use Rattle.std.proofs.Common.{◌∙◌, sym}
-use Rattle.tm_walk.specs.Numbers.{entry_by}
-use Rattle.tm_walk.proofs.LayerLemmas.{offered_first, offered_again}
+use Rattle.tm_walk.specs.Numbers.{entry_by, pairs_in}
+use Rattle.tm_walk.proofs.LayerLemmas.{offered_again, offered_second}
 use Rattle.tm_walk.proofs.layer.Layer.offer.Goals as goal
-
-pub returns-then-len-eq0 : goal.returns-then-len-eq0
-returns-then-len-eq0 c = rw (← c.self.view_is) (offered_first c.self.inside.only c.self.inside.several (entry_by c.args.src c.args.dst c.args.way) (sym c.take.ensures.value ∙ c.in_default.is) (sym c.len.ensures ∙ c.if-len-eq0.true))
 
 pub returns-then-has : goal.returns-then-has
 returns-then-has c =
     let same = c.has.ensures.0 c.if-has.true in
-    rw (← c.self.view_is) (offered_again c.self.inside.only c.in-Some.only c.self.inside.several (entry_by c.args.src c.args.dst c.args.way) (sym c.take.ensures.value ∙ c.in-Some.is) same.0 same.1)
+    rw (← c.self.view_is) (offered_again c.self.inside.only c.in-Some-take.only (pairs_in c.self.inside.several) (entry_by c.args.src c.args.dst c.args.way) (sym c.take.ensures.value ∙ c.in-Some-take.is) same.0 same.1)
+
+pub returns : goal.returns
+returns c =
+    rw (← c.self.view_is) (offered_second c.self.inside.only c.take.new.self c.in-Some-take.only (pairs_in c.self.inside.several) (entry_by c.args.src c.args.dst c.args.way) (sym c.take.ensures.value ∙ c.in-Some-take.is) c.take.ensures.after
+    _ _ _ _ c.new-several.ensures c.in_ok-offer.ensures c.in_ok-offer-2.ensures c.in_ok-new.ensures.ok)
