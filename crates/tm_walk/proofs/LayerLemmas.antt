@@ -19,13 +19,14 @@ only_at only (suc k) l = absurd (omega arith)
 pub offered_again : (only : Option Reached) (first : Reached) (several : List Entry) (e : Entry) → only ≡ Some first → first.src ≡ e.src → first.dst ≡ e.dst → IsOffered e (only_or only several) (entry_of first ∷ [])
 offered_again only first several e is s d = rw is (inl ((entry_of first, here, (s, d)), refl))
 
+-- one is put behind another, from nothing on
+pub offered_both : (first second : Entry) (none one two : List Entry) → none ≡ [] → IsOffered first none one → IsOffered second one two → IsOffered second (first ∷ []) two
+offered_both first second none one two empty (inl ((f, m, s), q)) o = absurd (none_among (subst (λ (z : List Entry). Among f z) empty m))
+offered_both first second none one two empty (inr (q, n)) o = subst (λ (z : List Entry). IsOffered second z two) (q ∙ ap (λ (z : List Entry). z ++ first ∷ []) empty) o
+
 -- one of other sets is put behind it, in several
-pub offered_second : (only after : Option Reached) (first : Reached) (several : List Entry) (e : Entry) → only ≡ Some first → after ≡ None
-    → (none one two last : List Entry) → none ≡ [] → IsOffered (entry_of first) none one → IsOffered e one two → last ≡ two → IsOffered e (only_or only several) (only_or after last)
-offered_second only after first several e is gone none one two last empty (inl ((f, m, s), q)) o end = absurd (none_among (subst (λ (z : List Entry). Among f z) empty m))
-offered_second only after first several e is gone none one two last empty (inr (q, n)) o end =
-    let behind : one ≡ entry_of first ∷ [] = q ∙ ap (λ (z : List Entry). z ++ entry_of first ∷ []) empty in
-    rw (is, gone, end) (subst (λ (z : List Entry). IsOffered e z two) behind o)
+pub offered_second : (only after : Option Reached) (first : Reached) (several last : List Entry) (e : Entry) → only ≡ Some first → after ≡ None → IsOffered e (entry_of first ∷ []) last → IsOffered e (only_or only several) (only_or after last)
+offered_second only after first several last e is gone o = rw (is, gone) o
 
 -- what holds of what is answered where nothing is
 pub nothing_answered : {X E : Type 0} (P : X → Type 0) (Q : E → Type 0) (result : Result X E) → IsErrAnd result Q → IfOk result P

@@ -1,4 +1,4 @@
-ghost use Rattle.std.specs.Prelude.{◌≡◌, ◌<◌, [], Some, IfOk, OnOk, length, map, slice_get};
+ghost use Rattle.std.specs.Prelude.{◌≡◌, ◌<◌, [], ◌∷◌, Some, IfOk, OnOk, length, map, slice_get};
 ghost use Rattle.tm_walk.specs.Layers.{Entry, IsOffered};
 ghost use Rattle.tm_walk.specs.Numbers.{entry_by, way_of};
 
@@ -12,7 +12,8 @@ use tm_base::Memory;
 /// Pairs of a source's and a target's set, each once, in the order in which they were reached, with the
 /// way by which each first was. Contracts see the list of the pairs.
 ///
-/// Most layers have one pair: as long as it is the only one, nothing is looked up, and no memory is taken.
+/// Most layers have one pair: as long as it is the only one, nothing is looked up, and no memory is
+/// taken.
 #[derive(Drop)]
 pub struct Layer {
     only: Option<Reached>,
@@ -87,10 +88,7 @@ impl Layer {
             self.only = Some(only);
             return Ok(());
         }
-        let mut several = Pairs::new(alloc);
-        several.offer(alloc, only.src, only.dst, only.way)?;
-        several.offer(alloc, src, dst, way)?;
-        self.several = Some(Box::new(alloc, several)?);
+        self.several = Some(both(alloc, only, Reached { src, dst, way })?);
         Ok(())
     }
 
@@ -104,4 +102,15 @@ impl Layer {
             (None, None) => Ok(Ways::new(alloc)),
         }
     }
+}
+
+/// A pair, and one that is put behind it unless it has the same sets.
+fn both(alloc: Global, first: Reached, second: Reached) -> Result<Box<Pairs>, Memory>
+    ensures { IfOk result (λ several. IsOffered (entry_by second.src second.dst second.way)
+        (entry_by first.src first.dst first.way ∷ []) several.value) }
+{
+    let mut several = Pairs::new(alloc);
+    several.offer(alloc, first.src, first.dst, first.way)?;
+    several.offer(alloc, second.src, second.dst, second.way)?;
+    Ok(Box::new(alloc, several)?)
 }

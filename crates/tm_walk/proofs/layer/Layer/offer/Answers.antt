@@ -10,5 +10,4 @@ returns-then-has c =
 
 pub returns : goal.returns
 returns c =
-    rw (← c.self.view_is) (offered_second c.self.inside.only c.take.new.self c.in-Some-take.only (pairs_in c.self.inside.several) (entry_by c.args.src c.args.dst c.args.way) (sym c.take.ensures.value ∙ c.in-Some-take.is) c.take.ensures.after
-    _ _ _ _ c.new-several.ensures c.in_ok-offer.ensures c.in_ok-offer-2.ensures c.in_ok-new.ensures.ok)
+    rw (← c.self.view_is) (offered_second c.self.inside.only c.take.new.self c.in-Some-take.only (pairs_in c.self.inside.several) _ (entry_by c.args.src c.args.dst c.args.way) (sym c.take.ensures.value ∙ c.in-Some-take.is) c.take.ensures.after c.in_ok-both.ensures)
