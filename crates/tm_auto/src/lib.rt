@@ -21,7 +21,8 @@
 //!
 //! `classes` answers the symbols by which two sets are walked together: in the order of cells, each cell
 //! that the source's set can take in exactly one, and each passing the same edges of both sets as any of
-//! its cells. A byte begins a class where a label of either set begins or has ended.
+//! its cells. A byte begins a class where a label of either set begins or has ended. Most sets are left by
+//! one edge, and most pairs of such have one class: `only_step` answers it at once with both steps.
 //!
 //! Crates above prove from `Auto::law`, which promises what holds of every automaton.
 //!
