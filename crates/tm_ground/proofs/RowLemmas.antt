@@ -9,9 +9,13 @@ use Rattle.tm_names.specs.declared.resolved.Life.{Life}
 use Rattle.tm_names.specs.declared.resolved.Open.{Open, Named}
 use Rattle.tm_names.specs.declared.resolved.Resolved.{Resolved}
 use Rattle.tm_ground.specs.Closed.{Closed, prim, never, tuple, array, nonzero, wrap, named, ref, as_elements, closed, listed, region_of}
+use Rattle.tm_ground.specs.Closing.{AreWhole}
+use Rattle.tm_ground.specs.Found.{AreRowsOfAll}
 use Rattle.tm_ground.specs.Numbered.{IsNumbered}
 use Rattle.tm_ground.specs.Occurs.{fields_of, parts_of, types_of_fields}
-use Rattle.tm_ground.specs.Rows.{AreFields, IsNamedRow}
+use Rattle.tm_base.specs.declared.world.World.{World}
+use Rattle.tm_ground.specs.declared.rows.Rows.{Rows}
+use Rattle.tm_ground.specs.Rows.{AreFields, AreRows, HasRows, IsAsk, IsNamedRow, IsRefRow, IsWorldOf}
 use Rattle.tm_ground.specs.Sets.{closed_types}
 use Rattle.tm_ground.proofs.ContainsLemmas.{contains-nothing}
 use Rattle.tm_ground.proofs.OpenLemmas.{listed-as_elements, put_in-Named}
@@ -50,3 +54,19 @@ module _ (resolved : Resolved) where
           given = subst (λ cs. AllZip (IsNumbered rows refs) cs args) (sym (listed-as_elements (closed_types ts))) given;
           fields = subst (λ css. AreFields rows refs css types) (f ∙ ap (types_of_fields resolved) type) each;
         }
+
+-- the rows of two lists of all types that occur are the rows of all
+pub all-rows : {resolved : Resolved} {types refs : List Closed} {made : Rows} → AreWhole resolved types refs → AreRows types refs resolved made → AreRowsOfAll resolved made
+all-rows {resolved} {types} {refs} {made} whole rows = record { types = types; refs = refs; whole = whole; rows = rows }
+
+-- a world with the rows of some types is of those types
+pub world-of : (resolved : Resolved) (types refs : List Closed) (made : Rows) (world : World) → AreRows types refs resolved made → HasRows resolved made world → IsWorldOf resolved types refs world
+world-of resolved types refs made world rows has = record {
+  profile = has.profile;
+  defs = has.defs;
+  regions = has.regions;
+  bounds = has.bounds;
+  named = subst (AllZip (IsNamedRow types refs resolved) types) (sym has.named) rows.named;
+  ref_rows = subst (AllZip (IsRefRow types refs) refs) (sym has.refs) rows.ref_rows;
+  questions = subst (AllZip (IsAsk types refs) resolved.asks) (sym has.questions) rows.questions;
+}

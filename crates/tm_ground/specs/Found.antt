@@ -9,10 +9,11 @@ use Rattle.tm_names.specs.declared.resolved.OpenAsk.{OpenAsk}
 use Rattle.tm_names.specs.declared.resolved.Resolved.{Resolved}
 use Rattle.tm_ground.specs.declared.found.Found.{Found}
 use Rattle.tm_ground.specs.declared.ordering.Texted.{Texted}
+use Rattle.tm_ground.specs.declared.rows.Rows.{Rows}
 use Rattle.tm_ground.specs.Closed.{Closed}
 use Rattle.tm_ground.specs.Closing.{AreWhole}
 use Rattle.tm_ground.specs.Numbered.{HasNumbers, HaveNumbers, IsNumbered}
-use Rattle.tm_ground.specs.Rows.{AreFields, IsAsk, IsNamedRow, IsRefRow, IsWorldOf}
+use Rattle.tm_ground.specs.Rows.{AreFields, AreRows, IsAsk, IsNamedRow, IsRefRow, IsWorldOf}
 use Rattle.tm_ground.specs.Sets.{types_in}
 use Rattle.tm_ground.specs.Texted.{AreInTextOrder, HasItsText}
 
@@ -47,6 +48,10 @@ module _ (found : Found) where
   abbrev pub IsAskIn : OpenAsk → Ask → Type 0
   IsAskIn = IsAsk (types_in found.named) (types_in found.refs)
 
+  -- the rows of all that is found, and the questions of the file
+  abbrev pub AreRowsIn : Resolved → Rows → Type 0
+  AreRowsIn = AreRows (types_in found.named) (types_in found.refs)
+
   -- a world of the file with the rows of what is found
   abbrev pub IsWorldIn : Resolved → World → Type 0
   IsWorldIn resolved = IsWorldOf resolved (types_in found.named) (types_in found.refs)
@@ -58,3 +63,10 @@ module _ (found : Found) where
   -- types whose texts in such a world don't fall in byte order
   abbrev pub AreSortedIn : World → List Closed → Type 0
   AreSortedIn = AreInTextOrder (types_in found.named) (types_in found.refs)
+
+-- the rows of all named types and references that occur, in some order, and the questions
+pub record AreRowsOfAll (resolved : Resolved) (made : Rows) : Type 0 where
+  pub types : List Closed
+  pub refs : List Closed
+  pub whole : AreWhole resolved types refs
+  pub rows : AreRows types refs resolved made

@@ -8,6 +8,7 @@ use Rattle.tm_base.specs.declared.ground.Ground.{Ground}
 use Rattle.tm_base.specs.declared.world.World.{World}
 use Rattle.tm_names.specs.declared.resolved.OpenAsk.{OpenAsk}
 use Rattle.tm_names.specs.declared.resolved.Resolved.{Resolved}
+use Rattle.tm_ground.specs.declared.rows.Rows.{Rows}
 use Rattle.tm_ground.specs.Closed.{Closed, Elements, named, ref, closed, listed}
 use Rattle.tm_ground.specs.Numbered.{IsNumbered}
 use Rattle.tm_ground.specs.Occurs.{field_types}
@@ -35,6 +36,22 @@ module _ (rows refs : List Closed) where
     pub src : IsNumbered rows refs (closed asked.src) ask.src
     pub dst : IsNumbered rows refs (closed asked.dst) ask.dst
     pub assume : asked.assume ≡ ask.assume
+
+  -- the rows of all types of both lists, in their order, and the questions of the file
+  pub record AreRows (resolved : Resolved) (made : Rows) : Type 0 where
+    pub named : AllZip (IsNamedRow resolved) rows made.named
+    pub ref_rows : AllZip IsRefRow refs made.refs
+    pub questions : AllZip IsAsk resolved.asks made.questions
+
+-- a world of the file with these rows and questions
+pub record HasRows (resolved : Resolved) (made : Rows) (world : World) : Type 0 where
+  pub profile : world.profile ≡ resolved.profile
+  pub defs : world.defs ≡ resolved.defs
+  pub regions : world.regions ≡ resolved.regions
+  pub bounds : world.bounds ≡ resolved.bounds
+  pub named : world.named ≡ made.named
+  pub refs : world.refs ≡ made.refs
+  pub questions : world.questions ≡ made.questions
 
 -- a world of the file whose named rows and reference rows are of these lists, in their order
 pub record IsWorldOf (resolved : Resolved) (rows refs : List Closed) (world : World) : Type 0 where

@@ -2,15 +2,14 @@ ghost use Rattle.std.specs.Prelude.{◌≡◌, map, IfOk};
 ghost use Rattle.std.specs.List.{list_any};
 ghost use Rattle.tm_ground.specs.Depths.{TellDepths, TellsDepth, flag_at, is_ask_deep, is_deep, is_row_deep, is_some_deep, passes_by, row_passes};
 ghost use Rattle.tm_ground.specs.Limits.{depth_limit};
-ghost use Rattle.tm_ground.specs.Found.{IsAllOf};
+ghost use Rattle.tm_ground.specs.Found.{AreRowsOfAll};
+ghost use Rattle.tm_names.specs.declared.resolved.Resolved.{Resolved};
 ghost use Rattle.tm_ground.specs.Occurs.{is_holding};
 
-use crate::found::Found;
 use crate::limits::depth_limit;
-use crate::rows::{named_rows, questions, ref_rows};
+use crate::rows::Rows;
 use std::alloc::Global;
 use tm_base::{Ask, Ground, List, Memory, NamedId, NamedRow, RefRow, Wrapper};
-use tm_names::Resolved;
 
 /// What the table at a place says of a named type; `false` where there is no such table.
 fn flag(tables: &[List<bool>], place: usize, id: NamedId) -> bool
@@ -213,19 +212,16 @@ fn is_some_deep(
         || is_some_ask_deep(tables, questions)
 }
 
-/// Whether some type that occurs is deeper than a type may be.
-pub fn is_too_deep(alloc: Global, resolved: &Resolved, found: &Found) -> Result<bool, Memory>
-    requires { IsAllOf found.now resolved.now }
-    ensures { IfOk result (TellsDepth resolved.now) }
+/// Whether some type that occurs is deeper than a type may be, by the rows of all that occur.
+pub fn is_too_deep(alloc: Global, rows: &Rows) -> Result<bool, Memory>
+    ensures { IfOk result (λ deep.
+        (resolved : Resolved) → AreRowsOfAll resolved rows.now → TellsDepth resolved deep) }
 {
-    let named = named_rows(alloc, resolved, found)?;
-    let refs = ref_rows(alloc, found)?;
-    let questions = questions(alloc, resolved, found)?;
-    let tables = depth_tables(alloc, named.as_slice())?;
+    let tables = depth_tables(alloc, rows.named.as_slice())?;
     Ok(is_some_deep(
         tables.as_slice(),
-        named.as_slice(),
-        refs.as_slice(),
-        questions.as_slice(),
+        rows.named.as_slice(),
+        rows.refs.as_slice(),
+        rows.questions.as_slice(),
     ))
 }

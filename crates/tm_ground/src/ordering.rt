@@ -3,7 +3,7 @@ ghost use Rattle.std.specs.List.Sorted.{IsPermutation};
 ghost use Rattle.tm_base.specs.Whole.{AreDistinct};
 ghost use Rattle.tm_ground.specs.Closed.{closed};
 ghost use Rattle.tm_ground.specs.ClosedTexts.{AreInOrder};
-ghost use Rattle.tm_ground.specs.Found.{AreSortedIn, HasItsTextIn, HasNumbersIn, HaveNumbersIn, IsAllOf};
+ghost use Rattle.tm_ground.specs.Found.{AreRowsIn, AreSortedIn, HasItsTextIn, HasNumbersIn, HaveNumbersIn, IsAllOf};
 ghost use Rattle.tm_ground.specs.Limits.{PassesDepth};
 ghost use Rattle.tm_ground.specs.Sets.{closed_types, types_in};
 ghost use Rattle.tm_ground.specs.Texted.{type_of_texted};
@@ -12,6 +12,7 @@ ghost use Rattle.tm_names.specs.InForm.{IsInForm};
 use crate::found::Found;
 use crate::numbering::numbered;
 use crate::regions::fixed;
+use crate::rows::Rows;
 use crate::type_set::TypeSet;
 use crate::worlds::make_world;
 use std::alloc::Global;
@@ -86,15 +87,21 @@ fn in_text_order(
 
 /// The types that occur, the named types and the references each in byte order of their canonical
 /// texts.
-pub fn in_order(alloc: Global, resolved: &Resolved, found: &Found) -> Result<Found, Memory>
+pub fn in_order(
+    alloc: Global,
+    resolved: &Resolved,
+    found: &Found,
+    rows: Rows,
+) -> Result<Found, Memory>
     requires form { IsInForm resolved.now }
     requires whole { IsAllOf found.now resolved.now }
+    requires rows { AreRowsIn found.now resolved.now rows }
     requires shallow { ¬ PassesDepth resolved.now }
     ensures whole { IfOk result (λ ordered. IsAllOf ordered resolved.now) }
     ensures named { IfOk result (λ ordered. AreInOrder resolved.now (types_in ordered.named)) }
     ensures refs { IfOk result (λ ordered. AreInOrder resolved.now (types_in ordered.refs)) }
 {
-    let world = make_world(alloc, resolved, found)?;
+    let world = make_world(alloc, resolved, rows)?;
     Ok(Found {
         named: in_text_order(alloc, found, &world, &found.named)?,
         refs: in_text_order(alloc, found, &world, &found.refs)?,

@@ -1,7 +1,7 @@
 ghost use Rattle.std.specs.Prelude.{◌≡◌, flat_map, map, true, All, IfOk};
 ghost use Rattle.std.specs.List.{AllZip};
 ghost use Rattle.tm_ground.specs.Closed.{closed};
-ghost use Rattle.tm_ground.specs.Found.{AreFieldsIn, HasNumbersIn, HaveNumbersIn, IsAllOf, IsAskIn, IsNamedRowIn, IsRefRowIn};
+ghost use Rattle.tm_ground.specs.Found.{AreFieldsIn, AreRowsIn, HasNumbersIn, HaveNumbersIn, IsAllOf, IsAskIn, IsNamedRowIn, IsRefRowIn};
 ghost use Rattle.tm_ground.specs.Limits.{is_named, is_ref};
 ghost use Rattle.tm_ground.specs.Occurs.{parts_of, sides_of};
 ghost use Rattle.tm_ground.specs.Sets.{closed_types, types_in};
@@ -13,6 +13,17 @@ use crate::regions::{region, regions};
 use std::alloc::Global;
 use tm_base::{Ask, Ground, List, Memory, NamedRow, RefRow};
 use tm_names::{Open, OpenAsk, Resolved};
+
+/// The rows of the types that a file's questions lead to, and the questions, with the numbers of their types.
+#[derive(Debug, Drop)]
+pub struct Rows {
+    /// The rows of the named types, in the order of their numbers.
+    pub named: List<NamedRow>,
+    /// The rows of the reference types, in the order of their numbers.
+    pub refs: List<RefRow>,
+    /// The questions, in their order.
+    pub questions: List<Ask>,
+}
 
 /// The types of the fields of some variants, with their numbers.
 fn numbered_fields(
@@ -90,11 +101,7 @@ fn numbered_ask(alloc: Global, found: &Found, ask: &OpenAsk) -> Result<Ask, Memo
 }
 
 /// The rows of the named types, in their order.
-pub fn named_rows(
-    alloc: Global,
-    resolved: &Resolved,
-    found: &Found,
-) -> Result<List<NamedRow>, Memory>
+fn named_rows(alloc: Global, resolved: &Resolved, found: &Found) -> Result<List<NamedRow>, Memory>
     requires { IsAllOf found.now resolved.now }
     ensures { IfOk result (AllZip (IsNamedRowIn found.now resolved.now) (types_in found.now.named)) }
 {
@@ -106,7 +113,7 @@ pub fn named_rows(
 }
 
 /// The rows of the reference types, in their order.
-pub fn ref_rows(alloc: Global, found: &Found) -> Result<List<RefRow>, Memory>
+fn ref_rows(alloc: Global, found: &Found) -> Result<List<RefRow>, Memory>
     requires kind { All (λ c. is_ref c ≡ true) (types_in found.now.refs) }
     requires numbers { HaveNumbersIn found.now (types_in found.now.refs) }
     ensures { IfOk result (AllZip (IsRefRowIn found.now) (types_in found.now.refs)) }
@@ -119,7 +126,7 @@ pub fn ref_rows(alloc: Global, found: &Found) -> Result<List<RefRow>, Memory>
 }
 
 /// The questions of a file with the numbers of their types.
-pub fn questions(alloc: Global, resolved: &Resolved, found: &Found) -> Result<List<Ask>, Memory>
+fn questions(alloc: Global, resolved: &Resolved, found: &Found) -> Result<List<Ask>, Memory>
     requires { IsAllOf found.now resolved.now }
     ensures { IfOk result (AllZip (IsAskIn found.now) resolved.now.asks) }
 {
@@ -128,4 +135,16 @@ pub fn questions(alloc: Global, resolved: &Resolved, found: &Found) -> Result<Li
         all.add(numbered_ask(alloc, found, ask)?)?;
     }
     Ok(all)
+}
+
+/// The rows of all that is found, and the questions of the file.
+pub fn rows_of(alloc: Global, resolved: &Resolved, found: &Found) -> Result<Rows, Memory>
+    requires { IsAllOf found.now resolved.now }
+    ensures { IfOk result (AreRowsIn found.now resolved.now) }
+{
+    Ok(Rows {
+        named: named_rows(alloc, resolved, found)?,
+        refs: ref_rows(alloc, found)?,
+        questions: questions(alloc, resolved, found)?,
+    })
 }

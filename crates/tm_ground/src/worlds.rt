@@ -1,10 +1,10 @@
 ghost use Rattle.std.specs.Prelude.{◌≡◌, IfOk};
-ghost use Rattle.tm_ground.specs.Found.{IsAllOf, IsWorldIn};
+ghost use Rattle.tm_ground.specs.Found.{AreRowsOfAll};
+ghost use Rattle.tm_ground.specs.Rows.{HasRows};
 ghost use Rattle.tm_names.specs.InForm.{IsInForm};
 ghost use Rattle.tm_ground.specs.Limits.{PassesDepth};
 
-use crate::found::Found;
-use crate::rows::{named_rows, questions, ref_rows};
+use crate::rows::Rows;
 use std::alloc::Global;
 use tm_base::{Bound, Def, List, Memory, Text, World};
 use tm_names::Resolved;
@@ -42,26 +42,23 @@ fn copied_bounds(alloc: Global, bounds: &[Bound]) -> Result<List<Bound>, Memory>
     Ok(copies)
 }
 
-/// The world of a file, where these are the named types and the references that occur.
-pub fn make_world(alloc: Global, resolved: &Resolved, found: &Found) -> Result<World, Memory>
+/// The world of a file with the rows of all that occurs.
+pub fn make_world(alloc: Global, resolved: &Resolved, rows: Rows) -> Result<World, Memory>
     requires form { IsInForm resolved.now }
-    requires whole { IsAllOf found.now resolved.now }
+    requires whole { AreRowsOfAll resolved.now rows }
     requires shallow { ¬ PassesDepth resolved.now }
-    ensures { IfOk result (IsWorldIn found.now resolved.now) }
+    ensures { IfOk result (HasRows resolved.now rows) }
 {
     let defs = copied_defs(alloc, resolved.defs.as_slice())?;
     let regions = copied_texts(alloc, resolved.regions.as_slice())?;
     let bounds = copied_bounds(alloc, resolved.bounds.as_slice())?;
-    let named = named_rows(alloc, resolved, found)?;
-    let refs = ref_rows(alloc, found)?;
-    let questions = questions(alloc, resolved, found)?;
     Ok(World {
         profile: resolved.profile,
         defs,
         regions,
         bounds,
-        named,
-        refs,
-        questions,
+        named: rows.named,
+        refs: rows.refs,
+        questions: rows.questions,
     })
 }
