@@ -151,12 +151,3 @@ closed-get (u ∷ ts) (suc k) t l e = closed-get ts k t (omega (arith, l)) e
 module _ (resolved : Resolved) (ty : Open) (def : DefId) (lives : List Life) (args : List Open) (is : ty ≡ Named def lives args) where
   pub inside-named : closed_types args ++ fields_of resolved def (map (region_of []) lives) (closed_types args) ≡ inside_of resolved (closed ty)
   inside-named = rw (is, put_in-Named, listed-as_elements) refl
-
-  pub inside-none : None ≡ slice_get resolved.types def.0 → closed_types args ≡ inside_of resolved (closed ty)
-  inside-none e =
-      let none : fields_of resolved def (map (region_of []) lives) (closed_types args) ≡ [] = ap (λ variants. all_fields (map (region_of []) lives) (closed_types args) (unwrap_or variants [])) (sym e) in
-      sym (append-nil (closed_types args)) ∙ ap (λ xs. closed_types args ++ xs) (sym none) ∙ inside-named
-
-  pub inside-some : (variants : List (List Open)) → Some variants ≡ slice_get resolved.types def.0 → closed_types args ++ all_fields (map (region_of []) lives) (closed_types args) variants ≡ inside_of resolved (closed ty)
-  inside-some variants e =
-      ap (λ found. closed_types args ++ all_fields (map (region_of []) lives) (closed_types args) (unwrap_or found [])) e ∙ inside-named

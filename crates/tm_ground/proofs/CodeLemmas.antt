@@ -8,9 +8,8 @@ use Rattle.tm_base.specs.declared.ground.Wrapper.{Wrapper}
 use Rattle.tm_base.specs.declared.ground.Wrapper.TheVariants.{Option, MaybeUninit, ManuallyDrop, Wrapping, Cell, UnsafeCell, PhantomData}
 use Rattle.tm_names.specs.declared.resolved.Life.{Life}
 use Rattle.tm_names.specs.declared.resolved.Open.{Open, Prim, Never, Tuple, Array, NonZero, Wrap, Named, Ref, Param}
-use Rattle.tm_ground.specs.Closed.{Closed, Elements, prim, never, tuple, array, nonzero, wrap, named, ref, no_elements, element, as_elements, closed, region_of}
+use Rattle.tm_ground.specs.Closed.{Closed, Elements, prim, never, tuple, array, nonzero, wrap, named, ref, no_elements, element, as_elements, argument_of, put_in, region_of}
 use Rattle.tm_ground.specs.Codes.{number_of_flag, number_of_primitive, number_of_wrapper, codes_of_regions, code_of, code_of_all, codes_of}
-use Rattle.tm_ground.specs.Sets.{closed_types}
 use Rattle.tm_ground.proofs.OpenLemmas.{put_in-Prim, put_in-Never, put_in-Tuple, put_in-Array, put_in-NonZero, put_in-Wrap, put_in-Named, put_in-Ref, put_in-Param}
 
 pub all-codes : (cs : List Closed) → code_of_all (as_elements cs) ≡ codes_of cs
@@ -18,46 +17,46 @@ unfolding code_of
 all-codes [] = refl
 all-codes (c ∷ cs) = ap (λ rest. code_of c ++ rest) (all-codes cs)
 
--- the code of each kind of type
-module _ (t : Open) where
-  pub code-Array : (n : ℕ) → code_of (closed (Array t n)) ≡ 3 ∷ n ∷ code_of (closed t)
+-- the code of each kind of type with its regions and arguments put in
+module _ (regions : List RegionId) (args : List Closed) where
+  abbrev code : Open → List ℕ
+  code t = code_of (put_in regions args t)
+
+  pub code-Array : (t : Open) (n : ℕ) → code (Array t n) ≡ 3 ∷ n ∷ code t
   unfolding code_of
-  code-Array n = ap code_of (put_in-Array [] [] t n)
+  code-Array t n = ap code_of (put_in-Array regions args t n)
 
-  pub code-Wrap : (w : Wrapper) → code_of (closed (Wrap w t)) ≡ 5 ∷ number_of_wrapper w ∷ code_of (closed t)
+  pub code-Wrap : (w : Wrapper) (t : Open) → code (Wrap w t) ≡ 5 ∷ number_of_wrapper w ∷ code t
   unfolding code_of
-  code-Wrap w = ap code_of (put_in-Wrap [] [] w t)
+  code-Wrap w t = ap code_of (put_in-Wrap regions args w t)
 
-  pub code-Ref : (life : Life) (mutable : Bool) → code_of (closed (Ref life mutable t)) ≡ 7 ∷ (region_of [] life).0 ∷ number_of_flag mutable ∷ code_of (closed t)
+  pub code-Ref : (life : Life) (mutable : Bool) (t : Open) → code (Ref life mutable t) ≡ 7 ∷ (region_of regions life).0 ∷ number_of_flag mutable ∷ code t
   unfolding code_of
-  code-Ref life mutable = ap code_of (put_in-Ref [] [] life mutable t)
+  code-Ref life mutable t = ap code_of (put_in-Ref regions args life mutable t)
 
-module _ (ts : List Open) where
-  pub code-Tuple : code_of (closed (Tuple ts)) ≡ 2 ∷ codes_of (closed_types ts)
+  pub code-Tuple : (ts : List Open) → code (Tuple ts) ≡ 2 ∷ codes_of (map (put_in regions args) ts)
   unfolding code_of
-  code-Tuple = ap code_of (put_in-Tuple [] [] ts) ∙ ap (λ rest. 2 ∷ rest) (all-codes (closed_types ts))
+  code-Tuple ts = ap code_of (put_in-Tuple regions args ts) ∙ ap (λ rest. 2 ∷ rest) (all-codes (map (put_in regions args) ts))
 
-  pub code-Named : (def : DefId) (lives : List Life) → code_of (closed (Named def lives ts)) ≡ 6 ∷ def.0 ∷ codes_of_regions (map (region_of []) lives) ++ codes_of (closed_types ts)
+  pub code-Named : (def : DefId) (lives : List Life) (ts : List Open) → code (Named def lives ts) ≡ 6 ∷ def.0 ∷ codes_of_regions (map (region_of regions) lives) ++ codes_of (map (put_in regions args) ts)
   unfolding code_of
-  code-Named def lives = ap code_of (put_in-Named [] [] def lives ts) ∙ ap (λ rest. 6 ∷ def.0 ∷ codes_of_regions (map (region_of []) lives) ++ rest) (all-codes (closed_types ts))
+  code-Named def lives ts = ap code_of (put_in-Named regions args def lives ts) ∙ ap (λ rest. 6 ∷ def.0 ∷ codes_of_regions (map (region_of regions) lives) ++ rest) (all-codes (map (put_in regions args) ts))
 
-pub code-Prim : (p : Primitive) → code_of (closed (Prim p)) ≡ 0 ∷ number_of_primitive p ∷ []
-unfolding code_of
-code-Prim p = ap code_of (put_in-Prim [] [] p)
+  pub code-Prim : (p : Primitive) → code (Prim p) ≡ 0 ∷ number_of_primitive p ∷ []
+  unfolding code_of
+  code-Prim p = ap code_of (put_in-Prim regions args p)
 
-pub code-Never : code_of (closed Never) ≡ 1 ∷ []
-unfolding code_of
-code-Never = ap code_of (put_in-Never [] [])
+  pub code-Never : code Never ≡ 1 ∷ []
+  unfolding code_of
+  code-Never = ap code_of (put_in-Never regions args)
 
-pub code-NonZero : (p : Primitive) → code_of (closed (NonZero p)) ≡ 4 ∷ number_of_primitive p ∷ []
-unfolding code_of
-code-NonZero p = ap code_of (put_in-NonZero [] [] p)
+  pub code-NonZero : (p : Primitive) → code (NonZero p) ≡ 4 ∷ number_of_primitive p ∷ []
+  unfolding code_of
+  code-NonZero p = ap code_of (put_in-NonZero regions args p)
 
-pub code-Param : (k : ℕ) → code_of (closed (Param k)) ≡ 1 ∷ []
-unfolding code_of
-code-Param k = ap code_of (put_in-Param [] [] k)
-
-pub ruleset codes = (code-Never, code-Param)
+  pub code-Param : (k : ℕ) → argument_of args k ≡ never → code (Param k) ≡ 1 ∷ []
+  unfolding code_of
+  code-Param k e = ap code_of (put_in-Param regions args k ∙ e)
 
 primitives : List Primitive
 primitives = the_bool ∷ Char ∷ U8 ∷ U16 ∷ U32 ∷ U64 ∷ U128 ∷ Usize ∷ I8 ∷ I16 ∷ I32 ∷ I64 ∷ I128 ∷ Isize ∷ F32 ∷ F64 ∷ []

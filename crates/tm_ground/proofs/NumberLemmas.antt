@@ -4,6 +4,7 @@ use Rattle.std.proofs.lemmas.List.{map-append, take_more}
 use Rattle.std.specs.List.{AllZip, flat_map}
 use Rattle.std.proofs.lemmas.List.Elements.{Contains-append_left, Contains-append_right}
 use Rattle.tm_base.specs.declared.definition.DefId.{DefId}
+use Rattle.tm_base.specs.declared.definition.RegionId.{RegionId}
 use Rattle.tm_base.specs.declared.cell.RefId.{RefId}
 use Rattle.tm_base.specs.declared.ground.Ground.{Ground}
 use Rattle.tm_base.specs.declared.ground.Ground as ground_is
@@ -13,11 +14,10 @@ use Rattle.tm_base.specs.declared.ground.Primitive.{Primitive}
 use Rattle.tm_base.specs.declared.ground.Wrapper.{Wrapper}
 use Rattle.tm_names.specs.declared.resolved.Life.{Life}
 use Rattle.tm_names.specs.declared.resolved.Open.{Open, Prim, Never, Tuple, Array, NonZero, Wrap, Named, Ref, Param}
-use Rattle.tm_ground.specs.Closed.{Closed, Elements, no_elements, element, tuple, named, ref, as_elements, closed, listed, put_in}
+use Rattle.tm_ground.specs.Closed.{Closed, Elements, no_elements, element, tuple, named, ref, never, as_elements, argument_of, listed, put_in}
 use Rattle.tm_ground.specs.Limits.{is_named, is_ref}
 use Rattle.tm_ground.specs.Numbered.{HasNumbers, HaveNumbers, IsNumbered, EachNumbered}
 use Rattle.tm_ground.specs.Occurs.{parts_in}
-use Rattle.tm_ground.specs.Sets.{closed_types}
 use Rattle.tm_ground.proofs.ContainsLemmas.{contains-first}
 use Rattle.tm_ground.proofs.GrowLemmas.{within-trans}
 use Rattle.tm_ground.proofs.OccursLemmas.{kept-part, kept-itself}
@@ -68,67 +68,69 @@ module _ (rows refs : List Closed) where
   ref-number (ref region mutable c) k t at = (record { 0 = k }, refl, at)
   ref-number _ k t at = cc
 
-  abbrev Numbers : Open → Ground → Type 0
-  Numbers t g = IsNumbered rows refs (closed t) g
+  -- a type with its regions and arguments put in
+  module _ (regions : List RegionId) (args : List Closed) where
+    abbrev Numbers : Open → Ground → Type 0
+    Numbers t g = IsNumbered rows refs (put_in regions args t) g
 
-  pub numbers-Prim : (p : Primitive) → Numbers (Prim p) (ground_is.Prim p)
-  unfolding put_in IsNumbered
-  numbers-Prim p = refl
+    pub numbers-Prim : (p : Primitive) → Numbers (Prim p) (ground_is.Prim p)
+    unfolding put_in IsNumbered
+    numbers-Prim p = refl
 
-  pub numbers-Never : Numbers Never ground_is.Never
-  unfolding put_in IsNumbered
-  numbers-Never = refl
+    pub numbers-Never : Numbers Never ground_is.Never
+    unfolding put_in IsNumbered
+    numbers-Never = refl
 
-  pub numbers-Param : (k : ℕ) → Numbers (Param k) ground_is.Never
-  unfolding put_in IsNumbered
-  numbers-Param k = refl
+    pub numbers-Param : (k : ℕ) → argument_of args k ≡ never → Numbers (Param k) ground_is.Never
+    unfolding put_in IsNumbered
+    numbers-Param k e = rw e refl
 
-  pub numbers-NonZero : (p : Primitive) → Numbers (NonZero p) (ground_is.NonZero p)
-  unfolding put_in IsNumbered
-  numbers-NonZero p = refl
+    pub numbers-NonZero : (p : Primitive) → Numbers (NonZero p) (ground_is.NonZero p)
+    unfolding put_in IsNumbered
+    numbers-NonZero p = refl
 
-  pub numbers-Array : (t : Open) (n : ℕ) (g : Ground) → Numbers t g → Numbers (Array t n) (ground_is.Array g n)
-  unfolding IsNumbered
-  numbers-Array t n g h = rw (put_in-Array [] [] t n) (g, refl, h)
+    pub numbers-Array : (t : Open) (n : ℕ) (g : Ground) → Numbers t g → Numbers (Array t n) (ground_is.Array g n)
+    unfolding IsNumbered
+    numbers-Array t n g h = rw (put_in-Array regions args t n) (g, refl, h)
 
-  pub numbers-Wrap : (w : Wrapper) (t : Open) (g : Ground) → Numbers t g → Numbers (Wrap w t) (ground_is.Wrap w g)
-  unfolding IsNumbered
-  numbers-Wrap w t g h = rw (put_in-Wrap [] [] w t) (g, refl, h)
+    pub numbers-Wrap : (w : Wrapper) (t : Open) (g : Ground) → Numbers t g → Numbers (Wrap w t) (ground_is.Wrap w g)
+    unfolding IsNumbered
+    numbers-Wrap w t g h = rw (put_in-Wrap regions args w t) (g, refl, h)
 
-  pub numbers-Named : (def : DefId) (lives : List Life) (ts : List Open) (id : NamedId) → slice_get rows id.0 ≡ Some (closed (Named def lives ts)) → Numbers (Named def lives ts) (ground_is.Named id)
-  unfolding IsNumbered
-  numbers-Named def lives ts id h =
-      let same = put_in-Named [] [] def lives ts in
-      subst (λ c. IsNumbered rows refs c (ground_is.Named id)) (sym same) (id, refl, h ∙ ap (λ (c : Closed). Some c) same)
+    pub numbers-Named : (def : DefId) (lives : List Life) (ts : List Open) (id : NamedId) → slice_get rows id.0 ≡ Some (put_in regions args (Named def lives ts)) → Numbers (Named def lives ts) (ground_is.Named id)
+    unfolding IsNumbered
+    numbers-Named def lives ts id h =
+        let same = put_in-Named regions args def lives ts in
+        subst (λ c. IsNumbered rows refs c (ground_is.Named id)) (sym same) (id, refl, h ∙ ap (λ (c : Closed). Some c) same)
 
-  pub numbers-Ref : (life : Life) (mutable : Bool) (t : Open) (r : RefId) → slice_get refs r.0 ≡ Some (closed (Ref life mutable t)) → Numbers (Ref life mutable t) (ground_is.Ref r)
-  unfolding IsNumbered
-  numbers-Ref life mutable t r h =
-      let same = put_in-Ref [] [] life mutable t in
-      subst (λ c. IsNumbered rows refs c (ground_is.Ref r)) (sym same) (r, refl, h ∙ ap (λ (c : Closed). Some c) same)
+    pub numbers-Ref : (life : Life) (mutable : Bool) (t : Open) (r : RefId) → slice_get refs r.0 ≡ Some (put_in regions args (Ref life mutable t)) → Numbers (Ref life mutable t) (ground_is.Ref r)
+    unfolding IsNumbered
+    numbers-Ref life mutable t r h =
+        let same = put_in-Ref regions args life mutable t in
+        subst (λ c. IsNumbered rows refs c (ground_is.Ref r)) (sym same) (r, refl, h ∙ ap (λ (c : Closed). Some c) same)
 
-  abbrev Has : Open → Type 0
-  Has t = HasNumbers rows refs (closed t)
+    abbrev Has : Open → Type 0
+    Has t = HasNumbers rows refs (put_in regions args t)
 
-  pub has-Array : (t : Open) (n : ℕ) → Has (Array t n) → Has t
-  has-Array t n h = part-has _ _ h (rw (put_in-Array [] [] t n) (contains-first _ []))
+    pub has-Array : (t : Open) (n : ℕ) → Has (Array t n) → Has t
+    has-Array t n h = part-has _ _ h (rw (put_in-Array regions args t n) (contains-first _ []))
 
-  pub has-Wrap : (w : Wrapper) (t : Open) → Has (Wrap w t) → Has t
-  has-Wrap w t h = part-has _ _ h (rw (put_in-Wrap [] [] w t) (contains-first _ []))
+    pub has-Wrap : (w : Wrapper) (t : Open) → Has (Wrap w t) → Has t
+    has-Wrap w t h = part-has _ _ h (rw (put_in-Wrap regions args w t) (contains-first _ []))
 
-  pub has-pointee : (life : Life) (mutable : Bool) (t : Open) → Has (Ref life mutable t) → Has t
-  has-pointee life mutable t h = part-has _ _ h (rw (put_in-Ref [] [] life mutable t) (contains-first _ []))
+    pub has-pointee : (life : Life) (mutable : Bool) (t : Open) → Has (Ref life mutable t) → Has t
+    has-pointee life mutable t h = part-has _ _ h (rw (put_in-Ref regions args life mutable t) (contains-first _ []))
 
-  pub has-Tuple : (ts : List Open) → Has (Tuple ts) → HaveNumbers rows refs (closed_types ts)
-  has-Tuple ts h =
-      let parts : parts_in (closed (Tuple ts)) ≡ closed_types ts = ap parts_in (put_in-Tuple [] [] ts) ∙ listed-as_elements _ in
-      record { each = λ c i. part-has _ c h (subst (λ xs. Contains xs c) (sym parts) i) }
+    pub has-Tuple : (ts : List Open) → Has (Tuple ts) → HaveNumbers rows refs (map (put_in regions args) ts)
+    has-Tuple ts h =
+        let parts : parts_in (put_in regions args (Tuple ts)) ≡ map (put_in regions args) ts = ap parts_in (put_in-Tuple regions args ts) ∙ listed-as_elements _ in
+        record { each = λ c i. part-has _ c h (subst (λ xs. Contains xs c) (sym parts) i) }
 
-  pub has-Named : (def : DefId) (lives : List Life) (ts : List Open) → Has (Named def lives ts) → Contains rows (closed (Named def lives ts))
-  has-Named def lives ts h = named-there _ h (ap is_named (put_in-Named [] [] def lives ts))
+    pub has-Named : (def : DefId) (lives : List Life) (ts : List Open) → Has (Named def lives ts) → Contains rows (put_in regions args (Named def lives ts))
+    has-Named def lives ts h = named-there _ h (ap is_named (put_in-Named regions args def lives ts))
 
-  pub has-Ref : (life : Life) (mutable : Bool) (t : Open) → Has (Ref life mutable t) → Contains refs (closed (Ref life mutable t))
-  has-Ref life mutable t h = ref-there _ h (ap is_ref (put_in-Ref [] [] life mutable t))
+    pub has-Ref : (life : Life) (mutable : Bool) (t : Open) → Has (Ref life mutable t) → Contains refs (put_in regions args (Ref life mutable t))
+    has-Ref life mutable t h = ref-there _ h (ap is_ref (put_in-Ref regions args life mutable t))
 
 -- one pair more
 pub all_zip-push : {A B : Type 0} (R : A → B → Type 0) (xs : List A) (ys : List B) (x : A) (y : B) → AllZip R xs ys → R x y → AllZip R (xs ++ x ∷ []) (ys ++ y ∷ [])

@@ -1,5 +1,5 @@
 -- The row of a named type is of its regions, its arguments and its fields.
-use Rattle.std.proofs.Common.{◌≡◌, sym, ap, subst, ◌∙◌, List, [], Contains, map, flat_map}
+use Rattle.std.proofs.Common.{◌≡◌, sym, ap, subst, ◌∙◌, List, [], Contains, map}
 use Rattle.std.specs.List.{AllZip}
 use Rattle.std.proofs.lemmas.List.Elements.{Contains-append_left, Contains-append_right}
 use Rattle.tm_base.specs.declared.definition.DefId.{DefId}
@@ -8,52 +8,43 @@ use Rattle.tm_base.specs.declared.ground.Ground.{Ground}
 use Rattle.tm_names.specs.declared.resolved.Life.{Life}
 use Rattle.tm_names.specs.declared.resolved.Open.{Open, Named}
 use Rattle.tm_names.specs.declared.resolved.Resolved.{Resolved}
-use Rattle.tm_ground.specs.Closed.{Closed, prim, never, tuple, array, nonzero, wrap, named, ref, as_elements, closed, listed, region_of}
+use Rattle.tm_ground.specs.Closed.{Closed, named, as_elements, closed, listed, region_of}
 use Rattle.tm_ground.specs.Closing.{AreWhole}
 use Rattle.tm_ground.specs.Found.{AreRowsOfAll}
 use Rattle.tm_ground.specs.Numbered.{IsNumbered}
-use Rattle.tm_ground.specs.Occurs.{fields_of, parts_of, types_of_fields}
+use Rattle.tm_ground.specs.Occurs.{field_types, fields_of, parts_of}
 use Rattle.tm_base.specs.declared.world.World.{World}
 use Rattle.tm_ground.specs.declared.rows.Rows.{Rows}
 use Rattle.tm_ground.specs.Rows.{AreFields, AreRows, HasRows, IsAsk, IsNamedRow, IsRefRow, IsWorldOf}
 use Rattle.tm_ground.specs.Sets.{closed_types}
-use Rattle.tm_ground.proofs.ContainsLemmas.{contains-nothing}
 use Rattle.tm_ground.proofs.OpenLemmas.{listed-as_elements, put_in-Named}
 
 module _ (resolved : Resolved) where
-  -- the types of fields are parts of the type
-  pub field-part : (c d : Closed) → Contains (flat_map (λ types. types) (types_of_fields resolved c)) d → Contains (parts_of resolved c) d
-  field-part (named def regions args) d h = Contains-append_right (listed args) (fields_of resolved def regions (listed args)) d h
-  field-part (prim p) d h = absurd (contains-nothing d h)
-  field-part never d h = absurd (contains-nothing d h)
-  field-part (tuple cs) d h = absurd (contains-nothing d h)
-  field-part (array c n) d h = absurd (contains-nothing d h)
-  field-part (nonzero p) d h = absurd (contains-nothing d h)
-  field-part (wrap w c) d h = absurd (contains-nothing d h)
-  field-part (ref region mutable c) d h = absurd (contains-nothing d h)
-
   module _ (def : DefId) (lives : List Life) (ts : List Open) where
     is_named : closed (Named def lives ts) ≡ named def (map (region_of []) lives) (as_elements (closed_types ts))
     is_named = put_in-Named [] [] def lives ts
 
-    -- and so are its arguments
+    -- its arguments are parts of the type
     pub argument-part : (d : Closed) → Contains (closed_types ts) d → Contains (parts_of resolved (closed (Named def lives ts))) d
     argument-part d h =
         let inside = Contains-append_left (listed (as_elements (closed_types ts))) _ d (subst (λ cs. Contains cs d) (sym (listed-as_elements (closed_types ts))) h) in
         subst (λ c. Contains (parts_of resolved c) d) (sym is_named) inside
 
-    pub row-of : (rows refs : List Closed) (regions : List RegionId) (args : List Ground) (fields : List (List Closed)) (types : List (List Ground))
-        → regions ≡ map (region_of []) lives → AllZip (IsNumbered rows refs) (closed_types ts) args
-        → fields ≡ types_of_fields resolved (closed (Named def lives ts)) → AreFields rows refs fields types
+    -- and so are its fields' types
+    pub field-part : (d : Closed) → Contains (fields_of resolved def (map (region_of []) lives) (closed_types ts)) d → Contains (parts_of resolved (closed (Named def lives ts))) d
+    field-part d h =
+        let inside = Contains-append_right (listed (as_elements (closed_types ts))) _ d (subst (λ given. Contains (fields_of resolved def (map (region_of []) lives) given) d) (sym (listed-as_elements (closed_types ts))) h) in
+        subst (λ c. Contains (parts_of resolved c) d) (sym is_named) inside
+
+    pub row-of : (rows refs : List Closed) (regions : List RegionId) (args : List Ground) (types : List (List Ground))
+        → regions ≡ map (region_of []) lives → AllZip (IsNumbered rows refs) (closed_types ts) args → AreFields rows refs (field_types resolved def regions (closed_types ts)) types
         → IsNamedRow rows refs resolved (closed (Named def lives ts)) (record { def = def; regions = regions; args = args; types = types })
-    row-of rows refs regions args fields types e given f each =
-        let type : closed (Named def lives ts) ≡ named def regions (as_elements (closed_types ts)) = is_named ∙ ap (λ rs. named def rs (as_elements (closed_types ts))) (sym e) in
-        record {
-          args = as_elements (closed_types ts);
-          type = type;
-          given = subst (λ cs. AllZip (IsNumbered rows refs) cs args) (sym (listed-as_elements (closed_types ts))) given;
-          fields = subst (λ css. AreFields rows refs css types) (f ∙ ap (types_of_fields resolved) type) each;
-        }
+    row-of rows refs regions args types e given each = record {
+      args = as_elements (closed_types ts);
+      type = is_named ∙ ap (λ rs. named def rs (as_elements (closed_types ts))) (sym e);
+      given = subst (λ cs. AllZip (IsNumbered rows refs) cs args) (sym (listed-as_elements (closed_types ts))) given;
+      fields = subst (λ cs. AreFields rows refs (field_types resolved def regions cs) types) (sym (listed-as_elements (closed_types ts))) each;
+    }
 
 -- the rows of two lists of all types that occur are the rows of all
 pub all-rows : {resolved : Resolved} {types refs : List Closed} {made : Rows} → AreWhole resolved types refs → AreRows types refs resolved made → AreRowsOfAll resolved made

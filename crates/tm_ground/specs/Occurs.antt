@@ -19,11 +19,6 @@ written_fields resolved def = unwrap_or (slice_get resolved.types def.0) []
 abbrev pub field_types : Resolved → DefId → List RegionId → List Closed → List (List Closed)
 field_types resolved def regions args = map (map (put_in regions args)) (written_fields resolved def)
 
--- the types of a named type's fields, a list for each variant; none where it is no named type
-abbrev pub types_of_fields : Resolved → Closed → List (List Closed)
-types_of_fields resolved (named def regions args) = field_types resolved def regions (listed args)
-types_of_fields resolved c = []
-
 -- the fields of all variants
 abbrev pub all_fields : List RegionId → List Closed → List (List Open) → List Closed
 all_fields regions args variants = flat_map (λ types. types) (map (map (put_in regions args)) variants)

@@ -1,12 +1,12 @@
 ghost use Rattle.std.specs.Prelude.{◌≡◌, ◌++◌, ◌∷◌, [], map, IfOk, OnOk};
-ghost use Rattle.tm_ground.specs.Closed.{closed, region_of};
+ghost use Rattle.tm_ground.specs.Closed.{put_in, region_of};
 ghost use Rattle.tm_ground.specs.Codes.{code_of, codes_of, codes_of_regions};
 ghost use Rattle.tm_ground.specs.Codes.{number_of_flag, number_of_primitive, number_of_wrapper};
 ghost use Rattle.tm_ground.specs.Sets.{closed_types};
 
 use crate::regions::region;
 use std::alloc::Global;
-use tm_base::{Memory, Primitive, Wrapper};
+use tm_base::{Memory, Primitive, RegionId, Wrapper};
 use tm_names::{Life, Open};
 
 /// The code of a closed type: numbers that no other has.
@@ -37,14 +37,15 @@ fn number_of_flag(flag: bool) -> u32
 }
 
 impl Code {
-    /// The code of a type.
-    pub fn of(alloc: Global, ty: &Open) -> Result<Code, Memory>
-        ensures { IfOk result (λ code. code.numbers.items ≡ code_of (closed ty.now)) }
+    /// The code of a type with its regions and arguments put in.
+    pub fn of(alloc: Global, regions: &[RegionId], args: &[Open], ty: &Open) -> Result<Code, Memory>
+        ensures { IfOk result (λ code. code.numbers.items
+            ≡ code_of (put_in regions.now (closed_types args.now) ty.now)) }
     {
         let mut code = Code {
             numbers: Vec::new(alloc),
         };
-        code.add(ty)?;
+        code.add(regions, args, ty)?;
         Ok(code)
     }
 
@@ -57,38 +58,37 @@ impl Code {
     }
 
     /// Adds the regions that lifetimes stand for, and an end.
-    fn add_lives(&mut self, lives: &[Life]) -> Result<(), Memory>
+    fn add_lives(&mut self, regions: &[RegionId], lives: &[Life]) -> Result<(), Memory>
         ensures { OnOk result (self.new.numbers.items
-            ≡ self.old.numbers.items ++ codes_of_regions (map (region_of []) lives.now)) }
+            ≡ self.old.numbers.items ++ codes_of_regions (map (region_of regions.now) lives.now)) }
     {
         for life in lives {
             self.add_number(1)?;
-            self.add_number(region(&[], *life).0)?;
+            self.add_number(region(regions, *life).0)?;
         }
         self.add_number(0)
     }
 
-    /// Adds the code of a type.
+    /// Adds the code of a type with its regions and arguments put in.
     #[cycle(add)]
-    #[tactic(auto, using(crate::proofs::CodeLemmas::codes))]
-    fn add(&mut self, ty: &Open) -> Result<(), Memory>
+    fn add(&mut self, regions: &[RegionId], args: &[Open], ty: &Open) -> Result<(), Memory>
         ensures { OnOk result (self.new.numbers.items
-            ≡ self.old.numbers.items ++ code_of (closed ty.now)) }
+            ≡ self.old.numbers.items ++ code_of (put_in regions.now (closed_types args.now) ty.now)) }
     {
         match ty {
             Open::Prim(primitive) => {
                 self.add_number(0)?;
                 self.add_number(number_of_primitive(*primitive))
             }
-            Open::Never | Open::Param(_) => self.add_number(1),
+            Open::Never => self.add_number(1),
             Open::Tuple(elements) => {
                 self.add_number(2)?;
-                self.add_all(elements.as_slice())
+                self.add_all(regions, args, elements.as_slice())
             }
             Open::Array(element, length) => {
                 self.add_number(3)?;
                 self.add_number(*length)?;
-                self.add(element.get())
+                self.add(regions, args, element.get())
             }
             Open::NonZero(primitive) => {
                 self.add_number(4)?;
@@ -97,31 +97,36 @@ impl Code {
             Open::Wrap(wrapper, argument) => {
                 self.add_number(5)?;
                 self.add_number(number_of_wrapper(*wrapper))?;
-                self.add(argument.get())
+                self.add(regions, args, argument.get())
             }
-            Open::Named(def, lives, args) => {
+            Open::Named(def, lives, given) => {
                 self.add_number(6)?;
                 self.add_number(def.0)?;
-                self.add_lives(lives.as_slice())?;
-                self.add_all(args.as_slice())
+                self.add_lives(regions, lives.as_slice())?;
+                self.add_all(regions, args, given.as_slice())
             }
             Open::Ref(life, mutable, pointee) => {
                 self.add_number(7)?;
-                self.add_number(region(&[], *life).0)?;
+                self.add_number(region(regions, *life).0)?;
                 self.add_number(number_of_flag(*mutable))?;
-                self.add(pointee.get())
+                self.add(regions, args, pointee.get())
             }
+            Open::Param(place) => match args.get(*place as usize) {
+                Some(arg) => self.add(&[], &[], arg),
+                None => self.add_number(1),
+            },
         }
     }
 
-    /// Adds the codes of types, and an end.
+    /// Adds the codes of types with their regions and arguments put in, and an end.
     #[cycle(add)]
-    fn add_all(&mut self, types: &[Open]) -> Result<(), Memory>
+    fn add_all(&mut self, regions: &[RegionId], args: &[Open], types: &[Open]) -> Result<(), Memory>
         ensures { OnOk result (self.new.numbers.items
-            ≡ self.old.numbers.items ++ codes_of (closed_types types.now)) }
+            ≡ self.old.numbers.items
+            ++ codes_of (map (put_in regions.now (closed_types args.now)) types.now)) }
     {
         for item in types {
-            self.add(item)?;
+            self.add(regions, args, item)?;
         }
         self.add_number(8)
     }

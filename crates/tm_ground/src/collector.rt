@@ -5,6 +5,7 @@ ghost use Rattle.tm_ground.specs.Limits.{is_named, is_ref};
 ghost use Rattle.tm_ground.specs.Occurs.{all_fields, asked_in, inside_of, is_small, sides_of};
 ghost use Rattle.tm_ground.specs.Sets.{closed_types};
 
+use crate::fields::written_fields;
 use crate::found::Found;
 use crate::limits::{ref_limit, type_limit};
 use crate::nodes::is_small;
@@ -201,13 +202,8 @@ impl Collector {
                 let Ok(regions) = regions(alloc, lives.as_slice()) else {
                     return Err(Stop::Memory);
                 };
-                match resolved.types.get(def.0 as usize) {
-                    Some(variants) => {
-                        let variants = variants.as_slice();
-                        self.add_fields(alloc, regions.as_slice(), args.as_slice(), variants)
-                    }
-                    None => Ok(()),
-                }
+                let variants = written_fields(resolved, *def);
+                self.add_fields(alloc, regions.as_slice(), args.as_slice(), variants)
             }
             Open::Prim(_) | Open::Never | Open::Tuple(_) | Open::Array(_, _) => unreachable!(),
             Open::NonZero(_) | Open::Wrap(_, _) | Open::Ref(_, _, _) => unreachable!(),

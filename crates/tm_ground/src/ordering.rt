@@ -32,7 +32,7 @@ fn with_text(alloc: Global, found: &Found, world: &World, ty: &Open) -> Result<T
     ensures text { IfOk result (HasItsTextIn found.now world.now) }
     ensures same { IfOk result (λ texted. type_of_texted texted ≡ closed ty.now) }
 {
-    let number = numbered(alloc, found, ty)?;
+    let number = numbered(alloc, found, &[], &[], ty)?;
     Ok(Texted {
         text: text_of(alloc, world, &number)?,
         ty: fixed(alloc, &[], &[], ty)?,

@@ -1,17 +1,17 @@
-ghost use Rattle.std.specs.Prelude.{◌≡◌, flat_map, map, true, All, IfOk};
+ghost use Rattle.std.specs.Prelude.{◌≡◌, map, true, All, IfOk};
 ghost use Rattle.std.specs.List.{AllZip};
-ghost use Rattle.tm_ground.specs.Closed.{closed};
+ghost use Rattle.tm_ground.specs.Closed.{closed, put_in};
 ghost use Rattle.tm_ground.specs.Found.{AreFieldsIn, AreRowsIn, HasNumbersIn, HaveNumbersIn, IsAllOf, IsAskIn, IsNamedRowIn, IsRefRowIn};
 ghost use Rattle.tm_ground.specs.Limits.{is_named, is_ref};
-ghost use Rattle.tm_ground.specs.Occurs.{parts_of, sides_of};
+ghost use Rattle.tm_ground.specs.Occurs.{all_fields, parts_of, sides_of};
 ghost use Rattle.tm_ground.specs.Sets.{closed_types, types_in};
 
-use crate::fields::fields;
+use crate::fields::written_fields;
 use crate::found::Found;
 use crate::numbering::{all_numbered, numbered};
 use crate::regions::{region, regions};
 use std::alloc::Global;
-use tm_base::{Ask, Ground, List, Memory, NamedRow, RefRow};
+use tm_base::{Ask, Ground, List, Memory, NamedRow, RefRow, RegionId};
 use tm_names::{Open, OpenAsk, Resolved};
 
 /// The rows of the types that a file's questions lead to, and the questions, with the numbers of their types.
@@ -29,14 +29,18 @@ pub struct Rows {
 fn numbered_fields(
     alloc: Global,
     found: &Found,
+    regions: &[RegionId],
+    args: &[Open],
     variants: &[List<Open>],
 ) -> Result<List<List<Ground>>, Memory>
-    requires { HaveNumbersIn found.now (flat_map (λ types. types) (map closed_types variants.now)) }
-    ensures { IfOk result (AreFieldsIn found.now (map closed_types variants.now)) }
+    requires { HaveNumbersIn found.now
+        (all_fields regions.now (closed_types args.now) variants.now) }
+    ensures { IfOk result (AreFieldsIn found.now
+        (map (map (put_in regions.now (closed_types args.now))) variants.now)) }
 {
     let mut all = List::new(alloc);
     for types in variants {
-        all.add(all_numbered(alloc, found, types.as_slice())?)?;
+        all.add(all_numbered(alloc, found, regions, args, types.as_slice())?)?;
     }
     Ok(all)
 }
@@ -55,12 +59,14 @@ fn named_row(
 {
     match ty {
         Open::Named(def, lives, args) => {
-            let fields = fields(alloc, resolved, ty)?;
+            let regions = regions(alloc, lives.as_slice())?;
+            let args = args.as_slice();
+            let variants = written_fields(resolved, *def);
             Ok(NamedRow {
                 def: *def,
-                regions: regions(alloc, lives.as_slice())?,
-                args: all_numbered(alloc, found, args.as_slice())?,
-                types: numbered_fields(alloc, found, fields.as_slice())?,
+                args: all_numbered(alloc, found, &[], &[], args)?,
+                types: numbered_fields(alloc, found, regions.as_slice(), args, variants)?,
+                regions,
             })
         }
         Open::Prim(_) | Open::Never | Open::Tuple(_) | Open::Array(_, _) => unreachable!(),
@@ -80,7 +86,7 @@ fn ref_row(alloc: Global, found: &Found, ty: &Open) -> Result<RefRow, Memory>
         Open::Ref(life, mutable, pointee) => Ok(RefRow {
             mutable: *mutable,
             region: region(&[], *life),
-            pointee: numbered(alloc, found, pointee.get())?,
+            pointee: numbered(alloc, found, &[], &[], pointee.get())?,
         }),
         Open::Prim(_) | Open::Never | Open::Tuple(_) | Open::Array(_, _) => unreachable!(),
         Open::NonZero(_) | Open::Wrap(_, _) | Open::Named(_, _, _) => unreachable!(),
@@ -94,8 +100,8 @@ fn numbered_ask(alloc: Global, found: &Found, ask: &OpenAsk) -> Result<Ask, Memo
     ensures { IfOk result (IsAskIn found.now ask.now) }
 {
     Ok(Ask {
-        src: numbered(alloc, found, &ask.src)?,
-        dst: numbered(alloc, found, &ask.dst)?,
+        src: numbered(alloc, found, &[], &[], &ask.src)?,
+        dst: numbered(alloc, found, &[], &[], &ask.dst)?,
         assume: ask.assume,
     })
 }

@@ -1,7 +1,7 @@
 ghost use Rattle.std.specs.Prelude.{◌≡◌, ◌∷◌, ◌++◌, [], Some, map};
 ghost use Rattle.std.specs.Prelude.{Contains, IfSome, IfNone, IfOk, OnOk, slice_get};
 ghost use Rattle.tm_base.specs.Whole.{AreDistinct};
-ghost use Rattle.tm_ground.specs.Closed.{closed};
+ghost use Rattle.tm_ground.specs.Closed.{closed, put_in};
 ghost use Rattle.tm_ground.specs.Codes.{code_of};
 ghost use Rattle.tm_ground.specs.Growing.{Adding};
 ghost use Rattle.tm_ground.specs.Sets.{closed_types, types_in};
@@ -12,7 +12,7 @@ use crate::stop::Stop;
 use indexmap::IndexSet;
 use std::alloc::Global;
 use std::marker::Model;
-use tm_base::{List, Memory};
+use tm_base::{List, Memory, RegionId};
 use tm_names::Open;
 
 /// Closed types, each once, in the order in which they came. Contracts see the list of them.
@@ -69,14 +69,20 @@ impl TypeSet {
         self.keys.get_index_of(code)
     }
 
-    /// Where a type stands; `None` exactly where it isn't among these.
-    pub fn place_of(&self, alloc: Global, ty: &Open) -> Result<Option<usize>, Memory>
-        ensures found { IfOk result (λ place.
-            IfSome place (λ k. slice_get (types_in self.now) k ≡ Some (closed ty.now))) }
-        ensures absent { IfOk result (λ place.
-            IfNone place (¬ Contains (types_in self.now) (closed ty.now))) }
+    /// Where a type with its regions and arguments put in stands; `None` exactly where it isn't among these.
+    pub fn place_of(
+        &self,
+        alloc: Global,
+        regions: &[RegionId],
+        args: &[Open],
+        ty: &Open,
+    ) -> Result<Option<usize>, Memory>
+        ensures found { IfOk result (λ place. IfSome place (λ k. slice_get (types_in self.now) k
+            ≡ Some (put_in regions.now (closed_types args.now) ty.now))) }
+        ensures absent { IfOk result (λ place. IfNone place
+            (¬ Contains (types_in self.now) (put_in regions.now (closed_types args.now) ty.now))) }
     {
-        let code = Code::of(alloc, ty)?;
+        let code = Code::of(alloc, regions, args, ty)?;
         Ok(self.place(&code))
     }
 
@@ -85,7 +91,7 @@ impl TypeSet {
         ensures { Adding limit (types_in self.old) (closed ty.now ∷ [])
             (types_in self.new) result }
     {
-        let Ok(code) = Code::of(alloc, ty) else {
+        let Ok(code) = Code::of(alloc, &[], &[], ty) else {
             return Err(Stop::Memory);
         };
         match self.place(&code) {
@@ -128,7 +134,7 @@ impl TypeSet {
     {
         let mut keys = IndexSet::new(alloc);
         for ty in types.as_slice() {
-            keys.insert(Code::of(alloc, ty)?)?;
+            keys.insert(Code::of(alloc, &[], &[], ty)?)?;
         }
         Ok(TypeSet { keys, types })
     }

@@ -1,6 +1,7 @@
-use Rattle.std.proofs.Common.{◌≡◌, ◌+◌, arith, append_assoc}
-use Rattle.tm_ground.proofs.SizeLemmas.{size_of, sizes_of, size_of-at, size-Tuple, size-Array, size-Wrap, size-Named, size-Ref}
-use Rattle.tm_ground.proofs.CodeLemmas.{code-Prim, code-Tuple, code-Array, code-NonZero, code-Wrap, code-Named, code-Ref}
+use Rattle.std.proofs.Common.{◌≡◌, ◌+◌, sym, arith, append_assoc}
+use Rattle.tm_ground.proofs.OpenLemmas.{put_in-Param, argument-at, argument-none, not-below}
+use Rattle.tm_ground.proofs.SizeLemmas.{size_of, sizes_of, size_of-at, size_of-some, size-Tuple, size-Array, size-Wrap, size-Named, size-Ref}
+use Rattle.tm_ground.proofs.CodeLemmas.{code-Prim, code-Tuple, code-Array, code-NonZero, code-Wrap, code-Named, code-Ref, code-Never, code-Param}
 use Rattle.tm_ground.proofs.code.Code.+add.Goals as goal
 
 pub add_all-add-requires : goal.add_all-add-requires
@@ -60,3 +61,21 @@ add-returns-in_ok-add_lives-in-Named t c =
 pub add-returns-in_ok-add_number-in-Ref-3 : goal.add-returns-in_ok-add_number-in-Ref-3
 add-returns-in_ok-add_number-in-Ref-3 t c =
     rw (c.in-Ref.is, code-Ref) (rw (c.in_ok-add_number-in-Ref-3.ensures, c.in_ok-add_number-in-Ref-2.ensures, c.in_ok-add_number-in-Ref.ensures, c.region.ensures, c.number_of_flag.ensures, c.get-in-Ref.ensures, append_assoc, append_assoc, append_assoc) at c.add-in-Ref.ensures)
+
+pub add-add-requires-in-Some : goal.add-add-requires-in-Some
+add-add-requires-in-Some t c =
+    let h = size_of-at c.args.args.now c.in-Param.place c.in-Some.arg.now c.in-Some.ensures.lookup.3.0 c.in-Some.ensures.lookup.1 in
+    (omega (arith, h, size_of-some c.args.ty.now), tt)
+
+pub add-returns-in-Some : goal.add-returns-in-Some
+add-returns-in-Some t c =
+    let same = argument-at c.args.args.now c.in-Param.place c.in-Some.arg.now c.in-Some.ensures.lookup.3.0 c.in-Some.ensures.lookup.1 in
+    rw (c.in-Param.is, put_in-Param, ← same) c.add-in-Some.ensures
+
+pub add-returns-in-None : goal.add-returns-in-None
+add-returns-in-None t c =
+    let none = code-Param c.args.regions.now _ c.in-Param.place (sym (argument-none c.args.args.now c.in-Param.place (not-below _ _ c.in-None.ensures.lookup.0))) in
+    rw (c.in-Param.is, none) c.add_number-in-None.ensures
+
+pub add-returns-in-Never : goal.add-returns-in-Never
+add-returns-in-Never t c = rw (c.in-Never.is, code-Never) c.add_number-in-Never.ensures
