@@ -42,8 +42,9 @@ impl Code {
         ensures { IfOk result (λ code. code.numbers.items
             ≡ code_of (put_in regions.now (closed_types args.now) ty.now)) }
     {
+        // Most codes have no more numbers than this.
         let mut code = Code {
-            numbers: Vec::new(alloc),
+            numbers: Vec::with_capacity(alloc, 8)?,
         };
         code.add(regions, args, ty)?;
         Ok(code)
