@@ -1,6 +1,7 @@
 pub mod PaddedLemmas
 pub mod ViableLemmas
 pub mod MeaningLemmas
+pub mod AnswerLemmas
 pub mod NumberLemmas
 pub mod PairLemmas
 pub mod LayerLemmas

@@ -4,6 +4,7 @@ use Rattle.std.specs.Prelude.{◌==◌}
 use Rattle.std.proofs.lemmas.Bool.{cases_lt}
 use Rattle.std.proofs.lemmas.List.{take_all}
 use Rattle.tm_base.specs.Cells.{Word, fit}
+use Rattle.tm_base.specs.Orders.{word_less}
 use Rattle.tm_base.specs.Transmutes.{holds}
 use Rattle.tm_auto.specs.Automata.{Automaton, IsViable, IsAutomaton, ReadsWords}
 use Rattle.tm_auto.proofs.SetLemmas.{same_at}
@@ -98,6 +99,20 @@ module _ (A : ℕ → ℕ → Bool) (src dst : Automaton) (hs : IsAutomaton src)
   nothing_viable : (v : Word) (k : ℕ) → IsRefusedAt A src dst v k → IsViable (holds A) dst []
   nothing_viable v k r = let (u, word) = r.viable in (take k (fit v dst.size) ++ u, word)
 
+  -- where not even the empty list is viable, no cell is, and each source word is sought at the first place
+  offset_none : ¬ IsViable (holds A) dst [] → (w : Word) (place offset : ℕ) → IsViableLength A dst w place offset → offset ≡ 0
+  offset_none none w place zero v = refl
+  offset_none none w place (suc k) v = let (u, word) = v.viable (λ z. omega arith) in absurd (none (take (suc k) (fit w dst.size) ++ u, word))
+
+  sought_at_once : ¬ IsViable (holds A) dst [] → (v : Word) → IsSourceWord src v → Refusal v 0
+  sought_at_once none v word = refusal v 0 word (omega arith) none (λ q m. absurd (omega arith))
+
+  least_of_all : ¬ IsViable (holds A) dst [] → (w : Word) (offset : ℕ) → IsFound A src dst for_all_stops for_all_skips w offset → (v : Word) → IsSourceWord src v → word_less v w ≡ false
+  least_of_all none w offset f v word =
+      let first = f.least.earliest v 0 (sought_at_once none v word) in
+      let at : 0 ≡ f.place = omega arith in
+      f.least.least v (subst (λ (n : ℕ). Refusal v n) at (sought_at_once none v word))
+
   pub for_all_found : (w : Word) (offset : ℕ) → IsFound A src dst for_all_stops for_all_skips w offset → IsFirstRefusal A src dst w offset
   for_all_found w offset f =
       let s = f.least.sought in
@@ -112,6 +127,7 @@ module _ (A : ℕ → ℕ → Bool) (src dst : Automaton) (hs : IsAutomaton src)
         least = λ v word r.
             let at = (found_at w f.place offset (nothing_viable v _ r) s f.viable).0 in
             f.least.least v (subst (λ (n : ℕ). Refusal v n) (sym at) (refused_sought v offset word r));
+        without_words = λ none. (offset_none none w f.place offset f.viable, least_of_all none w offset f);
       }
 
   -- ---- exists

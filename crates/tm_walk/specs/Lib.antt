@@ -1,5 +1,6 @@
 pub mod Sought
 pub mod Meanings
+pub mod Refusals
 pub mod Layers
 pub mod Numbers
 pub mod Ways

@@ -41,13 +41,15 @@ module _ (A : ℕ → ℕ → Bool) (src dst : Automaton) where
     pub refused : ¬ IsViableTo A dst w (offset + 1)
 
   -- A source word that the target refuses, and where it has words itself, the offset; no source word is
-  -- refused before that offset, and no lesser one at it.
+  -- refused before that offset, and no lesser one at it. Where the target has none, the least of all source
+  -- words, and the offset 0.
   pub record IsFirstRefusal (w : Word) (offset : ℕ) : Type 0 where
     pub word : IsSourceWord src w
     pub misfit : ¬ Fits w
     pub refused : IsInhabited → IsRefusedAt w offset
     pub earliest : (v : Word) (other : ℕ) → IsSourceWord src v → IsRefusedAt v other → offset ≤ other
     pub least : (v : Word) → IsSourceWord src v → IsRefusedAt v offset → word_less v w ≡ false
+    pub without_words : ¬ IsInhabited → (offset ≡ 0) × ((v : Word) → IsSourceWord src v → word_less v w ≡ false)
 
   -- the least source word that fits, viable to the target's end
   pub record IsLeastExample (w : Word) (offset : ℕ) : Type 0 where

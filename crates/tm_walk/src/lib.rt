@@ -23,7 +23,7 @@
 //!
 //! `is_included` asks only whether each source word fits, and names no word. It goes through single states
 //! of the source, each with the least of the target's sets, so that alternatives that overlap don't
-//! multiply.
+//! multiply. `first_refusal` asks it before it walks.
 #![tactic(auto)]
 
 mod advance;
@@ -39,6 +39,7 @@ mod obligation;
 mod pairs;
 mod quantifier;
 mod reading;
+mod refusal;
 mod sets;
 mod symbol;
 mod walking;
@@ -47,4 +48,5 @@ mod way;
 pub use inclusion::is_included;
 pub use laws::{exists_seeks_examples, for_all_seeks_refusals};
 pub use quantifier::{Exists, ForAll, Quantifier};
+pub use refusal::first_refusal;
 pub use walking::{Found, walk};
