@@ -1,12 +1,11 @@
 ghost use Rattle.std.specs.Prelude.{◌≡◌};
 ghost use Rattle.tm_base.specs.Layout.{align_of, size_of};
-ghost use Rattle.tm_base.specs.Profiles.{pointer_size};
 ghost use Rattle.tm_base.specs.Tables.{expanded_in};
 ghost use Rattle.tm_base.specs.Worlds.{tables_of};
 ghost use Rattle.tm_layout.specs.Made.{IsMadeFor};
 ghost use Rattle.tm_refs.specs.LaidOut.{HasLayout};
 
-use tm_base::{Ground, Profile, World};
+use tm_base::{Ground, World};
 use tm_layout::{Layout, Layouts};
 
 /// The layout of a type that has one.
@@ -20,15 +19,5 @@ pub fn layout(world: &World, layouts: &Layouts, g: &Ground) -> Layout
     match layouts.of(g) {
         Ok(layout) => layout,
         Err(_) => unreachable!(),
-    }
-}
-
-/// The size of a reference, in bytes.
-pub fn pointer_size(profile: Profile) -> u32
-    ensures { result ≡ pointer_size profile }
-{
-    match profile {
-        Profile::Le64 | Profile::Be64 => 8,
-        Profile::Le32 => 4,
     }
 }

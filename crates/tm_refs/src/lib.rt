@@ -8,9 +8,10 @@
 //! is lost is its depth. After the first round only those are looked at again that depend on a pair that
 //! was lost in the round before. Where a round loses nothing, the table is that of every depth.
 //!
-//! The automata of each pointee are built once, and a look goes through them once or twice.
+//! The automata of each pointee are built once, by `automaton_of`, and a look goes through them once or twice.
 #![tactic(auto)]
 
+mod automaton;
 mod casts;
 mod compat;
 mod first;
@@ -24,5 +25,6 @@ mod rules;
 mod standing;
 mod table;
 
+pub use automaton::automaton_of;
 pub use compat::Compat;
 pub use rules::local;

@@ -2,15 +2,13 @@ ghost use Rattle.std.specs.Prelude.{◌≡◌, IfOk, is_some};
 ghost use Rattle.std.specs.Option.{option_copied};
 ghost use Rattle.tm_base.specs.Worlds.{IsTypeOver, tables_of};
 ghost use Rattle.tm_layout.specs.Made.{IsMadeFor};
-ghost use Rattle.tm_refs.specs.LaidOut.{HasLayout};
-ghost use Rattle.tm_refs.specs.Pointees.{ArePointees, IsAutomatonOf, IsPointeeAnswer, pointee_at};
+ghost use Rattle.tm_refs.specs.Pointees.{ArePointees, IsPointeeAnswer, pointee_at};
 
-use crate::laid_out::{layout, pointer_size};
+use crate::automaton::automaton_of;
 use std::alloc::Global;
 use tm_auto::Auto;
 use tm_base::{Assume, Ground, Memory, RefId, World};
 use tm_layout::{Layouts, first_refused};
-use tm_tree::{prune, tree_of};
 
 /// The values of a judged type.
 #[derive(Drop)]
@@ -83,21 +81,4 @@ fn pointee_of(
         source: automaton_of(alloc, world, layouts, g, true)?,
         target: automaton_of(alloc, world, layouts, g, assume.safety)?,
     }))
-}
-
-/// The automaton of a type's values, where private types keep theirs or have none.
-fn automaton_of(
-    alloc: Global,
-    world: &World,
-    layouts: &Layouts,
-    g: &Ground,
-    keep_private: bool,
-) -> Result<Auto, Memory>
-    requires made { IsMadeFor (tables_of world.now) layouts.now }
-    requires has { HasLayout (tables_of world.now) g.now }
-    ensures { IfOk result (IsAutomatonOf (tables_of world.now) keep_private g.now) }
-{
-    let tree = prune(alloc, tree_of(alloc, world, layouts, g)?, keep_private)?;
-    let size = layout(world, layouts, g).size;
-    Auto::build(alloc, &tree, size, pointer_size(world.profile))
 }

@@ -8,7 +8,14 @@ use Rattle.tm_base.specs.Worlds.{tables_of}
 use Rattle.tm_auto.specs.Automata.{AutoWord, Automaton}
 use Rattle.tm_refs.specs.Pointees.{IsAutomatonOf}
 use Rattle.tm_refs.proofs.CastLemmas.{IfOk-three, automaton-of, pruned-sized}
-use Rattle.tm_refs.proofs.pointees.automaton_of.Goals as goal
+use Rattle.tm_tree.proofs.JudgedLemmas.{judged-laid_out}
+use Rattle.tm_refs.proofs.automaton.automaton_of.Goals as goal
+
+pub layout-size-requires-clause-has : goal.layout-size-requires-clause-has
+layout-size-requires-clause-has c = record { over = c.requires.over; laid_out = judged-laid_out c.args.world.now c.args.g.now c.requires.over c.requires.judged }
+
+pub tree_of-requires-clause-judged : goal.tree_of-requires-clause-judged
+tree_of-requires-clause-judged c = judged-laid_out c.args.world.now c.args.g.now c.requires.over c.requires.judged
 
 pub build-requires-clause-sized : goal.build-requires-clause-sized
 build-requires-clause-sized c =
@@ -18,8 +25,8 @@ build-requires-clause-sized c =
     (subst (λ (n : ℕ). HasSize (pointer_size tables.profile) n tree) (sym c.layout-size.ensures.size)
     (pruned-sized tables c.args.keep_private c.args.g.now c.in_ok-tree_of.field-0 c.in_ok-tree_of.ensures.tree tree c.in_ok-tree.ensures.words))
 
-pub returns : goal.returns
-returns c =
+pub returns-clause-automaton : goal.returns-clause-automaton
+returns-clause-automaton c =
     let tables = tables_of c.args.world.now in
     let tree = c.in_ok-tree.tree in
     IfOk-three c.build.result _ _ _ (IsAutomatonOf tables c.args.keep_private c.args.g.now)
