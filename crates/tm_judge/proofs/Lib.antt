@@ -1,4 +1,2 @@
 pub mod ReadyLemmas
 pub mod ValueLemmas
-pub mod AutomatonLemmas
-pub mod WalkLemmas

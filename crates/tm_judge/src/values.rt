@@ -11,14 +11,15 @@ ghost use Rattle.tm_judge.specs.Ready.{AnswersEach, HasStart};
 ghost use Rattle.tm_layout.specs.Made.{IsMadeFor};
 ghost use Rattle.tm_refs.specs.Solved.{IsSolvedFor};
 
-use crate::automaton::{automaton_of, has_start};
-use crate::walks::{first_refusal, least_example};
+use crate::automaton::has_start;
+use crate::walks::least_example;
 use std::alloc::Global;
 use std::sync::ledger::Ledger;
 use tm_auto::Auto;
 use tm_base::{Answer, Ask, Memory, Rule, Steps, World};
 use tm_layout::Layouts;
-use tm_refs::Compat;
+use tm_refs::{Compat, automaton_of};
+use tm_walk::first_refusal;
 use tm_witness::rule_at;
 
 /// The answer to a question between judged types.

@@ -1,7 +1,7 @@
-//! The walks through the automata of two types.
+//! The walk for a value that fits.
 ghost use Rattle.std.specs.Prelude.{◌+◌, ◌≤◌, IfOk};
 ghost use Rattle.tm_auto.specs.Automata.{HasOneStateALayer};
-ghost use Rattle.tm_judge.specs.Walks.{IsExampleAnswer, IsRefusalAnswer};
+ghost use Rattle.tm_judge.specs.Walks.{IsExampleAnswer};
 ghost use Rattle.tm_refs.specs.Solved.{compatible_in};
 
 use std::alloc::Global;
@@ -9,30 +9,7 @@ use std::sync::ledger::Ledger;
 use tm_auto::Auto;
 use tm_base::{Memory, Steps};
 use tm_refs::Compat;
-use tm_walk::{
-    Exists, ForAll, Found, exists_seeks_examples, for_all_seeks_refusals, is_included, walk,
-};
-
-/// The source word that the target refuses first; `None` where each, fitted, is a target word. Where a place
-/// has several states, it is asked first whether there is such a word: a walk goes through sets of them.
-pub(crate) fn first_refusal<L: Ledger>(
-    alloc: Global,
-    src: &Auto,
-    dst: &Auto,
-    compat: &Compat,
-    steps: &mut Steps<L>,
-) -> Result<Option<Found>, Memory>
-    ensures found { IfOk result (IsRefusalAnswer (compatible_in compat.now) src.now dst.now) }
-    ensures cost { HasOneStateALayer src.now → HasOneStateALayer dst.now
-        → steps.new ≤ steps.old + (dst.now.size + 1) }
-{
-    let single = src.has_one_state_a_layer() && dst.has_one_state_a_layer();
-    if !single && is_included(alloc, src, dst, compat)? {
-        return Ok(None);
-    }
-    for_all_seeks_refusals(src, dst);
-    walk(alloc, &ForAll, src, dst, compat, steps)
-}
+use tm_walk::{Exists, Found, exists_seeks_examples, walk};
 
 /// The least source word that, fitted, is a target word; `None` where none is.
 pub(crate) fn least_example<L: Ledger>(

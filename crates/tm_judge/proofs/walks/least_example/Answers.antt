@@ -2,7 +2,7 @@ use Rattle.tm_refs.specs.Solved.{compatible_in}
 use Rattle.tm_walk.specs.Meanings.{NoWordFits, IsLeastExample, exists_skips, exists_stops}
 use Rattle.tm_walk.specs.Sought.{IsFound, NoneIsSought}
 use Rattle.tm_judge.specs.Walks.{IsExampleAnswer}
-use Rattle.tm_judge.proofs.WalkLemmas.{walk-answer}
+use Rattle.tm_walk.proofs.AnswerLemmas.{walk-answer}
 use Rattle.tm_judge.proofs.walks.least_example.Goals as goal
 
 pub returns-clause-found : goal.returns-clause-found
