@@ -52,7 +52,7 @@ any-more p xs i d below x = list_any_more (λ y. p y x) xs i d below
 pub any-all : {X : Type 0} (p : X → ℕ → Bool) (xs : List X) (i : ℕ) → length xs ≤ i → (x : ℕ) → list_any (λ y. p y x) (take i xs) ≡ list_any (λ y. p y x) xs
 any-all p xs i past x = ap (list_any (λ y. p y x)) (take_all i xs past)
 
-blank : (x : ℕ) → slice_index_or (replicate 64 false) x false ≡ false
+pub blank : (x : ℕ) → slice_index_or (replicate 64 false) x false ≡ false
 blank x = go (cases_lt x 64) where
   go : (x < 64) ⊎ (64 ≤ x) → slice_index_or (replicate 64 false) x false ≡ false
   go (inl below) = get_or-replicate 64 x false false below
@@ -64,17 +64,15 @@ module _ (tables : Tables) where
 
   -- the row of one pointee more
   pub leaves-more : (i : ℕ) (row : RefRow) (old new : List (List Bool)) (leaves : List Bool) → slice_get tables.refs i ≡ Some row → length old ≡ i → new ≡ old ++ leaves ∷ []
-      → AreAdded (leaf_of tables row.pointee) (replicate 64 false) leaves → AreLeavesUntil i old → AreLeavesUntil (i + 1) new
-  leaves-more i row old new leaves at count pushed added until r x below = go (cases_lt r.0 i) where
+      → ((x : ℕ) → slice_index_or leaves x false ≡ leaf_of tables row.pointee x) → AreLeavesUntil i old → AreLeavesUntil (i + 1) new
+  leaves-more i row old new leaves at count pushed exact until r x below = go (cases_lt r.0 i) where
     go : (r.0 < i) ⊎ (i ≤ r.0) → leads_in new r x ≡ leads_to tables r x
     go (inl less) =
         ap (λ (line : List Bool). slice_index_or line x.0 false) (ap (λ rs. slice_index_or rs r.0 []) pushed ∙ get_or-append_left old (leaves ∷ []) r.0 [] (omega arith)) ∙ until r x less
     go (inr past) =
         let here : i ≡ r.0 = omega arith in
         ap (λ (line : List Bool). slice_index_or line x.0 false) (ap (λ rs. slice_index_or rs r.0 []) pushed ∙ last old leaves r.0 [] (count ∙ here))
-        ∙ (added.each x.0
-        ∙ (ap (λ (b : Bool). b || leaf_of tables row.pointee x.0) (blank x.0)
-        ∙ sym (ap (λ found. row_leads_to tables found x.0) (subst (λ (k : ℕ). slice_get tables.refs k ≡ Some row) here at))))
+        ∙ (exact x.0 ∙ sym (ap (λ found. row_leads_to tables found x.0) (subst (λ (k : ℕ). slice_get tables.refs k ≡ Some row) here at)))
 
   pub leaves-done : (i : ℕ) (rows : List (List Bool)) → length rows ≡ i → length tables.refs ≤ i → AreLeavesUntil i rows → AreLeavesOf tables rows
   leaves-done i rows count past until = record { exact = λ r x. go r x (cases_lt r.0 i) } where

@@ -1,5 +1,5 @@
 //! The leaves of the pointees: the references that they are or hold by value.
-ghost use Rattle.std.specs.Prelude.{◌≡◌, ◌&&◌, ◌||◌, IfOk, length, slice_get};
+ghost use Rattle.std.specs.Prelude.{◌≡◌, ℕ, ◌&&◌, ◌||◌, false, IfOk, length, slice_get, slice_index_or};
 ghost use Rattle.tm_base.specs.declared.ground.Ground.{Named};
 ghost use Rattle.tm_base.specs.Worlds.{IsTypeOver, tables_of};
 ghost use Rattle.tm_layout.specs.Made.{EachIs};
@@ -27,9 +27,7 @@ impl Leaves {
     {
         let mut rows = Vec::new(alloc);
         for row in world.refs.as_slice() {
-            let mut leaves = [false; MOST];
-            add_type(world, &row.pointee, &mut leaves);
-            rows.push(leaves)?;
+            rows.push(leaves_of(world, &row.pointee))?;
         }
         Ok(Leaves { rows })
     }
@@ -70,6 +68,17 @@ pub fn is_mutable(world: &World, id: RefId) -> bool
         Some(row) => row.mutable,
         None => false,
     }
+}
+
+/// The leaves of a type: of each reference of the world, by its number, whether the type is it or holds it by
+/// value.
+pub fn leaves_of(world: &World, g: &Ground) -> Row
+    requires over { IsTypeOver (tables_of world.now) g.now }
+    ensures { (x : ℕ) → slice_index_or result x false ≡ leaf_of (tables_of world.now) g.now x }
+{
+    let mut leaves = [false; MOST];
+    add_type(world, g, &mut leaves);
+    leaves
 }
 
 /// Adds the leaves of a type.
