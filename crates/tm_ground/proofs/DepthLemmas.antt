@@ -1,5 +1,5 @@
 -- The tables tell how deep each named type is, and so how deep each type by its numbers is.
-use Rattle.std.proofs.Common.{◌≡◌, ℕ, zero, suc, ◌+◌, ◌<◌, ◌≤◌, ◌-◌, Bool, true, false, ◌&&◌, ◌||◌, if◌then◌else◌, refl, sym, ap, ◌∙◌, ⊎_elim, List, [], ◌∷◌, ◌++◌, map, length, unwrap_or, Some, None, slice_get, arith}
+use Rattle.std.proofs.Common.{◌≡◌, ℕ, zero, suc, ◌+◌, ◌<◌, ◌≤◌, ◌-◌, Bool, true, false, ◌&&◌, ◌||◌, if◌then◌else◌, refl, sym, ap, ◌∙◌, ⊎_elim, List, [], ◌∷◌, ◌++◌, length, length-append, get_or, unwrap_or, Some, None, slice_get, subst, arith}
 use Rattle.std.specs.List.{AllZip, list_any}
 use Rattle.std.proofs.lemmas.Bool.{cases_lt, or_from}
 use Rattle.std.proofs.lemmas.Option.{slice_get_past}
@@ -8,7 +8,7 @@ use Rattle.tm_base.specs.declared.ground.Ground.{Ground}
 use Rattle.tm_base.specs.declared.ground.Ground.TheVariants as level
 use Rattle.tm_names.specs.declared.resolved.Resolved.{Resolved}
 use Rattle.tm_ground.specs.Closed.{Closed, Elements, prim, never, tuple, array, nonzero, wrap, named, ref, no_elements, element, listed}
-use Rattle.tm_ground.specs.Depths.{AreDepths, TellDepths, flag_at, passes_by, row_passes}
+use Rattle.tm_ground.specs.Depths.{AreDepths, TellDepths, TellsNext, flag_at, next_flag, passes_by, row_passes}
 use Rattle.tm_ground.specs.Limits.{depth_passes}
 use Rattle.tm_ground.specs.Numbered.{IsNumbered, EachNumbered}
 use Rattle.tm_ground.specs.Occurs.{field_types, is_holding, parts_by_value}
@@ -99,27 +99,73 @@ get-pushed : {X : Type 0} (xs : List X) (x : X) → slice_get (xs ++ x ∷ []) (
 get-pushed [] x = refl
 get-pushed (y ∷ xs) x = get-pushed xs x
 
-get-mapped : {X Y : Type 0} (f : X → Y) (xs : List X) (k : ℕ) (x : X) → slice_get xs k ≡ Some x → slice_get (map f xs) k ≡ Some (f x)
-get-mapped f [] k x e = cc
-get-mapped f (y ∷ xs) zero x e = let same : y ≡ x = cc in ap (λ z. Some (f z)) same
-get-mapped f (y ∷ xs) (suc k) x e = get-mapped f xs k x e
+one-item : (rows : List NamedRow) (i : ℕ) (x y : NamedRow) → i < length rows → slice_get rows i ≡ Some x → y ≡ get_or rows i y → x ≡ y
+one-item [] i x y l a e = absurd (omega (arith, l))
+one-item (r ∷ rows) zero x y l a e = let same : r ≡ x = cc in sym same ∙ sym e
+one-item (r ∷ rows) (suc i) x y l a e = one-item rows i x y (omega (arith, l)) a e
+
+within : (rows : List NamedRow) (k : ℕ) (x : NamedRow) → slice_get rows k ≡ Some x → k < length rows
+within [] k x a = cc
+within (r ∷ rows) zero x a = omega arith
+within (r ∷ rows) (suc k) x a = omega (arith, within rows k x a)
 
 none-flagged : (flags : List Bool) (k : ℕ) → list_any (λ flag. flag) flags ≡ false → (x : Bool) → slice_get flags k ≡ Some x → x ≡ false
 none-flagged [] k h x e = cc
 none-flagged (f ∷ flags) zero h x e = let same : f ≡ x = cc in sym same ∙ first-false _ _ h
 none-flagged (f ∷ flags) (suc k) h x e = none-flagged flags k (second-false f _ h) x e
 
+pub next-at : (tables : List (List Bool)) (n m k : ℕ) (row : NamedRow) → n ≡ suc m → next_flag tables n k row ≡ (flag_at tables m k && row_passes tables n row)
+next-at tables n m k row e = rw e refl
+
+pub next-first : (tables : List (List Bool)) (n k : ℕ) (row : NamedRow) → n ≡ 0 → row_passes tables n row ≡ next_flag tables n k row
+next-first tables n k row e = rw e refl
+
+-- the flag of a named type in the next table tells its depth
+next-tells : (resolved : Resolved) (types refs : List Closed) (count : ℕ) (tables : List (List Bool)) → AreDepths resolved types count tables → (k : ℕ) (c : Closed) (row : NamedRow) → slice_get types k ≡ Some c → IsNamedRow types refs resolved c row → next_flag tables count k row ≡ depth_passes resolved (suc count) c
+next-tells resolved types refs zero tables depths k c row at r = row-agrees resolved types refs zero tables depths zero (omega arith) c row r
+next-tells resolved types refs (suc n) tables depths k c row at r = by (flag_at tables n k) refl
+  where
+    told : flag_at tables n k ≡ depth_passes resolved (suc n) c
+    told = depths.told n k c (omega arith) at
+
+    by : (b : Bool) → flag_at tables n k ≡ b → next_flag tables (suc n) k row ≡ depth_passes resolved (suc (suc n)) c
+    by true e = ap (λ b. b && row_passes tables (suc n) row) e ∙ row-agrees resolved types refs (suc n) tables depths (suc n) (omega arith) c row r
+    by false e = ap (λ b. b && row_passes tables (suc n) row) e ∙ sym (falls resolved (suc n) c (sym told ∙ e))
+
+-- the flags of the first rows tell their depths
+pub record TellsFirst (rows : List NamedRow) (count first : ℕ) (table : List Bool) : Type 0 where
+  pub long : length table ≡ first
+  pub each : (resolved : Resolved) (types refs : List Closed) → AllZip (IsNamedRow types refs resolved) types rows → (k : ℕ) (c : Closed) → k < first → slice_get types k ≡ Some c → slice_get table k ≡ Some (depth_passes resolved (suc count) c)
+
+module _ (rows : List NamedRow) (count : ℕ) (tables : List (List Bool)) (tell : TellDepths rows count tables) where
+  pub first-none : (table : List Bool) → table ≡ [] → TellsFirst rows count 0 table
+  first-none table e = record { long = ap length e; each = λ resolved types refs z k c l at. absurd (omega (arith, l)) }
+
+  pub first-more : (i : ℕ) (table new : List Bool) (row : NamedRow) (flag : Bool) → i < length rows → row ≡ get_or rows i row → TellsFirst rows count i table → flag ≡ next_flag tables count i row → new ≡ table ++ flag ∷ [] → TellsFirst rows count (i + 1) new
+  first-more i table new row flag l e first f p = record {
+    long = ap length p ∙ length-append table (flag ∷ []) ∙ ap (λ n. n + 1) first.long;
+    each = λ resolved types refs z k c below at. ⊎_elim
+        (λ (before : k < i). ap (λ t. slice_get t k) p ∙ get-left table (flag ∷ []) k (omega (arith, before, first.long)) ∙ first.each resolved types refs z k c before at)
+        (λ (same : k ≡ i).
+        let (there, found, r) = zip-get (IsNamedRow types refs resolved) types rows k c z at in
+        let here : there ≡ row = one-item rows i there row l (ap (slice_get rows) (sym same) ∙ found) e in
+        let told = next-tells resolved types refs count tables (tell.each resolved types refs z) k c row at (subst (IsNamedRow types refs resolved c) here r) in
+        ap (λ t. slice_get t k) p ∙ ap (slice_get (table ++ flag ∷ [])) (same ∙ sym first.long) ∙ get-pushed table flag ∙ ap (λ (b : Bool). Some b) (f ∙ ap (λ n. next_flag tables count n row) (sym same) ∙ told))
+        (below-or-last k i below);
+  }
+
+  pub first-all : (i : ℕ) (table : List Bool) → length rows ≤ i → TellsFirst rows count i table → TellsNext rows count table
+  first-all i table l first = record {
+    each = λ resolved types refs z k c at.
+        let (row, found, r) = zip-get (IsNamedRow types refs resolved) types rows k c z at in
+        first.each resolved types refs z k c (omega (arith, within rows k row found, l)) at;
+  }
+
 module _ (rows : List NamedRow) (count : ℕ) (tables : List (List Bool)) (long : length tables ≡ count) (tell : TellDepths rows count tables)
-    (table : List Bool) (made : table ≡ map (row_passes tables count) rows) where
+    (table : List Bool) (next : TellsNext rows count table) where
   module _ (resolved : Resolved) (types refs : List Closed) (of_rows : AllZip (IsNamedRow types refs resolved) types rows) where
     depths : AreDepths resolved types count tables
     depths = tell.each resolved types refs of_rows
-
-    -- what the next table says of a named type
-    flag-next : (k : ℕ) (c : Closed) → slice_get types k ≡ Some c → slice_get table k ≡ Some (depth_passes resolved (suc count) c)
-    flag-next k c at =
-        let (row, there, r) = zip-get (IsNamedRow types refs resolved) types rows k c of_rows at in
-        ap (λ t. slice_get t k) made ∙ get-mapped (row_passes tables count) rows k row there ∙ ap (λ (b : Bool). Some b) (row-agrees resolved types refs count tables depths count (omega arith) c row r)
 
     told-more : (new : List (List Bool)) → new ≡ tables ++ table ∷ [] → (n k : ℕ) (c : Closed) → n < count + 1 → slice_get types k ≡ Some c → flag_at new n k ≡ depth_passes resolved (suc n) c
     told-more new e n k c l at =
@@ -127,14 +173,14 @@ module _ (rows : List NamedRow) (count : ℕ) (tables : List (List Bool)) (long 
         (λ (below : n < count). ap (λ t. unwrap_or (slice_get (unwrap_or t []) k) false) (ap (λ ts. slice_get ts n) e ∙ get-left tables (table ∷ []) n (omega (arith, below, long))) ∙ depths.told n k c below at)
         (λ (same : n ≡ count).
         let here : slice_get new n ≡ Some table = ap (λ ts. slice_get ts n) e ∙ ap (λ m. slice_get (tables ++ table ∷ []) m) (same ∙ sym long) ∙ get-pushed tables table in
-        ap (λ t. unwrap_or (slice_get (unwrap_or t []) k) false) here ∙ ap (λ o. unwrap_or o false) (flag-next k c at) ∙ ap (λ m. depth_passes resolved (suc m) c) (sym same))
+        ap (λ t. unwrap_or (slice_get (unwrap_or t []) k) false) here ∙ ap (λ o. unwrap_or o false) (next.each resolved types refs of_rows k c at) ∙ ap (λ m. depth_passes resolved (suc m) c) (sym same))
         (below-or-last n count l)
 
     -- where it says `false` of all, no more tables are needed
     told-all : list_any (λ flag. flag) table ≡ false → (n k : ℕ) (c : Closed) → slice_get types k ≡ Some c → count ≤ n → flag_at tables n k ≡ depth_passes resolved (suc n) c
     told-all none n k c at l =
         let past : slice_get tables n ≡ None = slice_get_past tables n (omega (arith, l, long)) in
-        let shallow : depth_passes resolved (suc count) c ≡ false = none-flagged table k none (depth_passes resolved (suc count) c) (flag-next k c at) in
+        let shallow : depth_passes resolved (suc count) c ≡ false = none-flagged table k none (depth_passes resolved (suc count) c) (next.each resolved types refs of_rows k c at) in
         let far : suc count + (n - count) ≡ suc n = omega (arith, l) in
         ap (λ t. unwrap_or (slice_get (unwrap_or t []) k) false) past ∙ sym (ap (λ m. depth_passes resolved m c) (sym far) ∙ stays-false resolved (suc count) (n - count) c shallow)
 

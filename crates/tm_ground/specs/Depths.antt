@@ -36,6 +36,11 @@ module _ (tables : List (List Bool)) where
   abbrev pub row_passes : ℕ → NamedRow → Bool
   row_passes n row = list_any (list_any (passes_by n)) row.types
 
+  -- so it does where its depth passes the number, which the table before this one tells
+  abbrev pub next_flag : ℕ → ℕ → NamedRow → Bool
+  next_flag zero k row = row_passes zero row
+  next_flag (suc n) k row = flag_at n k && row_passes (suc n) row
+
   -- a type that is written in a type is deeper than it may be
   abbrev pub is_deep : Ground → Bool
   is_deep g = list_any (passes_by depth_limit) (written_types g)
@@ -60,6 +65,10 @@ pub record AreDepths (resolved : Resolved) (types : List Closed) (count : ℕ) (
 -- they tell it whatever types these rows are of
 pub record TellDepths (rows : List NamedRow) (count : ℕ) (tables : List (List Bool)) : Type 0 where
   pub each : (resolved : Resolved) (types refs : List Closed) → AllZip (IsNamedRow types refs resolved) types rows → AreDepths resolved types count tables
+
+-- the next table tells of each of them whether its depth passes one more
+pub record TellsNext (rows : List NamedRow) (count : ℕ) (table : List Bool) : Type 0 where
+  pub each : (resolved : Resolved) (types refs : List Closed) → AllZip (IsNamedRow types refs resolved) types rows → (k : ℕ) (c : Closed) → slice_get types k ≡ Some c → slice_get table k ≡ Some (depth_passes resolved (suc count) c)
 
 -- an answer whether some type that occurs is deeper than it may be
 abbrev pub TellsDepth : Resolved → Bool → Type 0

@@ -1,6 +1,6 @@
-ghost use Rattle.std.specs.Prelude.{◌≡◌, map, IfOk};
+ghost use Rattle.std.specs.Prelude.{◌≡◌, IfOk};
 ghost use Rattle.std.specs.List.{list_any};
-ghost use Rattle.tm_ground.specs.Depths.{TellDepths, TellsDepth, flag_at, is_ask_deep, is_deep, is_row_deep, is_some_deep, passes_by, row_passes};
+ghost use Rattle.tm_ground.specs.Depths.{TellDepths, TellsDepth, TellsNext, flag_at, is_ask_deep, is_deep, is_row_deep, is_some_deep, next_flag, passes_by, row_passes};
 ghost use Rattle.tm_ground.specs.Limits.{depth_limit};
 ghost use Rattle.tm_ground.specs.Found.{AreRowsOfAll};
 ghost use Rattle.tm_names.specs.declared.resolved.Resolved.{Resolved};
@@ -9,15 +9,15 @@ ghost use Rattle.tm_ground.specs.Occurs.{is_holding};
 use crate::limits::depth_limit;
 use crate::rows::Rows;
 use std::alloc::Global;
-use tm_base::{Ask, Ground, List, Memory, NamedId, NamedRow, RefRow, Wrapper};
+use tm_base::{Ask, Ground, List, Memory, NamedRow, RefRow, Wrapper};
 
 /// What the table at a place says of a named type; `false` where there is no such table.
-fn flag(tables: &[List<bool>], place: usize, id: NamedId) -> bool
-    ensures { result ≡ flag_at tables.now place id.0 }
+fn flag(tables: &[List<bool>], place: usize, named: usize) -> bool
+    ensures { result ≡ flag_at tables.now place named }
 {
     match tables.get(place) {
         None => false,
-        Some(flags) => match flags.get(id.0 as usize) {
+        Some(flags) => match flags.get(named) {
             None => false,
             Some(flag) => *flag,
         },
@@ -49,7 +49,7 @@ fn passes(tables: &[List<bool>], number: usize, ty: &Ground) -> bool
         Ground::Wrap(wrapper, argument) => {
             is_holding(*wrapper) && passes(tables, number - 1, argument.get())
         }
-        Ground::Named(id) => flag(tables, number - 1, *id),
+        Ground::Named(id) => flag(tables, number - 1, id.0 as usize),
         Ground::Prim(_) => false,
         Ground::Never => false,
         Ground::Unit => false,
@@ -81,18 +81,30 @@ fn some_field_passes(tables: &[List<bool>], number: usize, row: &NamedRow) -> bo
         .any(|types| some_passes(tables, number, types.as_slice()))
 }
 
-/// The next table: whether a field of each named type passes a number.
+/// The flag of a named type in the next table. A type whose depth doesn't pass the number itself isn't looked at.
+fn next_flag(tables: &[List<bool>], number: usize, place: usize, row: &NamedRow) -> bool
+    ensures { result ≡ next_flag tables.now number place row.now }
+{
+    if number == 0 {
+        return some_field_passes(tables, number, row);
+    }
+    flag(tables, number - 1, place) && some_field_passes(tables, number, row)
+}
+
+/// The next table: whether the depth of each named type passes one more than a number.
 fn next_table(
     alloc: Global,
     tables: &[List<bool>],
     number: usize,
     named: &[NamedRow],
 ) -> Result<List<bool>, Memory>
-    ensures { IfOk result (λ table. table ≡ map (row_passes tables.now number) named.now) }
+    requires { TellDepths named.now number tables.now }
+    ensures { IfOk result (TellsNext named.now number) }
 {
     let mut table = List::new(alloc);
     for row in named {
-        table.add(some_field_passes(tables, number, row))?;
+        let flag = next_flag(tables, number, table.len(), row);
+        table.add(flag)?;
     }
     Ok(table)
 }
