@@ -1,5 +1,5 @@
 -- The search for the types that occur, which goes through the list of named types that it fills.
-use Rattle.std.proofs.Common.{◌≡◌, ℕ, zero, suc, ◌+◌, ◌<◌, ◌≤◌, ◌⊎◌, inl, inr, true, refl, sym, ap, subst, ◌∙◌, ⊎_elim, List, [], ◌∷◌, ◌++◌, length, Contains, get_or, Some, slice_get, arith, Ok, Err, None, map, unwrap_or, append-nil}
+use Rattle.std.proofs.Common.{◌≡◌, ℕ, zero, suc, ◌+◌, ◌<◌, ◌≤◌, ◌⊎◌, inl, inr, true, refl, sym, ap, subst, ◌∙◌, ⊎_elim, List, [], ◌∷◌, ◌++◌, length, Contains, get_or, Some, slice_get, arith, Ok, Err, map}
 use Rattle.std.proofs.lemmas.Bool.{and_parts}
 use Rattle.tm_names.specs.declared.resolved.Resolved.{Resolved}
 use Rattle.tm_ground.specs.declared.collector.Collector.{Collector}
@@ -12,7 +12,7 @@ use Rattle.tm_names.specs.declared.resolved.Open.{Open, Named}
 use Rattle.tm_ground.proofs.OpenLemmas.{put_in-Named, listed-as_elements}
 use Rattle.tm_ground.specs.Collecting.{AreSome, IsSound, IsSeen, Collecting, IsEmpty, IsClosed, Closing}
 use Rattle.tm_ground.specs.Limits.{is_named}
-use Rattle.tm_ground.specs.Occurs.{parts_in, parts_of, inside_of, fields_of, all_fields, asked_types, is_small, Occurs, is_asked, is_part}
+use Rattle.tm_ground.specs.Occurs.{parts_in, parts_of, inside_of, fields_of, asked_types, is_small, Occurs, is_asked, is_part}
 use Rattle.tm_ground.specs.Sets.{closed_types, types_in}
 use Rattle.tm_ground.specs.Limits.{is_ref}
 use Rattle.tm_ground.proofs.ContainsLemmas.{contains-nothing, contains-at}

@@ -13,7 +13,7 @@ use Rattle.tm_ground.specs.declared.rows.Rows.{Rows}
 use Rattle.tm_ground.specs.Closed.{Closed}
 use Rattle.tm_ground.specs.Closing.{AreWhole}
 use Rattle.tm_ground.specs.Numbered.{HasNumbers, HaveNumbers, IsNumbered}
-use Rattle.tm_ground.specs.Rows.{AreFields, AreRows, IsAsk, IsNamedRow, IsRefRow, IsWorldOf}
+use Rattle.tm_ground.specs.Rows.{AreFields, AreRows, IsAsk, IsNamedRow, IsRefRow}
 use Rattle.tm_ground.specs.Sets.{types_in}
 use Rattle.tm_ground.specs.Texted.{AreInTextOrder, HasItsText}
 
@@ -51,10 +51,6 @@ module _ (found : Found) where
   -- the rows of all that is found, and the questions of the file
   abbrev pub AreRowsIn : Resolved → Rows → Type 0
   AreRowsIn = AreRows (types_in found.named) (types_in found.refs)
-
-  -- a world of the file with the rows of what is found
-  abbrev pub IsWorldIn : Resolved → World → Type 0
-  IsWorldIn resolved = IsWorldOf resolved (types_in found.named) (types_in found.refs)
 
   -- a text is that of the type beside it in a world with these numbers
   abbrev pub HasItsTextIn : World → Texted → Type 0

@@ -1,7 +1,7 @@
 use Rattle.std.proofs.Common.{◌≡◌, ◌<◌, ◌+◌, ◌∙◌, sym, ap, subst, arith, length, map, ◌≢◌, true≢false}
 use Rattle.std.proofs.lemmas.Bool.Decides.{Decides-eqb}
 use Rattle.std.proofs.lemmas.List.{length-map}
-use Rattle.tm_ground.specs.Closed.{as_elements, closed, put_in, tuple}
+use Rattle.tm_ground.specs.Closed.{as_elements, put_in, tuple}
 use Rattle.tm_ground.specs.Numbered.{HasNumbers}
 use Rattle.tm_ground.specs.Sets.{closed_types, types_in}
 use Rattle.tm_ground.proofs.NumberLemmas.{has-Array, has-Wrap, has-Tuple, has-Named, has-Ref, numbers-Prim, numbers-Never, numbers-Param, numbers-Array, numbers-NonZero, numbers-Wrap, numbers-Named, numbers-Ref, tuple-numbered, unit-numbered, numbered-more, contains-map, numbers-result}

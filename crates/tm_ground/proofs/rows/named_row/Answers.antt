@@ -1,4 +1,4 @@
-use Rattle.std.proofs.Common.{[], ◌∙◌, ap, map, subst, Contains}
+use Rattle.std.proofs.Common.{[], ◌∙◌, ap, map}
 use Rattle.tm_ground.specs.Closed.{region_of}
 use Rattle.tm_ground.proofs.RowLemmas.{argument-part, field-part, row-of}
 use Rattle.tm_ground.proofs.rows.named_row.Goals as goal
