@@ -9,3 +9,5 @@ pub mod Taken
 pub mod Runs
 pub mod LinesRead
 pub mod Written
+pub mod Chosen
+pub mod ChosenLaws
