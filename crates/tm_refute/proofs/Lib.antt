@@ -1,3 +1,6 @@
+mod ChosenAloneLemmas
+mod ChosenOneLemmas
+mod ChosenOrderLemmas
 mod DepthLemmas
 mod HeaderReadLemmas
 mod JudgedLemmas

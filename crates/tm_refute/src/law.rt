@@ -1,3 +1,4 @@
+ghost use Rattle.tm_refute.specs.ChosenLaws.{AreAlone};
 ghost use Rattle.tm_refute.specs.Law.{RefutationsAreTrue};
 ghost use Rattle.tm_refute.specs.TextForms.{TextsAreReadOneWay};
 
@@ -11,4 +12,9 @@ pub fn refutations_are_true()
 /// line at most, and bytes that are one have none.
 pub fn texts_are_read_one_way()
     ensures { TextsAreReadOneWay }
+{}
+
+/// A question has one refutation at most.
+pub fn questions_have_one_refutation()
+    ensures { AreAlone }
 {}

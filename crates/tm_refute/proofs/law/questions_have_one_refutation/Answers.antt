@@ -1,0 +1,5 @@
+use Rattle.tm_refute.proofs.ChosenAloneLemmas.{refutation-one}
+use Rattle.tm_refute.proofs.law.questions_have_one_refutation.Goals as goal
+
+pub returns : goal.returns
+returns c = refutation-one
