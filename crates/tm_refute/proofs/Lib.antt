@@ -1,6 +1,11 @@
 mod ChosenAloneLemmas
+mod ChosenHoldsLemmas
+mod ChosenLeafLemmas
 mod ChosenOneLemmas
 mod ChosenOrderLemmas
+mod ChosenStopLemmas
+mod ChosenWordLemmas
+mod ChosenWritableLemmas
 mod DepthLemmas
 mod HeaderReadLemmas
 mod JudgedLemmas

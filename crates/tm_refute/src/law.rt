@@ -1,4 +1,4 @@
-ghost use Rattle.tm_refute.specs.ChosenLaws.{AreAlone};
+ghost use Rattle.tm_refute.specs.ChosenLaws.{AreAlone, AreGood};
 ghost use Rattle.tm_refute.specs.Law.{RefutationsAreTrue};
 ghost use Rattle.tm_refute.specs.TextForms.{TextsAreReadOneWay};
 
@@ -17,4 +17,10 @@ pub fn texts_are_read_one_way()
 /// A question has one refutation at most.
 pub fn questions_have_one_refutation()
     ensures { AreAlone }
+{}
+
+/// The refutation of a question about types of a world holds, and the question is one that is to have it. Where
+/// it isn't too long, it can be written.
+pub fn refutations_of_questions_hold()
+    ensures { AreGood }
 {}

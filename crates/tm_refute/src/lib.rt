@@ -28,7 +28,10 @@ mod verifying;
 mod word;
 mod writing;
 
-pub use law::{questions_have_one_refutation, refutations_are_true, texts_are_read_one_way};
+pub use law::{
+    questions_have_one_refutation, refutations_are_true, refutations_of_questions_hold,
+    texts_are_read_one_way,
+};
 pub use refutation::{Entry, Piece, Proof, Refutation};
 pub use stop::TextErr;
 pub use text::read_text;

@@ -1,0 +1,11 @@
+use Rattle.tm_refute.proofs.ChosenHoldsLemmas.{chosen-refutes, is-refutable}
+use Rattle.tm_refute.proofs.ChosenWritableLemmas.{chosen-writable}
+use Rattle.tm_refute.proofs.law.refutations_of_questions_hold.Goals as goal
+use Rattle.tm_base.specs.Worlds.{tables_of}
+
+pub returns : goal.returns
+returns c world ask x over_source over_target is = record {
+  refutable = is-refutable (tables_of world) ask x is;
+  refutes = chosen-refutes world ask x over_source is;
+  writable = chosen-writable world ask x over_source is;
+}
