@@ -9,6 +9,7 @@ use Rattle.tm_base.specs.declared.assume.Assume.{Assume}
 use Rattle.tm_base.specs.declared.definition.RefRow.{RefRow}
 use Rattle.tm_base.specs.Rules.{target}
 use Rattle.tm_base.specs.Tables.{Tables}
+use Rattle.tm_base.proofs.JudgedLemmas.{Contains-none}
 use Rattle.tm_refs.proofs.PointeeLemmas.{OnRows-rows}
 use Rattle.tm_refute.specs.Chosen.{AreInOrder, Asks, EntryAsks, IsAskedFor, ProofAsks, comes_before}
 use Rattle.tm_refute.specs.declared.refutation.Entry.{Entry}
@@ -20,21 +21,19 @@ numbers_asym : (d e r s t u : ℕ) → (nat_lt e d || ((d == e) && (nat_lt r s |
     → (nat_lt d e || ((e == d) && (nat_lt s r || ((s == r) && nat_lt u t)))) ≡ true → ⊥
 numbers_asym d e r s t u h k = grind (arith, nat_tests)
 
-asym : (e f : Entry) → comes_before e f ≡ true → comes_before f e ≡ true → ⊥
+-- of two entries one alone comes before the other
+pub asym : (e f : Entry) → comes_before e f ≡ true → comes_before f e ≡ true → ⊥
 asym e f h k = numbers_asym e.depth f.depth e.source.0 f.source.0 e.target.0 f.target.0 h k
 
 first_or_other : {X : Type 0} (x y : X) (xs : List X) → Contains (x ∷ xs) y → (x ≡ y) ⊎ Contains xs y
 first_or_other x y xs (zero, below, e) = inl e
 first_or_other x y xs (suc k, below, e) = inr (k, omega arith, e)
 
-first : {X : Type 0} (x : X) (xs : List X) → Contains (x ∷ xs) x
+pub first : {X : Type 0} (x : X) (xs : List X) → Contains (x ∷ xs) x
 first x xs = (zero, omega arith, refl)
 
-other : {X : Type 0} (x y : X) (xs : List X) → Contains xs y → Contains (x ∷ xs) y
+pub other : {X : Type 0} (x y : X) (xs : List X) → Contains xs y → Contains (x ∷ xs) y
 other x y xs (k, below, e) = (suc k, omega arith, e)
-
-nowhere : {X : Type 0} (x : X) → Contains [] x → ⊥
-nowhere x (k, below, e) = absurd (omega arith)
 
 -- each item of the one list is one of the other
 abbrev pub AreAmong : List Entry → List Entry → Type 0
@@ -59,8 +58,8 @@ rest-among x xs ys before among e at = go (first_or_other x e ys (among e (other
 -- two lists in order with the same items are one
 pub same-list : (xs ys : List Entry) → AreInOrder xs → AreInOrder ys → AreAmong xs ys → AreAmong ys xs → xs ≡ ys
 same-list [] [] a b there back = refl
-same-list [] (y ∷ ys) a b there back = absurd (nowhere y (back y (first y ys)))
-same-list (x ∷ xs) [] a b there back = absurd (nowhere x (there x (first x xs)))
+same-list [] (y ∷ ys) a b there back = absurd (Contains-none y (back y (first y ys)))
+same-list (x ∷ xs) [] a b there back = absurd (Contains-none x (there x (first x xs)))
 same-list (x ∷ xs) (y ∷ ys) a b there back =
     let same = same-first x y xs ys a b (first_or_other x y xs (back y (first y ys))) (first_or_other y x ys (there x (first x xs))) in
     let b' = subst (λ (z : Entry). AreInOrder (z ∷ ys)) (sym same) b in

@@ -1,4 +1,5 @@
 mod ChosenAloneLemmas
+mod ChosenFewLemmas
 mod ChosenHoldsLemmas
 mod ChosenLeafLemmas
 mod ChosenOneLemmas

@@ -19,8 +19,8 @@ pub fn questions_have_one_refutation()
     ensures { AreAlone }
 {}
 
-/// The refutation of a question about types of a world holds, and the question is one that is to have it. Where
-/// it isn't too long, it can be written.
+/// The refutation of a question about types of a world holds, and the question is one that is to have it. It has
+/// 4,096 entries at most, and can be written where its words aren't too long together.
 pub fn refutations_of_questions_hold()
     ensures { AreGood }
 {}

@@ -1,3 +1,4 @@
+use Rattle.tm_refute.proofs.ChosenFewLemmas.{chosen-few}
 use Rattle.tm_refute.proofs.ChosenHoldsLemmas.{chosen-refutes, is-refutable}
 use Rattle.tm_refute.proofs.ChosenWritableLemmas.{chosen-writable}
 use Rattle.tm_refute.proofs.law.refutations_of_questions_hold.Goals as goal
@@ -7,5 +8,6 @@ pub returns : goal.returns
 returns c world ask x over_source over_target is = record {
   refutable = is-refutable (tables_of world) ask x is;
   refutes = chosen-refutes world ask x over_source is;
+  few_entries = chosen-few world ask x is;
   writable = chosen-writable world ask x over_source is;
 }
