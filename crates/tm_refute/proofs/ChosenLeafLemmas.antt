@@ -1,5 +1,5 @@
 -- The references in a judged type, and so those in its words, point to judged types.
-use Rattle.std.proofs.Common.{◌≡◌, ℕ, zero, suc, ◌+◌, ◌-◌, ◌==◌, inl, inr, refl, sym, subst, true, false, List, [], ◌++◌, length, take, Some, slice_get, arith}
+use Rattle.std.proofs.Common.{◌≡◌, ◌<◌, ℕ, zero, suc, ◌+◌, ◌-◌, ◌==◌, inl, inr, refl, sym, subst, true, false, List, [], ◌++◌, length, take, Some, slice_get, arith}
 use Rattle.std.specs.Prelude.{replicate}
 use Rattle.std.specs.List.{All, Contains, flat_map}
 use Rattle.std.proofs.lemmas.Bool.{eqb-true, or_cases}
@@ -17,6 +17,8 @@ use Rattle.tm_base.specs.Reaches.{ChainIn, IsJudged, parts_within, pointees_with
 use Rattle.tm_base.specs.Tables.{Tables, expanded_in}
 use Rattle.tm_base.specs.Transmutes.{IsSourceWord}
 use Rattle.tm_laws.proofs.ListedLemmas.{Contains-from_IsIn, IsIn-flat_map, IsIn-from_Contains}
+use Rattle.tm_base.specs.declared.world.World.{World}
+use Rattle.tm_laws.proofs.RefusalWorlds.{HasKnownLeaves}
 use Rattle.tm_laws.proofs.WholeLeaves.{Leaf, leaves, field_leaves, variant_leaves}
 use Rattle.tm_laws.proofs.WholeTypes.{level-leaves}
 use Rattle.tm_refs.specs.Looks.{has_leaf, is_reference}
@@ -132,3 +134,9 @@ shown-leaf s t piece value x place at =
     let P = IsCellOf (λ y. has_leaf s y ≡ true) in
     let filled = All-append P (take n piece.word) (replicate (n - length piece.word) Uninit) (All-take P n piece.word (Valid-of (λ y. has_leaf s y ≡ true) true s (λ y leaf. leaf) piece.word value)) (All-replicate P (n - length piece.word) Uninit tt) in
     All-contains P (shown t piece) (Ptr (record { 0 = x }) place) (All-take P (piece.offset + 1) (take n piece.word ++ replicate (n - length piece.word) Uninit) filled) at
+
+-- a leaf of a type over a world is one of the world's references
+pub known : (world : World) (t : Expanded) → HasKnownLeaves world t → (x : ℕ) → has_leaf t x ≡ true → x < length world.refs
+known world t leaves_are x h =
+    let (leaf, at, e) = leaf-listed t x h in
+    subst (λ (n : ℕ). n < length world.refs) e (All-contains (λ (l : Leaf). l.number < length world.refs) (leaves t) leaf leaves_are at)

@@ -62,7 +62,7 @@ module _ (tables : Tables) (assume : Assume) (limit : Option ℕ) (s t : Expande
 
 module _ (tables : Tables) (ask : Ask) where
   -- two references fail first at one depth
-  depth-one : (r t m n : ℕ) → FailsFirstAt tables ask.assume r t m → FailsFirstAt tables ask.assume r t n → m ≡ n
+  pub depth-one : (r t m n : ℕ) → FailsFirstAt tables ask.assume r t m → FailsFirstAt tables ask.assume r t n → m ≡ n
   depth-one r t m n a b = go (cases_lt m n) (cases_lt n m) where
     go : (m < n) ⊎ (n ≤ m) → (n < m) ⊎ (m ≤ n) → m ≡ n
     go (inl less) other = absurd (a.fails (b.first m less))

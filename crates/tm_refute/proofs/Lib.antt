@@ -1,16 +1,21 @@
-mod ChosenAloneLemmas
+mod AskingLemmas
+pub mod ChosenAloneLemmas
 mod ChosenFewLemmas
-mod ChosenHoldsLemmas
+pub mod ChosenHoldsLemmas
 mod ChosenLeafLemmas
 mod ChosenOneLemmas
 mod ChosenOrderLemmas
+mod ChosenPieceLemmas
+mod ChosenProofLemmas
 mod ChosenStopLemmas
 mod ChosenWordLemmas
 mod ChosenWritableLemmas
 mod DepthLemmas
+mod EntriesLemmas
+mod FailingLemmas
 mod HeaderReadLemmas
 mod JudgedLemmas
-mod LawLemmas
+pub mod LawLemmas
 mod LeadsLemmas
 mod LineFormLemmas
 mod LineReadLemmas
@@ -21,7 +26,7 @@ mod ReadBackLemmas
 mod Rows
 mod RunLemmas
 mod ShownLemmas
-mod TextFormLemmas
+pub mod TextFormLemmas
 mod TextLemmas
 mod TextReadLemmas
 mod VerifyLemmas

@@ -11,3 +11,7 @@ pub mod LinesRead
 pub mod Written
 pub mod Chosen
 pub mod ChosenLaws
+pub mod Making
+pub mod Asking
+pub mod Failing
+pub mod Entries

@@ -3,22 +3,31 @@
 //! A refutation shows that the answer to a question isn't yes: by a value of the source with which the
 //! target doesn't go along, and by pairs of references that fail, each resting on pairs that fail at
 //! lesser depths. [`verify`] says whether one holds; it asks what a value is, how references break the
-//! local rules, and nothing else. [`refutations_are_true`] is what one shows wherever it holds. [`read_text`]
-//! reads one from its text, or tells the first line that is bad; [`texts_are_read_one_way`] says that there
-//! is one way to do so. [`write_text`] writes one, so that it is read back.
+//! local rules, and nothing else. [`refutations_are_true`] is what one shows wherever it holds. [`refute`]
+//! makes the one of a question: there is no other by [`questions_have_one_refutation`], and it holds by
+//! [`refutations_of_questions_hold`]. [`read_text`] reads one from its text, or tells the first line that is
+//! bad; [`texts_are_read_one_way`] says that there is one way to do so. [`write_text`] writes one, so that it
+//! is read back.
 #![tactic(auto)]
 
+mod asked;
+mod asking;
+mod below;
 mod depths;
+mod entries;
 mod entry;
+mod failing;
 mod fitted;
 mod header;
 mod judged;
 mod law;
+mod maker;
 mod part;
 mod piece_text;
 mod pieces;
 mod reader;
 mod refutation;
+mod refuting;
 mod rule;
 mod standing;
 mod stop;
@@ -33,7 +42,8 @@ pub use law::{
     texts_are_read_one_way,
 };
 pub use refutation::{Entry, Piece, Proof, Refutation};
-pub use stop::TextErr;
+pub use refuting::refute;
+pub use stop::{RefuteErr, TextErr};
 pub use text::read_text;
 pub use verifying::verify;
 pub use writing::write_text;

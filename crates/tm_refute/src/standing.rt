@@ -17,10 +17,17 @@ impl RefTest for Standing<'_> {
     ghost test = { λ standing r t. stands standing.limit (depth_in standing.depths.now r t) };
 
     fn holds(&self, source: RefId, target: RefId) -> bool {
-        match (self.depths.depth(source, target), self.limit) {
-            (None, _) => true,
-            (Some(_), None) => false,
-            (Some(least), Some(limit)) => limit <= least,
-        }
+        stands(self.limit, self.depths.depth(source, target))
+    }
+}
+
+/// Whether what fails at a depth stands below a limit; what fails at none does.
+pub fn stands(limit: Option<u32>, depth: Option<u32>) -> bool
+    ensures { result ≡ stands limit depth }
+{
+    match (depth, limit) {
+        (None, _) => true,
+        (Some(_), None) => false,
+        (Some(least), Some(limit)) => limit <= least,
     }
 }

@@ -1,4 +1,5 @@
 ghost use Rattle.std.specs.Prelude.{◌≡◌};
+ghost use Rattle.tm_refute.specs.declared.stop.RefuteErr.TheVariants as refute_err;
 ghost use Rattle.tm_refute.specs.declared.stop.Stop.TheVariants as stop_is;
 ghost use Rattle.tm_refute.specs.declared.stop.TextErr.TheVariants as text_err;
 
@@ -35,5 +36,22 @@ impl From<Memory> for TextErr {
 
     fn from(_memory: Memory) -> TextErr {
         TextErr::Memory
+    }
+}
+
+/// Why there is no refutation of a question that may have one.
+#[derive(Clone, Copy, PartialEq, Eq, Debug, Drop)]
+pub enum RefuteErr {
+    /// Its words have more than 16,777,216 cells together.
+    TooLong,
+    /// There wasn't enough memory.
+    Memory,
+}
+
+impl From<Memory> for RefuteErr {
+    ghost from_gives = { λ _ error. error ≡ refute_err.Memory };
+
+    fn from(_memory: Memory) -> RefuteErr {
+        RefuteErr::Memory
     }
 }

@@ -95,7 +95,7 @@ fn fitting(
 
 impl Proof {
     /// How many cells it has.
-    fn cells(&self) -> usize
+    pub fn cells(&self) -> usize
         ensures { result ≡ proof_cells self.now }
     {
         match self {
