@@ -6,20 +6,27 @@ use Rattle.tm_report.specs.FaultLines.{line_of}
 use Rattle.tm_report.specs.declared.fault.FileFault.{FileFault}
 use Rattle.tm_report.specs.declared.fault.FileFault.TheVariants.{NotUtf8, NoToken, BadNumber, OpenComment, Unexpected, EndOfFile, Passed, Names, BadRefutation, NoQuestion}
 use Rattle.tm_run.specs.Held.{EachHolds, HoldsFor, SomeDoesNot, questions_for}
-use Rattle.tm_run.specs.Examined.{IsExamined, IsOnlyFault}
+use Rattle.tm_names.specs.declared.resolved.Resolved.{Resolved}
+use Rattle.tm_run.specs.Examined.{IsExamined, IsOnlyFault, IsReportStop, IsStop, too_long}
 use Rattle.tm_run.specs.Faults.{IsFaulty, status_of_fault}
-use Rattle.tm_run.specs.Files.{IsAccepted, IsWorldOf}
+use Rattle.tm_run.specs.Files.{IsAccepted, IsTooLong, IsWorldOf}
+use Rattle.tm_run.specs.Refutations.{PassesCells}
 use Rattle.tm_run.specs.Outcomes.{IsFileOutcome, IsReport, IsSettled}
 use Rattle.tm_run.specs.Reported.{IsReported}
 use Rattle.tm_run.specs.Runs.{Answers, Decides, Declines}
 use Rattle.tm_run.specs.declared.options.Options.{Options}
 use Rattle.tm_run.specs.declared.status.Status.{Status}
-use Rattle.tm_run.specs.declared.status.Status.TheVariants.{AllYes, Mixed, Usage, BadText, Limit, IllFormed}
-use Rattle.tm_run.proofs.OnlyLemmas.{each-all_yes, only-report, reported-verdict, some-mixed}
+use Rattle.tm_run.specs.declared.status.Status.TheVariants.{AllYes, Mixed, Usage, BadText, Limit, IllFormed, NoQuestion as NoSuchQuestion}
+use Rattle.tm_run.specs.declared.stop.Stop.{Stop}
+use Rattle.tm_run.specs.declared.stop.Stop.TheVariants.{Fault, Memory}
+use Rattle.tm_run.proofs.OnlyLemmas.{each-all_yes, not-too-long, only-report, reported-verdict, some-mixed}
 use Rattle.tm_run.proofs.VerdictLemmas.{HasVerdict}
 
 -- the statuses of faults and of reports
-fault_status : (fault : FileFault) → (status_of_fault fault ≡ BadText) ⊎ ((status_of_fault fault ≡ Limit) ⊎ (status_of_fault fault ≡ IllFormed))
+abbrev OneOfFaults : Status → Type 0
+OneOfFaults status = (status ≡ BadText) ⊎ ((status ≡ Limit) ⊎ ((status ≡ IllFormed) ⊎ (status ≡ NoSuchQuestion)))
+
+fault_status : (fault : FileFault) → OneOfFaults (status_of_fault fault)
 fault_status (NotUtf8 at) = inl refl
 fault_status (NoToken at) = inl refl
 fault_status (BadNumber at) = inl refl
@@ -27,17 +34,18 @@ fault_status (OpenComment at) = inl refl
 fault_status (Unexpected at) = inl refl
 fault_status (EndOfFile at) = inl refl
 fault_status (Passed kind place) = inr (inl refl)
-fault_status (Names why at) = inr (inr refl)
+fault_status (Names why at) = inr (inr (inl refl))
 fault_status (BadRefutation line) = inl refl
-fault_status (NoQuestion number) = inl refl
+fault_status (NoQuestion number) = inr (inr (inr refl))
 
 settled_fault : (fault : FileFault) → IsSettled (status_of_fault fault)
 settled_fault fault = by (fault_status fault)
   where
-    by : (status_of_fault fault ≡ BadText) ⊎ ((status_of_fault fault ≡ Limit) ⊎ (status_of_fault fault ≡ IllFormed)) → IsSettled (status_of_fault fault)
+    by : OneOfFaults (status_of_fault fault) → IsSettled (status_of_fault fault)
     by (inl e) = subst IsSettled (sym e) tt
     by (inr (inl e)) = subst IsSettled (sym e) tt
-    by (inr (inr e)) = subst IsSettled (sym e) tt
+    by (inr (inr (inl e))) = subst IsSettled (sym e) tt
+    by (inr (inr (inr e))) = subst IsSettled (sym e) tt
 
 -- the status of a report is one of two
 module _ (options : Options) (file : List ℕ) (status : Status) (text : List ℕ) (report : IsReport options file status text) where
@@ -52,24 +60,25 @@ module _ (options : Options) (file : List ℕ) (status : Status) (text : List �
       by (inr e) = subst IsSettled (sym e) tt
 
   -- and none of a fault's or of a misuse
-  pub not_of_report : (status ≢ Usage) × (status ≢ Limit) × (status ≢ BadText) × (status ≢ IllFormed)
+  pub not_of_report : (status ≢ Usage) × (status ≢ Limit) × (status ≢ BadText) × (status ≢ IllFormed) × (status ≢ NoSuchQuestion)
   not_of_report = by report-verdict.two
     where
-      by : (status ≡ AllYes) ⊎ (status ≡ Mixed) → (status ≢ Usage) × (status ≢ Limit) × (status ≢ BadText) × (status ≢ IllFormed)
-      by (inl e) = (λ k. cc, λ k. cc, λ k. cc, λ k. cc)
-      by (inr e) = (λ k. cc, λ k. cc, λ k. cc, λ k. cc)
+      by : (status ≡ AllYes) ⊎ (status ≡ Mixed) → (status ≢ Usage) × (status ≢ Limit) × (status ≢ BadText) × (status ≢ IllFormed) × (status ≢ NoSuchQuestion)
+      by (inl e) = (λ k. cc, λ k. cc, λ k. cc, λ k. cc, λ k. cc)
+      by (inr e) = (λ k. cc, λ k. cc, λ k. cc, λ k. cc, λ k. cc)
 
 -- and a fault's status is none of a report's or of a misuse
 not_of_fault : (fault : FileFault) (status : Status) → status ≡ status_of_fault fault → (status ≢ Usage) × (status ≢ AllYes) × (status ≢ Mixed)
 not_of_fault fault status is = by (fault_status fault)
   where
-    by : (status_of_fault fault ≡ BadText) ⊎ ((status_of_fault fault ≡ Limit) ⊎ (status_of_fault fault ≡ IllFormed)) → (status ≢ Usage) × (status ≢ AllYes) × (status ≢ Mixed)
+    by : OneOfFaults (status_of_fault fault) → (status ≢ Usage) × (status ≢ AllYes) × (status ≢ Mixed)
     by (inl f) = (λ e. cc, λ e. cc, λ e. cc)
     by (inr (inl f)) = (λ e. cc, λ e. cc, λ e. cc)
-    by (inr (inr f)) = (λ e. cc, λ e. cc, λ e. cc)
+    by (inr (inr (inl f))) = (λ e. cc, λ e. cc, λ e. cc)
+    by (inr (inr (inr f))) = (λ e. cc, λ e. cc, λ e. cc)
 
 accepted_of : (options : Options) (file : List ℕ) (world : World) → IsWorldOf options file world → IsAccepted options file
-accepted_of options file world of_file = record { resolved = of_file.resolved; names = of_file.names; limits = of_file.limits; few = of_file.few }
+accepted_of options file world of_file = record { resolved = of_file.resolved; answerable = of_file.answerable; short = of_file.short }
 
 -- the only fault of a file decides it
 pub fault_decides : (options : Options) (file : List ℕ) (fault : FileFault) → IsOnlyFault options file fault → Decides options file (status_of_fault fault) (line_of fault)
@@ -100,14 +109,33 @@ report_decides options file world status text w r = record {
   only = only-report options file world w status text r;
   each_holds = λ e. verdict.all_yes.1 (each-all_yes options file world w status text r e);
   some_does_not = λ s. verdict.mixed.1 (some-mixed options file world w status text r s);
-  faulted = λ fault has. absurd (w.faultless fault has);
+  faulted = λ fault has. absurd (short (w.faultless fault has).0);
 }
   where
+    short : ¬ IsTooLong options w.resolved
+    short = not-too-long options file world w status text r
+
     report : IsReport options file status text
-    report = record { world = world; of_file = w.of_file; reported = r }
+    report = record { world = world; of_file = record { resolved = w.resolved; answerable = w.answerable; short = short; belongs = w.belongs }; reported = r }
 
     verdict : HasVerdict (HoldsFor options.mode (tables_of world)) (questions_for options.mode (tables_of world) world.questions) status
     verdict = reported-verdict options.mode options file world status text r
+
+-- a refutation that has too many cells is the one fault
+pub cells_only : (options : Options) (file : List ℕ) (world : World) → IsExamined options file world → PassesCells options.mode world → IsOnlyFault options file too_long
+cells_only options file world w passes = record {
+  has = inr (record { resolved = w.resolved; names = w.answerable.names; first = (w.answerable.limits, long) });
+  only = λ other h. (w.faultless other h).1;
+  refused = λ a. a.short (subst (λ (r : Resolved). IsTooLong options r) (sym (w.only a.resolved a.answerable.names)) long);
+}
+  where
+    long : IsTooLong options w.resolved
+    long = record { world = world; belongs = w.belongs; passes = passes }
+
+-- what stops a report stops its file
+pub report_stops : (options : Options) (file : List ℕ) (world : World) → IsExamined options file world → (stop : Stop) → IsReportStop options.mode world stop → IsStop options file stop
+report_stops options file world w (Fault fault) (passes, is) = subst (λ (f : FileFault). IsOnlyFault options file f) (sym is) (cells_only options file world w passes)
+report_stops options file world w Memory h = tt
 
 -- what is decided of a file
 module _ (options : Options) (file : List ℕ) (status : Status) (text : List ℕ) (d : Decides options file status text) where

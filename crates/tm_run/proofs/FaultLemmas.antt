@@ -18,7 +18,7 @@ use Rattle.tm_report.specs.declared.fault.At.{At}
 use Rattle.tm_report.specs.declared.fault.FileFault.{FileFault}
 use Rattle.tm_report.specs.declared.fault.FileFault.TheVariants.{NotUtf8, NoToken, BadNumber, OpenComment, Unexpected, EndOfFile, Passed, Names, BadRefutation, NoQuestion}
 use Rattle.tm_run.specs.Examined.{AreTokensOf, IsOnlyFault, no_token_at}
-use Rattle.tm_run.specs.Faults.{BeginsAt, EndsTooSoon, HasFault, HasNameFaultAt, IsNotUtf8, LacksToken, PassesLimitAtToken, PassesLimitOnTypes, StopsAtToken, start_of}
+use Rattle.tm_run.specs.Faults.{BeginsAt, EndsTooSoon, HasFault, HasNameFaultAt, IsNotUtf8, LacksQuestion, LacksToken, PassesLimitAtToken, PassesLimitOnTypes, StopsAtToken, start_of}
 use Rattle.tm_run.specs.Files.{HasSoundNames, IsResolved, IsSpelled, file_bytes}
 use Rattle.tm_run.specs.Places.{at_byte}
 use Rattle.tm_run.specs.Words.{profile_for}
@@ -40,6 +40,7 @@ module _ (options : Options) (file : List ℕ) (P : FileFault → Type 0) where
     pub long : file_bytes < length file → P (Passed FileBytes None)
     pub names : (why : NameWhy) (byte : ℕ) → HasNameFaultAt options file why byte → P (Names why (at_byte file byte))
     pub limits : (kind : LimitKind) → PassesLimitOnTypes options file kind → P (Passed kind None)
+    pub asked : (number : ℕ) → LacksQuestion options file number → P (NoQuestion number)
 
   pub by_cause : ByCause → (fault : FileFault) → HasFault options file fault → P fault
   by_cause by (NotUtf8 at) (place, h) = subst (λ (at : At). P (NotUtf8 at)) (sym place) (by.not_utf8 at.byte h)
@@ -53,7 +54,7 @@ module _ (options : Options) (file : List ℕ) (P : FileFault → Type 0) where
   by_cause by (Passed kind (Some at)) (place, h) = subst (λ (at : At). P (Passed kind (Some at))) (sym place) (by.passes kind at.byte h)
   by_cause by (Names why at) (place, h) = subst (λ (at : At). P (Names why at)) (sym place) (by.names why at.byte h)
   by_cause by (BadRefutation line) h = absurd h
-  by_cause by (NoQuestion number) h = absurd h
+  by_cause by (NoQuestion number) h = by.asked number h
 
 -- the fault of each cause is one that the file has
 pub has_lacks : (options : Options) (file : List ℕ) (byte : ℕ) (why : LexWhy) → LacksToken file byte why → HasFault options file (no_token_at (at_byte file byte) why)
@@ -74,8 +75,9 @@ long_only options file long = record {
     long = λ h. refl;
     names = λ why byte h. let lexed = h.spelled.lexed in absurd (omega arith);
     limits = λ kind h. let lexed = h.names.spelled.lexed in absurd (omega arith);
+    asked = λ number h. let lexed = h.names.spelled.lexed in absurd (omega arith);
   });
-  refused = λ h. let lexed = h.names.spelled.lexed in absurd (omega arith);
+  refused = λ h. let lexed = h.answerable.names.spelled.lexed in absurd (omega arith);
 }
 
 -- bytes that aren't UTF-8 are the one fault
@@ -92,8 +94,9 @@ broken_only options file byte broken = record {
     long = λ h. let short = broken.short in absurd (omega arith);
     names = λ why found h. absurd (broken.broken h.spelled.lexed.utf8);
     limits = λ kind h. absurd (broken.broken h.names.spelled.lexed.utf8);
+    asked = λ number h. absurd (broken.broken h.names.spelled.lexed.utf8);
   });
-  refused = λ h. absurd (broken.broken h.names.spelled.lexed.utf8);
+  refused = λ h. absurd (broken.broken h.answerable.names.spelled.lexed.utf8);
 }
 
 -- a byte at which no token begins is the one fault
@@ -111,8 +114,9 @@ lacks_only options file byte why lacks no_tokens same = record {
     long = λ h. let short = lacks.short in absurd (omega arith);
     names = λ because found h. absurd (no_tokens h.spelled.tokens h.spelled.lexed.tokenizes);
     limits = λ kind h. absurd (no_tokens h.names.spelled.tokens h.names.spelled.lexed.tokenizes);
+    asked = λ number h. absurd (no_tokens h.names.spelled.tokens h.names.spelled.lexed.tokenizes);
   });
-  refused = λ h. absurd (no_tokens h.names.spelled.tokens h.names.spelled.lexed.tokenizes);
+  refused = λ h. absurd (no_tokens h.answerable.names.spelled.tokens h.answerable.names.spelled.lexed.tokenizes);
 }
 
 -- what a file spells, and that no name is at fault, is so by its tokens
@@ -136,6 +140,7 @@ module _ (options : Options) (file : List ℕ) (tokens : List Token) (are : AreT
     pub names : (why : NameWhy) (place : ℕ) (parsed : Parsed) → SpellsFile (terminals_of file tokens) parsed → IsFirstFault (profile_for options) (name_at file tokens) parsed why place
         → P (Names why (at_byte file (start_of file (slice_get tokens place))))
     pub limits : (kind : LimitKind) → PassesLimitOnTypes options file kind → P (Passed kind None)
+    pub asked : (number : ℕ) → LacksQuestion options file number → P (NoQuestion number)
 
   pub by_tokens : ByTokens → (fault : FileFault) → HasFault options file fault → P fault
   by_tokens by = by_cause options file P (record {
@@ -155,4 +160,5 @@ module _ (options : Options) (file : List ℕ) (tokens : List Token) (are : AreT
         (by.names why h.place h.parsed (spelled_by options file tokens are h.parsed h.spelled)
         (subst (λ (ts : List Token). IsFirstFault (profile_for options) (name_at file ts) h.parsed why h.place) e h.first)));
     limits = by.limits;
+    asked = by.asked;
   })

@@ -11,7 +11,7 @@ use Rattle.tm_run.specs.Runs.{Decides, Finishes, IsSilent}
 use Rattle.tm_run.specs.Words.{is_read}
 use Rattle.tm_run.specs.declared.options.Options.{Options}
 use Rattle.tm_run.specs.declared.status.Status.{Status}
-use Rattle.tm_run.specs.declared.status.Status.TheVariants.{AllYes, Mixed, Usage, BadText, Limit, ReadFault, WriteFault, Memory, IllFormed}
+use Rattle.tm_run.specs.declared.status.Status.TheVariants.{AllYes, Mixed, Usage, BadText, Limit, ReadFault, WriteFault, Memory, IllFormed, NoQuestion}
 use Rattle.tm_run.proofs.DecideLemmas.{decides_all_yes, decides_faulty, decides_mixed, not_of_report}
 
 pub settled_status : (status : Status) → IsSettled status → (status ≢ ReadFault) × (status ≢ WriteFault) × (status ≢ Memory)
@@ -21,6 +21,7 @@ settled_status Usage h = (λ e. cc, λ e. cc, λ e. cc)
 settled_status BadText h = (λ e. cc, λ e. cc, λ e. cc)
 settled_status Limit h = (λ e. cc, λ e. cc, λ e. cc)
 settled_status IllFormed h = (λ e. cc, λ e. cc, λ e. cc)
+settled_status NoQuestion h = (λ e. cc, λ e. cc, λ e. cc)
 settled_status ReadFault h = absurd h
 settled_status WriteFault h = absurd h
 settled_status Memory h = absurd h
@@ -41,6 +42,7 @@ module _ (asked : Option Options) (left left' : Option (List ℕ)) (reads reads'
     pub bad_text : (options : Options) (file : List ℕ) → IsRunOn asked left options file status → (status ≡ BadText ↔ IsFaulty options file BadText)
     pub limit : (options : Options) (file : List ℕ) → IsRunOn asked left options file status → (status ≡ Limit ↔ IsFaulty options file Limit)
     pub ill_formed : (options : Options) (file : List ℕ) → IsRunOn asked left options file status → (status ≡ IllFormed ↔ IsFaulty options file IllFormed)
+    pub no_question : (options : Options) (file : List ℕ) → IsRunOn asked left options file status → (status ≡ NoQuestion ↔ IsFaulty options file NoQuestion)
     pub read_fault : status ≡ ReadFault → Rose reads reads'
     pub read_risen : reads < reads' → status ≡ ReadFault
     pub write_fault : status ≡ WriteFault → Rose writes writes'
@@ -78,6 +80,7 @@ module _ (asked : Option Options) (left left' : Option (List ℕ)) (reads reads'
         bad_text = λ options file r. decides_faulty options file status text (w.decides options file r.in_form r.file_is) BadText (λ s t report. (not_of_report options file s t report).2);
         limit = λ options file r. decides_faulty options file status text (w.decides options file r.in_form r.file_is) Limit (λ s t report. (not_of_report options file s t report).1);
         ill_formed = λ options file r. decides_faulty options file status text (w.decides options file r.in_form r.file_is) IllFormed (λ s t report. (not_of_report options file s t report).3);
+        no_question = λ options file r. decides_faulty options file status text (w.decides options file r.in_form r.file_is) NoQuestion (λ s t report. (not_of_report options file s t report).4);
         read_fault = λ e. absurd (no_read e);
         read_risen = λ r. let same = w.unrisen in absurd (omega arith);
         write_fault = λ e. absurd (no_write e);
@@ -101,6 +104,7 @@ module _ (asked : Option Options) (left left' : Option (List ℕ)) (reads reads'
     bad_text = λ options file r. absurd r.settled;
     limit = λ options file r. absurd r.settled;
     ill_formed = λ options file r. absurd r.settled;
+    no_question = λ options file r. absurd r.settled;
     read_fault = λ e. cc;
     read_risen = λ r. let same = w.unrisen in absurd (omega arith);
     write_fault = λ e. rose;
@@ -142,6 +146,7 @@ module _ (asked : Option Options) (left left' : Option (List ℕ)) (reads reads'
     bad_text = λ options file r. absurd (w.unsettled r.settled);
     limit = λ options file r. absurd (w.unsettled r.settled);
     ill_formed = λ options file r. absurd (w.unsettled r.settled);
+    no_question = λ options file r. absurd (w.unsettled r.settled);
     read_fault = w.read;
     read_risen = w.risen;
     write_fault = λ e. absurd (w.no_write e);

@@ -14,6 +14,7 @@ pub mod OnlyLemmas
 pub mod DecideLemmas
 pub mod KeepLemmas
 pub mod DoneLemmas
+pub mod RefuteLemmas
 pub mod RunLemmas
 pub mod ByteLemmas
 pub mod WordLemmas

@@ -19,24 +19,26 @@ use Rattle.tm_matrix.specs.declared.marks.Line.{Line}
 use Rattle.tm_names.specs.declared.resolved.Resolved.{Resolved}
 use Rattle.tm_run.specs.Answers.{AreAnswered, IsAnswered}
 use Rattle.tm_run.specs.Examined.{IsExamined}
-use Rattle.tm_run.specs.Files.{IsWorldOf}
+use Rattle.tm_run.specs.Files.{IsTooLong, IsWorldOf}
 use Rattle.tm_run.specs.Held.{EachHolds, HoldsFor, SomeDoesNot, questions_for}
 use Rattle.tm_run.specs.Marks.{is_line_yes, matrix_lines, matrix_questions, types_of}
 use Rattle.tm_run.specs.Matches.{AreValueOf, IsMatch, is_valid, match_lines}
 use Rattle.tm_run.specs.Needs.{HoldsUnderSome, IsNeed, is_met, need_lines}
 use Rattle.tm_run.specs.Outcomes.{IsReport}
+use Rattle.tm_run.specs.Refutations.{IsPast, IsRefuteReport, IsVerifyReport, PassesCells}
 use Rattle.tm_run.specs.Report.{generated_line, report_by, report_for, report_of, status_of, status_when, summary_of}
 use Rattle.tm_run.specs.Reported.{IsReported}
 use Rattle.tm_run.specs.declared.matched.Match.{Match}
 use Rattle.tm_run.specs.declared.need.Need.{Need}
 use Rattle.tm_run.specs.declared.options.Mode.{Mode}
-use Rattle.tm_run.specs.declared.options.Mode.TheVariants.{Needs, Matrix, Bytes}
+use Rattle.tm_run.specs.declared.options.Mode.TheVariants.{Needs, Matrix, Bytes, Refute, Verify}
 use Rattle.tm_run.specs.declared.options.Options.{Options}
 use Rattle.tm_run.specs.declared.status.Status.{Status}
 use Rattle.tm_run.proofs.AnswerLemmas.{answer-means-holding}
 use Rattle.tm_run.proofs.MarkLemmas.{lines-same, matrix-verdict}
 use Rattle.tm_run.proofs.MatchLemmas.{match-means, match-same}
 use Rattle.tm_run.proofs.NeedLemmas.{need-means, need-same}
+use Rattle.tm_run.proofs.RefuteLemmas.{not-past, refute-same, refute-verdict, verify-same, verify-verdict}
 use Rattle.tm_run.proofs.VerdictLemmas.{HasVerdict, verdict, zip-same, zip-weaker}
 
 -- the status says what holds of the questions
@@ -51,6 +53,8 @@ reported-verdict (Some Needs) options file world status text r =
 reported-verdict (Some (Bytes bytes)) options file world status text r =
     subst (HasVerdict (AreValueOf bytes (tables_of world)) world.questions) (sym r.status_is)
     (verdict (IsMatch (tables_of world) bytes) (AreValueOf bytes (tables_of world)) is_valid (match-means (tables_of world) bytes) world.questions r.matches r.each)
+reported-verdict (Some (Refute number)) options file world status text r = refute-verdict number file world status text r
+reported-verdict (Some (Verify number x)) options file world status text r = verify-verdict (tables_of world) world.questions number x status text r
 reported-verdict (Some Matrix) options file world status text r =
     subst (HasVerdict (HoldsOf (tables_of world)) (matrix_questions (tables_of world) world.questions)) (sym r.status_is)
     (matrix-verdict (tables_of world) (types_of world.questions) r.lines r.marked)
@@ -107,6 +111,14 @@ module _ (one other : World) (same : AreOneWorld other one) where
           s.status_is ∙ ap (λ matches. status_when (list_all is_valid matches)) e ∙ sym r.status_is,
           s.text_is ∙ ap (λ tables. match_lines tables 1 s.matches) same.tables ∙ ap (match_lines (tables_of one) 1) e ∙ sym r.text_is,
         )
+    reported-same (Some (Refute number)) status status' text text' r s =
+        refute-same (tables_of one) one.questions number file apart status status' text text' r
+        (subst (λ (asks : List Ask). IsRefuteReport (tables_of one) asks number file status' text') same.questions
+        (subst (λ (t : Tables). IsRefuteReport t other.questions number file status' text') same.tables s))
+    reported-same (Some (Verify number x)) status status' text text' r s =
+        verify-same (tables_of one) one.questions number x status status' text text' r
+        (subst (λ (asks : List Ask). IsVerifyReport (tables_of one) asks number x status' text') same.questions
+        (subst (λ (t : Tables). IsVerifyReport t other.questions number x status' text') same.tables s))
     reported-same (Some Matrix) status status' text text' r s =
         let e = marks-same r.lines s.lines r.marked s.marked in (
           s.status_is ∙ ap (λ lines. status_when (list_all is_line_yes lines)) e ∙ sym r.status_is,
@@ -119,13 +131,36 @@ module _ (options : Options) (file : List ℕ) (world : World) (w : IsExamined o
   -- each world of the file says the same and asks the same
   same-world : (other : World) → IsWorldOf options file other → AreOneWorld other world
   same-world other of_file =
-      one-world w.of_file.resolved w.form w.apart other world
-      (subst (λ (r : Resolved). BelongsToFile r other) (w.only of_file.resolved of_file.names) of_file.belongs) w.of_file.belongs
+      one-world w.resolved w.form w.apart other world
+      (subst (λ (r : Resolved). BelongsToFile r other) (w.only of_file.resolved of_file.answerable.names) of_file.belongs) w.belongs
+
+  -- the world's refutation, where it is to be written, is that of each world of the file
+  passes-here : (other : World) → AreOneWorld other world → (mode : Option Mode) → PassesCells mode other → PassesCells mode world
+  passes-here other same None h = h
+  passes-here other same (Some Needs) h = h
+  passes-here other same (Some Matrix) h = h
+  passes-here other same (Some (Bytes bytes)) h = h
+  passes-here other same (Some (Verify number x)) h = h
+  passes-here other same (Some (Refute number)) h =
+      subst (λ (asks : List Ask). IsPast (tables_of world) asks number) same.questions (subst (λ (t : Tables). IsPast t other.questions number) same.tables h)
+
+  -- a report is on a file whose refutation isn't too long
+  reported-short : (mode : Option Mode) (status : Status) (text : List ℕ) → IsReported mode options file world status text → ¬ PassesCells mode world
+  reported-short None status text r h = h
+  reported-short (Some Needs) status text r h = h
+  reported-short (Some Matrix) status text r h = h
+  reported-short (Some (Bytes bytes)) status text r h = h
+  reported-short (Some (Verify number x)) status text r h = h
+  reported-short (Some (Refute number)) status text r h = not-past number file world status text r h
+
+  pub not-too-long : (status : Status) (text : List ℕ) → IsReported options.mode options file world status text → ¬ IsTooLong options w.resolved
+  not-too-long status text r long =
+      reported-short options.mode status text r (passes-here long.world (one-world w.resolved w.form w.apart long.world world long.belongs w.belongs) options.mode long.passes)
 
   module _ (status : Status) (text : List ℕ) (r : IsReported options.mode options file world status text) where
     pub only-report : (other : Status) (line : List ℕ) → IsReport options file other line → (other ≡ status) × (line ≡ text)
     only-report other line s =
-        reported-same world s.world (same-world s.world s.of_file) (no_shared_texts w.of_file.resolved world w.of_file.belongs w.form w.apart) options file
+        reported-same world s.world (same-world s.world s.of_file) (no_shared_texts w.resolved world w.belongs w.form w.apart) options file
         options.mode status other text line r s.reported
 
     -- what holds of the questions of some world of the file holds of those of this one

@@ -96,8 +96,9 @@ module _ (options : Options) (file : List ℕ) (tokens : List Token) (are : AreT
       passes = λ kind byte p begins h. absurd (neither kind p (limits kind p h));
       names = λ why p v h first. absurd (none v h);
       limits = λ kind h. absurd (none h.names.parsed (resolved_by options file tokens are h.resolved h.names));
+      asked = λ number h. absurd (none h.names.parsed (resolved_by options file tokens are h.resolved h.names));
     });
-    refused = λ h. absurd (none h.names.parsed (resolved_by options file tokens are h.resolved h.names));
+    refused = λ h. absurd (none h.answerable.names.parsed (resolved_by options file tokens are h.resolved h.answerable.names));
   }
     where
       none : (v : Parsed) → SpellsFile (terminals_of file tokens) v → ⊥
@@ -132,8 +133,9 @@ module _ (options : Options) (file : List ℕ) (tokens : List Token) (are : AreT
       passes = λ k byte p begins h. at_token k byte p begins (limits k p h);
       names = λ why p v h first. absurd (none v h);
       limits = λ kind h. absurd (none h.names.parsed (resolved_by options file tokens are h.resolved h.names));
+      asked = λ number h. absurd (none h.names.parsed (resolved_by options file tokens are h.resolved h.names));
     });
-    refused = λ h. absurd (none h.names.parsed (resolved_by options file tokens are h.resolved h.names));
+    refused = λ h. absurd (none h.answerable.names.parsed (resolved_by options file tokens are h.resolved h.answerable.names));
   }
     where
       none : (v : Parsed) → SpellsFile (terminals_of file tokens) v → ⊥
@@ -175,8 +177,9 @@ module _ (options : Options) (file : List ℕ) (tokens : List Token) (are : AreT
         passes = λ kind byte p begins h. absurd (is.within kind p h);
         names = λ other there v h f. same other there (faults other there (first_in other there v h f));
         limits = λ kind h. absurd (unsound h.resolved h.names);
+        asked = λ number h. absurd (unsound h.resolved h.names);
       });
-      refused = λ h. absurd (unsound h.resolved h.names);
+      refused = λ h. absurd (unsound h.resolved h.answerable.names);
     }
       where
         unsound : (resolved : Resolved) → IsResolved options file resolved → ⊥
@@ -212,5 +215,6 @@ module _ (options : Options) (file : List ℕ) (tokens : List Token) (are : AreT
           passes = λ kind byte p begins h. is.within kind p h;
           names = no_name_fault;
           limits = λ kind h. h;
+          asked = λ number h. h;
         });
       }

@@ -34,7 +34,7 @@ byte_outside_of_text : (options : Options) → HasFault options (0xFF ∷ []) (N
 byte_outside_of_text options = (refl, record { short = omega arith; broken = no_text; front = record { short = omega arith; front = IsUtf8-nil; longest = no_longer } })
 
 -- each option in either form, in any order
-three_options : options_of (codes "--profile=be64" ∷ codes "--generate" ∷ codes "007" ∷ codes "--summary" ∷ []) ≡ Some (record { summary = true; generate = Some 7; profile = Some Be64; mode = None })
+three_options : options_of (codes "--profile=be64" ∷ codes "--generate" ∷ codes "007" ∷ codes "--summary" ∷ []) ≡ Some (record { summary = true; generate = Some 7; profile = Some Be64; mode = None; verify = false })
 unfolding choices_of with_choices
 three_options = refl
 
@@ -47,11 +47,11 @@ unfolding choices_of with_choices
 number_with_a_sign = refl
 
 -- a mode stands beside a profile alone
-mode_and_profile : options_of (codes "--needs" ∷ codes "--profile" ∷ codes "be64" ∷ []) ≡ Some (record { summary = false; generate = None; profile = Some Be64; mode = Some Needs })
+mode_and_profile : options_of (codes "--needs" ∷ codes "--profile" ∷ codes "be64" ∷ []) ≡ Some (record { summary = false; generate = None; profile = Some Be64; mode = Some Needs; verify = false })
 unfolding choices_of with_choices
 mode_and_profile = refl
 
-matrix_alone : options_of (codes "--matrix" ∷ []) ≡ Some (record { summary = false; generate = None; profile = None; mode = Some Matrix })
+matrix_alone : options_of (codes "--matrix" ∷ []) ≡ Some (record { summary = false; generate = None; profile = None; mode = Some Matrix; verify = false })
 unfolding choices_of with_choices
 matrix_alone = refl
 

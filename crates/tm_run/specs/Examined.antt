@@ -1,8 +1,10 @@
 -- What the steps of examining a file find: what is found is all that there is, and a fault is the only one.
 use Rattle.std.specs.Prelude.{◌≡◌, ℕ, Some, None, Option, List, length, All, ⊤}
 use Rattle.tm_base.specs.declared.limit.LimitKind.{LimitKind}
-use Rattle.tm_base.specs.declared.limit.LimitKind.TheVariants.{NamedTypes, ClosedNodes, References, Depth}
+use Rattle.tm_base.specs.declared.limit.LimitKind.TheVariants.{NamedTypes, ClosedNodes, References, Depth, RefutationCells}
 use Rattle.tm_base.specs.declared.world.World.{World}
+use Rattle.tm_base.specs.Worlds.{tables_of}
+use Rattle.tm_ground.specs.Belongs.{BelongsToFile}
 use Rattle.tm_ground.specs.declared.fault.GroundErr.{GroundErr}
 use Rattle.tm_ground.specs.declared.fault.GroundErr.TheVariants as ground_err
 use Rattle.tm_lex.specs.Lexes.{IsFault, Tokenizes, IsPieceOf}
@@ -17,17 +19,25 @@ use Rattle.tm_names.specs.declared.resolved.Resolved.{Resolved}
 use Rattle.tm_parse.specs.Parsing.{PassesLimitAt, SpellsFile, StopsAt}
 use Rattle.tm_parse.specs.Spelling.{terminals_of}
 use Rattle.tm_parse.specs.declared.parsed.Parsed.{Parsed}
+use Rattle.tm_refute.specs.declared.stop.RefuteErr.{RefuteErr}
+use Rattle.tm_refute.specs.declared.stop.RefuteErr.TheVariants as refute_err
 use Rattle.tm_report.specs.declared.fault.At.{At}
 use Rattle.tm_report.specs.declared.fault.FileFault.{FileFault}
 use Rattle.tm_report.specs.declared.fault.FileFault.TheVariants as fault
 use Rattle.tm_run.specs.Asking.{with_questions}
-use Rattle.tm_run.specs.Faults.{HasFault, PassesLimitOnTypes}
-use Rattle.tm_run.specs.Files.{HasSoundNames, IsAccepted, IsLexed, IsResolved, IsWorldOf}
+use Rattle.tm_run.specs.Faults.{HasFault, LacksQuestion, PassesLimitOnTypes}
+use Rattle.tm_run.specs.Files.{HasSoundNames, IsAccepted, IsAnswerable, IsLexed, IsResolved, IsTooLong}
+use Rattle.tm_run.specs.Refutations.{IsPast, PassesCells}
 use Rattle.tm_run.specs.Places.{at_byte}
 use Rattle.tm_run.specs.Words.{profile_for}
+use Rattle.tm_run.specs.declared.options.Mode.{Mode}
 use Rattle.tm_run.specs.declared.options.Options.{Options}
 use Rattle.tm_run.specs.declared.stop.Stop.{Stop}
 use Rattle.tm_run.specs.declared.stop.Stop.TheVariants.{Fault, Memory}
+
+-- the fault of a file whose refutation has too many cells
+abbrev pub too_long : FileFault
+too_long = fault.Passed RefutationCells None
 
 -- the file's one fault; such a file isn't accepted
 pub record IsOnlyFault (options : Options) (file : List ℕ) (fault : FileFault) : Type 0 where
@@ -71,9 +81,10 @@ pub record IsResolvedOf (options : Options) (file : List ℕ) (tokens : List Tok
   pub sound : HasSoundNames options file tokens parsed
   pub means : resolved ≡ with_questions options.mode parsed (resolved_of (profile_for options) (name_at file tokens) parsed)
 
--- a fault that is told when the types are closed
+-- a fault that is told when the types are closed, or behind that
 abbrev pub IsLateFault : Options → List ℕ → FileFault → Type 0
 IsLateFault options file (fault.Passed kind None) = PassesLimitOnTypes options file kind
+IsLateFault options file (fault.NoQuestion number) = LacksQuestion options file number
 IsLateFault options file _ = ⊥
 
 -- what the file's names mean, beside which it has no fault before its types are closed
@@ -90,10 +101,28 @@ stop_of ground_err.TooManyRefs = Fault (fault.Passed References None)
 stop_of ground_err.TooDeep = Fault (fault.Passed Depth None)
 stop_of ground_err.Memory = Memory
 
--- the world of a file, which has no fault; what its names mean is in form, and definitions have names of their own
+-- how it stops where a question isn't refuted
+abbrev pub stop_of_refuting : RefuteErr → Stop
+stop_of_refuting refute_err.TooLong = Fault too_long
+stop_of_refuting refute_err.Memory = Memory
+
+-- the world of a file, which has no fault but that a refutation may be too long; what its names mean is in form, and
+-- definitions have names of their own
 pub record IsExamined (options : Options) (file : List ℕ) (world : World) : Type 0 where
-  pub of_file : IsWorldOf options file world
-  pub form : IsInForm of_file.resolved
-  pub apart : HasApartNames of_file.resolved
-  pub only : (other : Resolved) → IsResolved options file other → other ≡ of_file.resolved
-  pub faultless : (fault : FileFault) → ¬ HasFault options file fault
+  pub resolved : Resolved
+  pub answerable : IsAnswerable options file resolved
+  pub belongs : BelongsToFile resolved world
+  pub form : IsInForm resolved
+  pub apart : HasApartNames resolved
+  pub only : (other : Resolved) → IsResolved options file other → other ≡ resolved
+  pub faultless : (other : FileFault) → HasFault options file other → IsTooLong options resolved × (other ≡ too_long)
+
+-- the refutation of a question isn't written: it is too long, or memory is wanting
+abbrev pub IsRefutationStop : ℕ → World → Stop → Type 0
+IsRefutationStop number world (Fault fault) = IsPast (tables_of world) world.questions number × (fault ≡ too_long)
+IsRefutationStop number world Memory = ⊤
+
+-- so it is of what is asked of a world
+abbrev pub IsReportStop : Option Mode → World → Stop → Type 0
+IsReportStop mode world (Fault fault) = PassesCells mode world × (fault ≡ too_long)
+IsReportStop mode world Memory = ⊤

@@ -2,7 +2,7 @@
 use Rattle.std.specs.Prelude.{◌≡◌, ℕ, ◌<◌, ◌≤◌, ◌⊎◌, true, Option, Some, None, List, length, slice_get, IsUtf8}
 use Rattle.std.specs.Str.{IsValidUpTo}
 use Rattle.tm_base.specs.declared.limit.LimitKind.{LimitKind}
-use Rattle.tm_base.specs.declared.limit.LimitKind.TheVariants.{FileBytes, NamedTypes, ClosedNodes, References, Depth, MatrixTypes}
+use Rattle.tm_base.specs.declared.limit.LimitKind.TheVariants.{FileBytes, NamedTypes, ClosedNodes, References, Depth, RefutationCells, MatrixTypes}
 use Rattle.tm_base.specs.declared.limit.NameWhy.{NameWhy}
 use Rattle.tm_ground.specs.Limits.{HasCause, IsWithinLimits}
 use Rattle.tm_ground.specs.declared.fault.GroundErr.TheVariants.{TooManyTypes, TooManyNodes, TooManyRefs, TooDeep}
@@ -18,14 +18,13 @@ use Rattle.tm_parse.specs.Spelling.{terminals_of}
 use Rattle.tm_parse.specs.declared.parsed.Parsed.{Parsed}
 use Rattle.tm_report.specs.declared.fault.FileFault.{FileFault}
 use Rattle.tm_report.specs.declared.fault.FileFault.TheVariants.{NotUtf8, NoToken, BadNumber, OpenComment, Unexpected, EndOfFile, Passed, Names, BadRefutation, NoQuestion}
-use Rattle.tm_run.specs.Asking.{passes_mode}
-use Rattle.tm_run.specs.Files.{file_bytes, IsLexed, IsResolved, IsSpelled}
+use Rattle.tm_run.specs.Asking.{is_no_question, number_asked, passes_mode}
+use Rattle.tm_run.specs.Files.{file_bytes, IsLexed, IsResolved, IsSpelled, IsTooLong}
 use Rattle.tm_run.specs.Places.{IsPlaceIn, at_byte}
 use Rattle.tm_run.specs.Words.{profile_for}
-use Rattle.tm_run.specs.declared.options.Mode.{Mode}
 use Rattle.tm_run.specs.declared.options.Options.{Options}
 use Rattle.tm_run.specs.declared.status.Status.{Status}
-use Rattle.tm_run.specs.declared.status.Status.TheVariants.{BadText, Limit, IllFormed}
+use Rattle.tm_run.specs.declared.status.Status.TheVariants.{BadText, Limit, IllFormed, NoQuestion as NoSuchQuestion}
 
 -- the file isn't UTF-8, and so many bytes are its longest front that is
 pub record IsNotUtf8 (file : List ℕ) (byte : ℕ) : Type 0 where
@@ -80,20 +79,30 @@ pub record HasNameFaultAt (options : Options) (file : List ℕ) (why : NameWhy) 
   pub first : IsFirstFault (profile_for options) (name_at file spelled.tokens) parsed why place
   pub begins : start_of file (slice_get spelled.tokens place) ≡ byte
 
--- of the limits on closed types, and behind them that on a matrix, the first that is passed is of the kind
-abbrev pub IsFirstLimit : Option Mode → Resolved → LimitKind → Type 0
-IsFirstLimit mode resolved NamedTypes = HasCause resolved TooManyTypes
-IsFirstLimit mode resolved ClosedNodes = HasCause resolved TooManyNodes
-IsFirstLimit mode resolved References = HasCause resolved TooManyRefs
-IsFirstLimit mode resolved Depth = HasCause resolved TooDeep
-IsFirstLimit mode resolved MatrixTypes = IsWithinLimits resolved × (passes_mode mode (length resolved.asks) ≡ true)
-IsFirstLimit mode resolved _ = ⊥
+-- of the limits on closed types, and behind them those on a matrix and on a refutation, the first that is passed is of
+-- the kind
+abbrev pub IsFirstLimit : Options → Resolved → LimitKind → Type 0
+IsFirstLimit options resolved NamedTypes = HasCause resolved TooManyTypes
+IsFirstLimit options resolved ClosedNodes = HasCause resolved TooManyNodes
+IsFirstLimit options resolved References = HasCause resolved TooManyRefs
+IsFirstLimit options resolved Depth = HasCause resolved TooDeep
+IsFirstLimit options resolved RefutationCells = IsWithinLimits resolved × IsTooLong options resolved
+IsFirstLimit options resolved MatrixTypes = IsWithinLimits resolved × (passes_mode options.mode (length resolved.asks) ≡ true)
+IsFirstLimit options resolved _ = ⊥
 
 -- the file is resolved, and the first limit that the types of its questions pass is of the kind
 pub record PassesLimitOnTypes (options : Options) (file : List ℕ) (kind : LimitKind) : Type 0 where
   pub resolved : Resolved
   pub names : IsResolved options file resolved
-  pub first : IsFirstLimit options.mode resolved kind
+  pub first : IsFirstLimit options resolved kind
+
+-- the file is resolved, its closed types pass no limit, and the question of the number, which is asked of, isn't there
+pub record LacksQuestion (options : Options) (file : List ℕ) (number : ℕ) : Type 0 where
+  pub resolved : Resolved
+  pub names : IsResolved options file resolved
+  pub limits : IsWithinLimits resolved
+  pub asked : number_asked options.mode ≡ Some number
+  pub lacks : is_no_question number (length resolved.asks) ≡ true
 
 -- for what is asked, the file has the fault, at its place
 abbrev pub HasFault : Options → List ℕ → FileFault → Type 0
@@ -106,9 +115,9 @@ HasFault options file (EndOfFile at) = (at ≡ at_byte file (length file)) × En
 HasFault options file (Passed kind None) = ((kind ≡ FileBytes) × (file_bytes < length file)) ⊎ PassesLimitOnTypes options file kind
 HasFault options file (Passed kind (Some at)) = IsPlaceIn file at × PassesLimitAtToken file kind at.byte
 HasFault options file (Names why at) = IsPlaceIn file at × HasNameFaultAt options file why at.byte
--- no refutation is read yet, and no question asked for by its number
+HasFault options file (NoQuestion number) = LacksQuestion options file number
+-- a file has no such line: it stands in front of one
 HasFault options file (BadRefutation line) = ⊥
-HasFault options file (NoQuestion number) = ⊥
 
 abbrev pub status_of_fault : FileFault → Status
 status_of_fault (NotUtf8 at) = BadText
@@ -120,7 +129,7 @@ status_of_fault (EndOfFile at) = BadText
 status_of_fault (Passed kind place) = Limit
 status_of_fault (Names why at) = IllFormed
 status_of_fault (BadRefutation line) = BadText
-status_of_fault (NoQuestion number) = BadText
+status_of_fault (NoQuestion number) = NoSuchQuestion
 
 -- the file has a fault for which the run ends with the status
 pub record IsFaulty (options : Options) (file : List ℕ) (status : Status) : Type 0 where

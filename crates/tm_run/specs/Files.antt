@@ -15,7 +15,8 @@ use Rattle.tm_names.specs.declared.resolved.Resolved.{Resolved}
 use Rattle.tm_parse.specs.Parsing.{SpellsFile}
 use Rattle.tm_parse.specs.Spelling.{terminals_of}
 use Rattle.tm_parse.specs.declared.parsed.Parsed.{Parsed}
-use Rattle.tm_run.specs.Asking.{passes_mode, with_questions}
+use Rattle.tm_run.specs.Asking.{lacks_question, number_asked, passes_mode, with_questions}
+use Rattle.tm_run.specs.Refutations.{PassesCells}
 use Rattle.tm_run.specs.Words.{profile_for}
 use Rattle.tm_run.specs.declared.options.Options.{Options}
 
@@ -47,18 +48,29 @@ pub record IsResolved (options : Options) (file : List ℕ) (resolved : Resolved
   pub sound : HasSoundNames options file spelled.tokens parsed
   pub means : resolved ≡ with_questions options.mode parsed (resolved_of (profile_for options) (name_at file spelled.tokens) parsed)
 
--- the file is resolved, the closed types that its questions lead to pass no limit, and neither do the questions
--- that of the mode
-pub record IsAccepted (options : Options) (file : List ℕ) : Type 0 where
-  pub resolved : Resolved
+-- of some world that belongs to what names mean, the refutation that is asked for has too many cells
+pub record IsTooLong (options : Options) (resolved : Resolved) : Type 0 where
+  pub world : World
+  pub belongs : BelongsToFile resolved world
+  pub passes : PassesCells options.mode world
+
+-- the file is resolved, the closed types that its questions lead to pass no limit, the questions aren't more than the
+-- mode takes, and there is the one that it asks of
+pub record IsAnswerable (options : Options) (file : List ℕ) (resolved : Resolved) : Type 0 where
   pub names : IsResolved options file resolved
   pub limits : IsWithinLimits resolved
   pub few : passes_mode options.mode (length resolved.asks) ≡ false
+  pub asked : lacks_question (number_asked options.mode) (length resolved.asks) ≡ false
+
+-- the file is that, and a refutation that is asked for isn't too long
+pub record IsAccepted (options : Options) (file : List ℕ) : Type 0 where
+  pub resolved : Resolved
+  pub answerable : IsAnswerable options file resolved
+  pub short : ¬ IsTooLong options resolved
 
 -- the file is accepted, and the world belongs to it and to what is asked
 pub record IsWorldOf (options : Options) (file : List ℕ) (world : World) : Type 0 where
   pub resolved : Resolved
-  pub names : IsResolved options file resolved
-  pub limits : IsWithinLimits resolved
-  pub few : passes_mode options.mode (length resolved.asks) ≡ false
+  pub answerable : IsAnswerable options file resolved
+  pub short : ¬ IsTooLong options resolved
   pub belongs : BelongsToFile resolved world

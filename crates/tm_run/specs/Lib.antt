@@ -12,6 +12,7 @@ pub mod Matches
 pub mod Outcomes
 pub mod Places
 pub mod Reading
+pub mod Refutations
 pub mod Report
 pub mod Reported
 pub mod Runs

@@ -10,7 +10,7 @@ use Rattle.tm_run.specs.Files.{IsWorldOf}
 use Rattle.tm_run.specs.Reported.{IsReported}
 use Rattle.tm_run.specs.declared.options.Options.{Options}
 use Rattle.tm_run.specs.declared.status.Status.{Status}
-use Rattle.tm_run.specs.declared.status.Status.TheVariants.{AllYes, Mixed, Usage, BadText, Limit, ReadFault, WriteFault, Memory, IllFormed}
+use Rattle.tm_run.specs.declared.status.Status.TheVariants.{AllYes, Mixed, Usage, BadText, Limit, ReadFault, WriteFault, Memory, IllFormed, NoQuestion}
 
 abbrev pub usage_line : List ℕ
 usage_line = codes "usage: transmute_report [--profile NAME] [--summary] [--generate N] [MODE]" ++ line_end
@@ -50,6 +50,7 @@ IsSettled Usage = Unit {0}
 IsSettled BadText = Unit {0}
 IsSettled Limit = Unit {0}
 IsSettled IllFormed = Unit {0}
+IsSettled NoQuestion = Unit {0}
 
 -- The file that is asked for: the one of a number, or else the bytes of the input up to its end, which the source
 -- told.

@@ -2,13 +2,15 @@
 use Rattle.std.specs.Prelude.{◌≡◌, ℕ, Option, Some, None, List}
 use Rattle.tm_base.specs.declared.answer.Answer.{Answer}
 use Rattle.tm_base.specs.declared.world.World.{World}
+use Rattle.tm_base.specs.Worlds.{tables_of}
 use Rattle.tm_run.specs.Answers.{AreAnswered}
 use Rattle.tm_run.specs.Marks.{IsMatrixReport}
 use Rattle.tm_run.specs.Matches.{IsBytesReport}
 use Rattle.tm_run.specs.Needs.{IsNeedsReport}
+use Rattle.tm_run.specs.Refutations.{IsRefuteReport, IsVerifyReport}
 use Rattle.tm_run.specs.Report.{report_for, status_of}
 use Rattle.tm_run.specs.declared.options.Mode.{Mode}
-use Rattle.tm_run.specs.declared.options.Mode.TheVariants.{Needs, Matrix, Bytes}
+use Rattle.tm_run.specs.declared.options.Mode.TheVariants.{Needs, Matrix, Bytes, Refute, Verify}
 use Rattle.tm_run.specs.declared.options.Options.{Options}
 use Rattle.tm_run.specs.declared.status.Status.{Status}
 
@@ -26,3 +28,5 @@ IsReported None options file world = IsAnswersReport options file world
 IsReported (Some Needs) options file world = IsNeedsReport world
 IsReported (Some Matrix) options file world = IsMatrixReport world
 IsReported (Some (Bytes bytes)) options file world = IsBytesReport bytes world
+IsReported (Some (Refute number)) options file world = IsRefuteReport (tables_of world) world.questions number file
+IsReported (Some (Verify number x)) options file world = IsVerifyReport (tables_of world) world.questions number x

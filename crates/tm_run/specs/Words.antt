@@ -11,16 +11,24 @@ use Rattle.tm_base.specs.declared.profile.Profile.TheVariants.{Le64, Be64, Le32}
 use Rattle.tm_run.specs.declared.options.Choice.{Choice}
 use Rattle.tm_run.specs.declared.options.Choice.TheVariants as choice
 use Rattle.tm_run.specs.declared.options.Mode.{Mode}
-use Rattle.tm_run.specs.declared.options.Mode.TheVariants.{Needs, Matrix, Bytes}
+use Rattle.tm_run.specs.declared.options.Mode.TheVariants.{Needs, Matrix, Bytes, Refute}
 use Rattle.tm_run.specs.declared.options.Options.{Options}
 use Rattle.tm_validate.specs.Digits.{are_digits}
 
--- from one to twenty ASCII digits, whose number is below 2^64
-abbrev pub is_number : List ℕ → Bool
-is_number text = nat_lt 0 (length text) && (nat_le (length text) 20 && (list_all is_ascii_digit text && nat_lt (digits_value 10 text) (2 ^ 64)))
+-- ASCII digits, one and no more than so many, whose number has so many bits
+abbrev pub is_number : ℕ → ℕ → List ℕ → Bool
+is_number most bits text = nat_lt 0 (length text) && (nat_le (length text) most && (list_all is_ascii_digit text && nat_lt (digits_value 10 text) (2 ^ bits)))
 
+abbrev pub number_in : ℕ → ℕ → List ℕ → Option ℕ
+number_in most bits text = if is_number most bits text then Some (digits_value 10 text) else None
+
+-- the number of a file, below 2^64
 abbrev pub number_of : List ℕ → Option ℕ
-number_of text = if is_number text then Some (digits_value 10 text) else None
+number_of = number_in 20 64
+
+-- the number of a question, below 2^32
+abbrev pub question_number : List ℕ → Option ℕ
+question_number = number_in 10 32
 
 -- the profile of a name
 abbrev pub profile_of : List ℕ → Option Profile
@@ -38,7 +46,8 @@ abbrev pub choice_with : List ℕ → List ℕ → Option Choice
 choice_with name value =
     if bytes_eq name (codes "--generate") then option_map choice.Generate (number_of value)
     else (if bytes_eq name (codes "--profile") then option_map choice.Profile (profile_of value)
-    else (if bytes_eq name (codes "--bytes") then option_map (λ bytes. choice.Mode (Bytes bytes)) (bytes_read value) else None))
+    else (if bytes_eq name (codes "--bytes") then option_map (λ bytes. choice.Mode (Bytes bytes)) (bytes_read value)
+    else (if bytes_eq name (codes "--refute") then option_map (λ number. choice.Mode (Refute number)) (question_number value) else None)))
 
 abbrev pub is_equals : ℕ → Bool
 is_equals b = b == 0x3D
@@ -48,13 +57,14 @@ is_equals b = b == 0x3D
 abbrev pub joined_choice : List ℕ → Option Choice
 joined_choice word = choice_with (before_first is_equals word) (after_first is_equals word)
 
--- what one word asks for by itself: `--summary`, a mode, or an option that has a value
+-- what one word asks for by itself: `--summary`, a mode without a value, or an option that has one
 abbrev pub choice_of : List ℕ → Option Choice
 choice_of word =
     if bytes_eq word (codes "--summary") then Some choice.Summary
     else (if bytes_eq word (codes "--needs") then Some (choice.Mode Needs)
     else (if bytes_eq word (codes "--matrix") then Some (choice.Mode Matrix)
-    else joined_choice word))
+    else (if bytes_eq word (codes "--verify") then Some choice.Verify
+    else joined_choice word)))
 
 -- one more choice before others
 abbrev pub before_choices : Choice → Option (List Choice) → Option (List Choice)
@@ -90,11 +100,16 @@ abbrev pub with_mode : Mode → Options → Option Mode → Option Options
 with_mode mode options None = Some (record options { mode = Some mode })
 with_mode mode options (Some other) = None
 
+abbrev pub with_verify : Options → Bool → Option Options
+with_verify options false = Some (record options { verify = true })
+with_verify options true = None
+
 abbrev pub with_choice : Choice → Options → Option Options
 with_choice choice.Summary options = with_summary options options.summary
 with_choice (choice.Generate number) options = with_number number options options.generate
 with_choice (choice.Profile profile) options = with_profile profile options options.profile
 with_choice (choice.Mode mode) options = with_mode mode options options.mode
+with_choice choice.Verify options = with_verify options options.verify
 
 -- some options and further choices, where no option is chosen twice, and no two modes are
 unfoldable pub with_choices : Options → List Choice → Option Options
@@ -102,15 +117,17 @@ with_choices options [] = Some options
 with_choices options (choice ∷ choices) = option_and_then (λ more. with_choices more choices) (with_choice choice options)
 
 abbrev pub no_options : Options
-no_options = record { summary = false; generate = None; profile = None; mode = None }
+no_options = record { summary = false; generate = None; profile = None; mode = None; verify = false }
 
 -- what the words choose, one option after another
 abbrev pub gathered : List (List ℕ) → Option Options
 gathered words = option_and_then (with_choices no_options) (choices_of words)
 
--- with a mode neither a summary nor a generated file is asked for
+-- there is one mode at most, of which `--verify` is one, and with it neither a summary nor a generated file is asked for
 abbrev pub go_together : Options → Bool
-go_together options = not (is_some options.mode) || (not options.summary && not (is_some options.generate))
+go_together options =
+    (not (is_some options.mode) || not options.verify)
+    && (not (is_some options.mode || options.verify) || (not options.summary && not (is_some options.generate)))
 
 abbrev pub if_together : Options → Option Options
 if_together options = if go_together options then Some options else None

@@ -75,6 +75,10 @@ pub fn with_questions(
             asks: own_questions(alloc, parsed.decls.as_slice())?,
             ..resolved
         }),
-        None | Some(Mode::Needs) | Some(Mode::Bytes(_)) => Ok(resolved),
+        None
+        | Some(Mode::Needs)
+        | Some(Mode::Bytes(_))
+        | Some(Mode::Refute(_))
+        | Some(Mode::Verify(_, _)) => Ok(resolved),
     }
 }

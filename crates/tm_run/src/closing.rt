@@ -1,7 +1,7 @@
-ghost use Rattle.std.specs.Prelude.{◌≡◌, ℕ, List, IfOk, IfErr};
+ghost use Rattle.std.specs.Prelude.{◌≡◌, ℕ, false, true, Some, List, IfErr, IfNone, IfOk, IfSome};
 ghost use Rattle.tm_names.specs.ApartNames.{HasApartNames};
 ghost use Rattle.tm_names.specs.InForm.{IsInForm};
-ghost use Rattle.tm_run.specs.Asking.{passes_mode};
+ghost use Rattle.tm_run.specs.Asking.{is_no_question, lacks_question, number_asked, passes_mode};
 ghost use Rattle.tm_run.specs.Examined.{IsExamined, IsMeaningOf, IsStop};
 
 use crate::options::{Mode, Options};
@@ -21,7 +21,33 @@ fn passes_mode(options: &Options, questions: usize) -> bool
 {
     match &options.mode {
         Some(Mode::Matrix) => questions > LimitKind::MatrixTypes.number() as usize,
-        None | Some(Mode::Needs) | Some(Mode::Bytes(_)) => false,
+        None
+        | Some(Mode::Needs)
+        | Some(Mode::Bytes(_))
+        | Some(Mode::Refute(_))
+        | Some(Mode::Verify(_, _)) => false,
+    }
+}
+
+/// Whether a number, from 1, is that of none of so many questions.
+fn is_no_question(number: u32, questions: usize) -> bool
+    ensures { result ≡ is_no_question number questions }
+{
+    number == 0 || questions < number as usize
+}
+
+/// The number of the question that is asked of, where it is that of none of so many.
+fn no_question(options: &Options, questions: usize) -> Option<u32>
+    ensures some { IfSome result (λ number. (number_asked options.now.mode ≡ Some number)
+        × (is_no_question number questions ≡ true)) }
+    ensures none { IfNone result
+        (lacks_question (number_asked options.now.mode) questions ≡ false) }
+{
+    let number = options.number_asked()?;
+    if is_no_question(number, questions) {
+        Some(number)
+    } else {
+        None
     }
 }
 
@@ -35,8 +61,12 @@ pub fn world(alloc: Global, options: &Options, resolved: &Resolved) -> Result<Wo
         → IfErr result (IsStop options.now file) }
 {
     let world = ground(alloc, resolved)?;
-    if passes_mode(options, world.questions.len()) {
+    let questions = world.questions.len();
+    if passes_mode(options, questions) {
         return Err(Stop::Fault(TOO_MANY_TYPES));
     }
-    Ok(world)
+    match no_question(options, questions) {
+        Some(number) => Err(Stop::Fault(FileFault::NoQuestion(number))),
+        None => Ok(world),
+    }
 }

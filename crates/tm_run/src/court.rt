@@ -1,7 +1,11 @@
-ghost use Rattle.std.specs.Prelude.{◌≡◌, ◌<◌, IfOk};
+ghost use Rattle.std.specs.Prelude.{◌≡◌, ◌<◌, ◌≤◌, IfErr, IfNone, IfOk, IfSome};
 ghost use Rattle.tm_base.specs.Answers.{IsAnswer};
 ghost use Rattle.tm_base.specs.Worlds.{IsTypeOver, tables_of};
 ghost use Rattle.tm_layout.specs.Made.{IsMadeFor};
+ghost use Rattle.tm_refute.specs.Chosen.{IsRefutable, IsRefutationOf};
+ghost use Rattle.tm_refute.specs.TextForms.{cells_of, most_cells_together};
+ghost use Rattle.tm_refute.specs.declared.refutation.Refutation.{Refutation};
+ghost use Rattle.tm_refute.specs.declared.stop.RefuteErr.TheVariants.{TooLong};
 
 use crate::kinds::is_yes;
 use crate::solved::place_for;
@@ -12,6 +16,7 @@ use tm_base::{Answer, Ask, AskYes, Memory, Steps, World};
 use tm_judge::judge;
 use tm_layout::Layouts;
 use tm_refs::Compat;
+use tm_refute::{Refutation, RefuteErr, refute};
 use tm_region::Order;
 
 /// All that the questions of a world are judged by. Contracts see it as the world's tables.
@@ -89,6 +94,39 @@ impl<'a, L: Ledger> Court<'a, L> {
             &self.solved[place],
             ask,
             &mut self.steps,
+        )
+    }
+}
+
+impl<'a, L: Ledger> Court<'a, L> {
+    /// The refutation of a question; `None` where it has none.
+    pub fn refutation(&mut self, alloc: Global, ask: &Ask) -> Result<Option<Refutation>, RefuteErr>
+        requires source { IsTypeOver self.old ask.now.src }
+        requires target { IsTypeOver self.old ask.now.dst }
+        ensures some { IfOk result (λ found. IfSome found (IsRefutationOf self.old ask.now)) }
+        ensures short { IfOk result (λ found. IfSome found (λ x. cells_of x ≤ most_cells_together)) }
+        ensures none { IfOk result (λ found. IfNone found (¬ IsRefutable self.old ask.now)) }
+        ensures long { IfErr result (λ error. error ≡ TooLong
+            → (x : Refutation) × IsRefutationOf self.old ask.now x
+            × (most_cells_together < cells_of x)) }
+        ensures world { self.new ≡ self.old }
+    {
+        let place = place_for(
+            alloc,
+            self.world,
+            self.layouts,
+            &self.order,
+            &mut self.solved,
+            ask.assume,
+            &mut self.steps,
+        )?;
+        refute(
+            alloc,
+            self.world,
+            self.layouts,
+            &self.order,
+            &self.solved[place],
+            ask,
         )
     }
 }

@@ -17,6 +17,7 @@ mod need_lines;
 mod needing;
 mod options;
 mod places;
+mod refuting;
 mod report;
 mod reported;
 mod running;

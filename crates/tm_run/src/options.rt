@@ -1,8 +1,10 @@
 ghost use Rattle.std.specs.Prelude.{◌≡◌};
+ghost use Rattle.tm_run.specs.Asking.{number_asked};
 ghost use Rattle.tm_run.specs.Words.{go_together, no_options, profile_for, with_choice};
 
 use crate::bytes::Bytes;
 use tm_base::Profile;
+use tm_refute::Refutation;
 
 /// What is asked of a file in place of the report on its questions.
 #[derive(Debug, Drop)]
@@ -13,6 +15,10 @@ pub enum Mode {
     Matrix,
     /// Whether these bytes are a value of each question's target.
     Bytes(Bytes),
+    /// What shows that the answer to the question of this number, from 1, is no.
+    Refute(u32),
+    /// Whether this refutation of the question of this number, from 1, holds.
+    Verify(u32, Refutation),
 }
 
 /// What the words of a run ask for.
@@ -24,8 +30,10 @@ pub struct Options {
     pub generate: Option<u64>,
     /// The profile that is named, if one is.
     pub profile: Option<Profile>,
-    /// The mode, if one is named.
+    /// What is asked in place of the report, if anything is.
     pub mode: Option<Mode>,
+    /// The file stands behind the text of a refutation, which is to be verified.
+    pub verify: bool,
 }
 
 /// What one option asks for.
@@ -35,6 +43,7 @@ pub enum Choice {
     Generate(u64),
     Profile(Profile),
     Mode(Mode),
+    Verify,
 }
 
 impl Options {
@@ -47,6 +56,7 @@ impl Options {
             generate: None,
             profile: None,
             mode: None,
+            verify: false,
         }
     }
 
@@ -71,15 +81,31 @@ impl Options {
                 mode: Some(mode),
                 ..self
             }),
+            Choice::Verify if !self.verify => Some(Options {
+                verify: true,
+                ..self
+            }),
             _ => None,
         }
     }
 
-    /// Whether a mode, if there is one, stands with neither a summary nor a generated file.
+    /// Whether there is one mode at most, and it stands with neither a summary nor a generated file.
     pub fn go_together(&self) -> bool
         ensures { result ≡ go_together self.now }
     {
-        self.mode.is_none() || (!self.summary && self.generate.is_none())
+        let modes = self.mode.is_some() || self.verify;
+        (self.mode.is_none() || !self.verify)
+            && (!modes || (!self.summary && self.generate.is_none()))
+    }
+
+    /// The number of the one question that the mode asks of, if it asks of one.
+    pub fn number_asked(&self) -> Option<u32>
+        ensures { result ≡ number_asked self.now.mode }
+    {
+        match &self.mode {
+            Some(Mode::Refute(number)) | Some(Mode::Verify(number, _)) => Some(*number),
+            None | Some(Mode::Needs) | Some(Mode::Matrix) | Some(Mode::Bytes(_)) => None,
+        }
     }
 
     /// The profile for which files are answered: `le64` where none is named.

@@ -1,9 +1,10 @@
-ghost use Rattle.std.specs.Prelude.{◌≡◌, ◌<◌, ◌≤◌, false, IfOk, length};
+ghost use Rattle.std.specs.Prelude.{◌≡◌, ◌<◌, ◌≤◌, false, IfErr, IfOk, IsUtf8, length};
 ghost use Rattle.tm_base.specs.declared.limit.LimitKind.TheVariants.{MatrixTypes};
 ghost use Rattle.tm_base.specs.Limits.{limit_number};
 ghost use Rattle.tm_base.specs.Worlds.{tables_of};
 ghost use Rattle.tm_layout.specs.Made.{IsMadeFor};
-ghost use Rattle.tm_run.specs.Asking.{passes_mode};
+ghost use Rattle.tm_run.specs.Asking.{lacks_question, number_asked, passes_mode};
+ghost use Rattle.tm_run.specs.Examined.{IsReportStop};
 ghost use Rattle.tm_run.specs.Marks.{IsMatrixReport};
 ghost use Rattle.tm_run.specs.Matches.{IsBytesReport};
 ghost use Rattle.tm_run.specs.Needs.{IsNeedsReport};
@@ -17,8 +18,10 @@ use crate::matching::{all_valid, matches};
 use crate::need_lines::need_lines;
 use crate::needing::{all_met, needs};
 use crate::options::{Mode, Options};
+use crate::refuting::{refuted, verified};
 use crate::report::{report, status, status_when};
 use crate::status::Status;
+use crate::stop::Stop;
 use std::alloc::Global;
 use std::marker::Brand;
 use std::sync::ledger::{Blank, Ledger};
@@ -98,21 +101,27 @@ fn reported_by<L: Ledger>(
     file: &[u8],
     world: &World,
     blank: Blank,
-) -> Result<(Status, Text), Memory>
+) -> Result<(Status, Text), Stop>
     requires name { blank.name ≡ L.name }
     requires parts { blank.parts ≡ L.parts }
     requires some { 0 < L.parts }
     requires few { passes_mode options.now.mode (length world.now.questions) ≡ false }
-    ensures { IfOk result (λ outcome.
+    requires there { lacks_question (number_asked options.now.mode)
+        (length world.now.questions) ≡ false }
+    requires utf8 { IsUtf8 file.now }
+    ensures report { IfOk result (λ outcome.
         IsReported options.now.mode options.now file.now world.now outcome.0 outcome.1) }
+    ensures stop { IfErr result (IsReportStop options.now.mode world.now) }
 {
     let layouts = Layouts::new(alloc, world)?;
     let mut court: Court<L> = Court::new(alloc, world, &layouts, blank)?;
     match &options.mode {
-        None => answered(alloc, options, file, world, &mut court),
-        Some(Mode::Needs) => needed(alloc, world, &mut court),
-        Some(Mode::Matrix) => matrixed(alloc, world, &layouts, &mut court),
-        Some(Mode::Bytes(bytes)) => matched(alloc, world, &layouts, bytes.as_slice()),
+        None => Ok(answered(alloc, options, file, world, &mut court)?),
+        Some(Mode::Needs) => Ok(needed(alloc, world, &mut court)?),
+        Some(Mode::Matrix) => Ok(matrixed(alloc, world, &layouts, &mut court)?),
+        Some(Mode::Bytes(bytes)) => Ok(matched(alloc, world, &layouts, bytes.as_slice())?),
+        Some(Mode::Refute(number)) => refuted(alloc, file, world, &mut court, *number),
+        Some(Mode::Verify(number, x)) => Ok(verified(alloc, world, &layouts, *number, x)?),
     }
 }
 
@@ -122,10 +131,14 @@ pub fn reported(
     options: &Options,
     file: &[u8],
     world: &World,
-) -> Result<(Status, Text), Memory>
-    requires { passes_mode options.now.mode (length world.now.questions) ≡ false }
-    ensures { IfOk result (λ outcome.
+) -> Result<(Status, Text), Stop>
+    requires few { passes_mode options.now.mode (length world.now.questions) ≡ false }
+    requires there { lacks_question (number_asked options.now.mode)
+        (length world.now.questions) ≡ false }
+    requires utf8 { IsUtf8 file.now }
+    ensures report { IfOk result (λ outcome.
         IsReported options.now.mode options.now file.now world.now outcome.0 outcome.1) }
+    ensures stop { IfErr result (IsReportStop options.now.mode world.now) }
 {
     reported_by::<Brand>(alloc, options, file, world, Blank::new(1))
 }

@@ -83,6 +83,9 @@ pub fn run<S: Source, K: Sink>(alloc: Global, words: &[String], src: &mut S, out
     ensures ill_formed { (options : Options) (file : List ℕ)
         → IsRunOn (asked words.now) (S.left src.old) options file result
         → (result ≡ Status.IllFormed ↔ IsFaulty options file Status.IllFormed) }
+    ensures no_question { (options : Options) (file : List ℕ)
+        → IsRunOn (asked words.now) (S.left src.old) options file result
+        → (result ≡ Status.NoQuestion ↔ IsFaulty options file Status.NoQuestion) }
     ensures read_fault { result ≡ Status.ReadFault → Rose (S.faults src.old) (S.faults src.new) }
     ensures read_risen { S.faults src.old < S.faults src.new → result ≡ Status.ReadFault }
     ensures write_fault { result ≡ Status.WriteFault → Rose (K.faults out.old) (K.faults out.new) }

@@ -24,6 +24,8 @@ pub enum Status {
     Memory,
     /// A name in the file is at fault, and the line that says so was written.
     IllFormed,
+    /// A question was asked of by a number that the file doesn't have, and the line that says so was written.
+    NoQuestion,
 }
 
 /// How a run ends whose file has the fault.
@@ -33,6 +35,7 @@ pub fn fault_status(fault: FileFault) -> Status
     match fault {
         FileFault::Passed(_, _) => Status::Limit,
         FileFault::Names(_, _) => Status::IllFormed,
+        FileFault::NoQuestion(_) => Status::NoQuestion,
         _ => Status::BadText,
     }
 }

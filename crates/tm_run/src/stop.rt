@@ -1,10 +1,11 @@
 ghost use Rattle.std.specs.Prelude.{◌≡◌};
-ghost use Rattle.tm_run.specs.Examined.{stop_of};
+ghost use Rattle.tm_run.specs.Examined.{stop_of, stop_of_refuting};
 ghost use Rattle.tm_run.specs.declared.stop.Stop.TheVariants as stop_is;
 
 use std::alloc::AllocError;
 use tm_base::{LimitKind, Memory};
 use tm_ground::GroundErr;
+use tm_refute::RefuteErr;
 use tm_report::FileFault;
 
 /// Why there is no report: the file's fault, or memory was wanting.
@@ -42,5 +43,18 @@ impl From<GroundErr> for Stop {
             GroundErr::Memory => return Stop::Memory,
         };
         Stop::Fault(FileFault::Passed(kind, None))
+    }
+}
+
+impl From<RefuteErr> for Stop {
+    ghost from_gives = { λ err stop. stop ≡ stop_of_refuting err };
+
+    fn from(err: RefuteErr) -> Stop {
+        match err {
+            RefuteErr::TooLong => {
+                Stop::Fault(FileFault::Passed(LimitKind::RefutationCells, None))
+            }
+            RefuteErr::Memory => Stop::Memory,
+        }
     }
 }

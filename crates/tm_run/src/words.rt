@@ -2,7 +2,7 @@ ghost use Rattle.std.specs.Prelude.{◌≡◌, ◌+◌, ◌≤◌, ◌∷◌, If
 ghost use Rattle.std.specs.Char.{is_ascii_digit};
 ghost use Rattle.std.specs.List.{list_all};
 ghost use Rattle.tm_run.specs.Reading.{IsFirstChoice, IsNextWord};
-ghost use Rattle.tm_run.specs.Words.{asked, choice_of, choice_with, gathered, joined_choice, number_of, profile_of, texts_of};
+ghost use Rattle.tm_run.specs.Words.{asked, choice_of, choice_with, gathered, joined_choice, number_of, profile_of, question_number, texts_of};
 
 use crate::bytes::Bytes;
 use crate::options::{Choice, Mode, Options};
@@ -60,6 +60,17 @@ fn number_of(text: &str) -> Option<u64>
     }
 }
 
+/// The number of a question that at most ten digits write, where it is below 2^32.
+fn question_number(text: &str) -> Option<u32>
+    ensures { result ≡ question_number text.now }
+{
+    if text.len() <= 10 && is_decimal(text) {
+        text.parse().ok()
+    } else {
+        None
+    }
+}
+
 /// The profile of a name.
 fn profile_of(name: &str) -> Option<Profile>
     ensures { result ≡ profile_of name.now }
@@ -80,6 +91,7 @@ fn choice_with(alloc: Global, name: &str, value: &str) -> Result<Option<Choice>,
         "--generate" => number_of(value).map(Choice::Generate),
         "--profile" => profile_of(value).map(Choice::Profile),
         "--bytes" => Bytes::read(alloc, value)?.map(|bytes| Choice::Mode(Mode::Bytes(bytes))),
+        "--refute" => question_number(value).map(|number| Choice::Mode(Mode::Refute(number))),
         _ => None,
     };
     Ok(choice)
@@ -103,6 +115,7 @@ fn choice_of(alloc: Global, word: &str) -> Result<Option<Choice>, Memory>
         "--summary" => Ok(Some(Choice::Summary)),
         "--needs" => Ok(Some(Choice::Mode(Mode::Needs))),
         "--matrix" => Ok(Some(Choice::Mode(Mode::Matrix))),
+        "--verify" => Ok(Some(Choice::Verify)),
         _ => joined_choice(alloc, word),
     }
 }

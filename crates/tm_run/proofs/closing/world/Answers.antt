@@ -1,8 +1,8 @@
-use Rattle.std.proofs.Common.{◌∙◌, ap, sym}
+use Rattle.std.proofs.Common.{◌≡◌, ◌∙◌, ℕ, Bool, true, false, Option, Some, None, length, ap, sym, subst}
 use Rattle.tm_base.specs.declared.limit.LimitKind.TheVariants.{MatrixTypes}
-use Rattle.tm_run.specs.Asking.{passes_mode}
+use Rattle.tm_run.specs.Asking.{is_no_question, lacks_question, number_asked, passes_mode}
 use Rattle.tm_run.specs.Examined.{IsStop, stop_of}
-use Rattle.tm_run.proofs.ClosingLemmas.{as-many, cause_stops, examined, limit_only}
+use Rattle.tm_run.proofs.ClosingLemmas.{as-many, cause_stops, examined, limit_only, question_only}
 use Rattle.tm_run.proofs.FaultLemmas.{passed_on}
 use Rattle.tm_run.proofs.closing.world.Goals as goal
 
@@ -16,11 +16,22 @@ returns-then-passes_mode-clause-stop c = λ file m.
     let mode = c.args.options.now.mode in
     let many = as-many c.args.resolved.now c.in_ok-world.world c.in_ok-world.ensures.world in
     limit_only c.args.options.now file c.args.resolved.now m MatrixTypes
-    (c.in_ok-world.ensures.fits, ap (passes_mode mode) (sym many) ∙ ap (passes_mode mode) (sym c.len.ensures) ∙ sym c.passes_mode.ensures ∙ c.if-passes_mode.true)
+    (c.in_ok-world.ensures.fits, ap (passes_mode mode) (sym many) ∙ ap (passes_mode mode) (sym c.len-questions.ensures) ∙ sym c.passes_mode.ensures ∙ c.if-passes_mode.true) (λ e. cc)
 
-pub returns-clause-world : goal.returns-clause-world
-returns-clause-world c = λ file m.
+pub returns-in-Some-clause-stop : goal.returns-in-Some-clause-stop
+returns-in-Some-clause-stop c = λ file m.
     let mode = c.args.options.now.mode in
     let many = as-many c.args.resolved.now c.in_ok-world.world c.in_ok-world.ensures.world in
-    examined c.args.options.now file c.args.resolved.now m c.in_ok-world.world c.requires.form c.requires.names c.in_ok-world.ensures.fits
-    (ap (passes_mode mode) (sym many) ∙ ap (passes_mode mode) (sym c.len.ensures) ∙ sym c.passes_mode.ensures ∙ c.if-passes_mode.false) c.in_ok-world.ensures.world
+    question_only c.args.options.now file c.args.resolved.now m c.in_ok-world.ensures.fits
+    (ap (passes_mode mode) (sym many) ∙ ap (passes_mode mode) (sym c.len-questions.ensures) ∙ sym c.passes_mode.ensures ∙ c.if-passes_mode.false)
+    c.in-Some.number c.in-Some.ensures.some.0
+    (ap (is_no_question c.in-Some.number) (sym many) ∙ ap (is_no_question c.in-Some.number) (sym c.len-questions.ensures) ∙ c.in-Some.ensures.some.1)
+
+pub returns-in-None-clause-world : goal.returns-in-None-clause-world
+returns-in-None-clause-world c = λ file m.
+    let mode = c.args.options.now.mode in
+    let many = as-many c.args.resolved.now c.in_ok-world.world c.in_ok-world.ensures.world in
+    examined c.args.options.now file c.args.resolved.now m c.in_ok-world.ensures.fits
+    (ap (passes_mode mode) (sym many) ∙ ap (passes_mode mode) (sym c.len-questions.ensures) ∙ sym c.passes_mode.ensures ∙ c.if-passes_mode.false)
+    c.in_ok-world.world c.requires.form c.requires.names
+    (ap (lacks_question (number_asked mode)) (sym many) ∙ ap (lacks_question (number_asked mode)) (sym c.len-questions.ensures) ∙ c.in-None.ensures.none) c.in_ok-world.ensures.world

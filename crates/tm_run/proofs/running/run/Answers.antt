@@ -57,3 +57,6 @@ returns-clause-unread g c = (did-keeps _ _ _ _ _ _ _ _ _ _ c.done.ensures).unrea
 
 pub returns-clause-taken : goal.returns-clause-taken
 returns-clause-taken g c = (did-keeps _ _ _ _ _ _ _ _ _ _ c.done.ensures).taken
+
+pub returns-clause-no_question : goal.returns-clause-no_question
+returns-clause-no_question g c = (did-keeps _ _ _ _ _ _ _ _ _ _ c.done.ensures).no_question

@@ -6,4 +6,4 @@ pub returns-then-is_decimal : goal.returns-then-is_decimal
 returns-then-is_decimal c =
     let few = c.if-text-le20.true in
     let decimal = sym c.is_decimal.ensures ∙ c.if-is_decimal.true in
-    number-read c.args.text.now c.parse.result c.parse.ensures.value.0 (omega (arith, few)) decimal c.ok.result c.ok.ensures.value
+    number-read 20 64 c.args.text.now c.parse.result c.parse.ensures.value.0 (omega (arith, few)) decimal c.ok.result c.ok.ensures.value

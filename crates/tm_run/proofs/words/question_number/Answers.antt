@@ -1,0 +1,9 @@
+use Rattle.std.proofs.Common.{◌∙◌, sym, arith}
+use Rattle.tm_run.proofs.WordLemmas.{number-read}
+use Rattle.tm_run.proofs.words.question_number.Goals as goal
+
+pub returns-then-is_decimal : goal.returns-then-is_decimal
+returns-then-is_decimal c =
+    let few = c.if-text-le10.true in
+    let decimal = sym c.is_decimal.ensures ∙ c.if-is_decimal.true in
+    number-read 10 32 c.args.text.now c.parse.result c.parse.ensures.value.0 (omega (arith, few)) decimal c.ok.result c.ok.ensures.value
