@@ -1,5 +1,5 @@
 -- What is decided of a file: the report on it, or its fault.
-use Rattle.std.proofs.Common.{◌≡◌, ◌≢◌, ◌∙◌, ℕ, ◌⊎◌, inl, inr, ◌↔◌, refl, sym, ap, subst, Option, List}
+use Rattle.std.proofs.Common.{◌≡◌, ◌≢◌, ◌∙◌, ℕ, ◌⊎◌, inl, inr, ◌↔◌, refl, sym, ap, subst, List}
 use Rattle.tm_base.specs.declared.world.World.{World}
 use Rattle.tm_base.specs.Worlds.{tables_of}
 use Rattle.tm_report.specs.FaultLines.{line_of}
@@ -13,7 +13,7 @@ use Rattle.tm_run.specs.Files.{IsAccepted, IsTooLong, IsWorldOf}
 use Rattle.tm_run.specs.Refutations.{PassesCells}
 use Rattle.tm_run.specs.Outcomes.{IsFileOutcome, IsReport, IsSettled}
 use Rattle.tm_run.specs.Reported.{IsReported}
-use Rattle.tm_run.specs.Runs.{Answers, Decides, Declines}
+use Rattle.tm_run.specs.Runs.{Decides}
 use Rattle.tm_run.specs.declared.options.Options.{Options}
 use Rattle.tm_run.specs.declared.status.Status.{Status}
 use Rattle.tm_run.specs.declared.status.Status.TheVariants.{AllYes, Mixed, Usage, BadText, Limit, IllFormed, NoQuestion as NoSuchQuestion}
@@ -38,7 +38,7 @@ fault_status (Names why at) = inr (inr (inl refl))
 fault_status (BadRefutation line) = inl refl
 fault_status (NoQuestion number) = inr (inr (inr refl))
 
-settled_fault : (fault : FileFault) → IsSettled (status_of_fault fault)
+pub settled_fault : (fault : FileFault) → IsSettled (status_of_fault fault)
 settled_fault fault = by (fault_status fault)
   where
     by : OneOfFaults (status_of_fault fault) → IsSettled (status_of_fault fault)
@@ -68,7 +68,7 @@ module _ (options : Options) (file : List ℕ) (status : Status) (text : List �
       by (inr e) = (λ k. cc, λ k. cc, λ k. cc, λ k. cc, λ k. cc)
 
 -- and a fault's status is none of a report's or of a misuse
-not_of_fault : (fault : FileFault) (status : Status) → status ≡ status_of_fault fault → (status ≢ Usage) × (status ≢ AllYes) × (status ≢ Mixed)
+pub not_of_fault : (fault : FileFault) (status : Status) → status ≡ status_of_fault fault → (status ≢ Usage) × (status ≢ AllYes) × (status ≢ Mixed)
 not_of_fault fault status is = by (fault_status fault)
   where
     by : OneOfFaults (status_of_fault fault) → (status ≢ Usage) × (status ≢ AllYes) × (status ≢ Mixed)
@@ -91,13 +91,6 @@ fault_decides options file fault one = record {
   some_does_not = λ s. absurd (one.refused (accepted_of options file s.world s.of_file));
   faulted = λ other h. (sym (ap status_of_fault (one.only other h)), sym (ap line_of (one.only other h)));
 }
-
--- a file with one fault is answered by its line
-pub fault-answers : (options : Options) (file : List ℕ) (fault : FileFault) (written written' : Option (List ℕ)) (faults faults' : ℕ) (result : Status)
-    → IsOnlyFault options file fault → Declines written written' faults faults' fault result → Answers written written' faults faults' options file result
-fault-answers options file fault written written' faults faults' result one (inl f) =
-    inl (record { status = status_of_fault fault; text = line_of fault; decides = fault_decides options file fault one; finishes = f })
-fault-answers options file fault written written' faults faults' result one (inr wants) = inr wants
 
 -- what a file's world comes to decides it
 pub report_decides : (options : Options) (file : List ℕ) (world : World) (status : Status) (text : List ℕ) → IsExamined options file world

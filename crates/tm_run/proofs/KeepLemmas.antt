@@ -4,15 +4,14 @@ use Rattle.tm_io.specs.Faults.{Rose}
 use Rattle.tm_io.specs.Told.{AddsAll, AddsPrefix}
 use Rattle.tm_report.specs.declared.fault.FileFault.{FileFault}
 use Rattle.tm_run.specs.Held.{EachHolds, SomeDoesNot}
-use Rattle.tm_run.specs.Faults.{HasFault, IsFaulty}
-use Rattle.tm_run.specs.Files.{IsAccepted, file_bytes}
-use Rattle.tm_run.specs.Outcomes.{IsFileOf, IsInput, IsOutcome, IsReport, IsRunOn, IsSettled, WritesFault, WritesOutcome, WritesPrefix, WritesReport}
-use Rattle.tm_run.specs.Runs.{Decides, Finishes, IsSilent}
+use Rattle.tm_run.specs.Files.{IsAccepted}
+use Rattle.tm_run.specs.Inputs.{HasInputFault, IsFaultyInput, OfInput, most_read}
+use Rattle.tm_run.specs.Outcomes.{IsInput, IsInputOf, IsInputReport, IsOutcome, IsRunOn, IsSettled, WritesFault, WritesOutcome, WritesPrefix, WritesReport}
+use Rattle.tm_run.specs.Runs.{DecidesInput, Finishes, IsSilent}
 use Rattle.tm_run.specs.Words.{is_read}
 use Rattle.tm_run.specs.declared.options.Options.{Options}
 use Rattle.tm_run.specs.declared.status.Status.{Status}
 use Rattle.tm_run.specs.declared.status.Status.TheVariants.{AllYes, Mixed, Usage, BadText, Limit, ReadFault, WriteFault, Memory, IllFormed, NoQuestion}
-use Rattle.tm_run.proofs.DecideLemmas.{decides_all_yes, decides_faulty, decides_mixed, not_of_report}
 
 pub settled_status : (status : Status) → IsSettled status → (status ≢ ReadFault) × (status ≢ WriteFault) × (status ≢ Memory)
 settled_status AllYes h = (λ e. cc, λ e. cc, λ e. cc)
@@ -29,88 +28,88 @@ settled_status Memory h = absurd h
 module _ (asked : Option Options) (left left' : Option (List ℕ)) (reads reads' : ℕ) (written written' : Option (List ℕ)) (writes writes' : ℕ) where
   -- what a run keeps, by its status
   pub record Keeps (status : Status) : Type 0 where
-    pub headline : (options : Options) (file : List ℕ) → IsRunOn asked left options file status → IsAccepted options file → WritesReport options file status written written'
-    pub only_report : (options : Options) (file : List ℕ) → IsRunOn asked left options file status → (other : Status) (text : List ℕ) → IsReport options file other text → (other ≡ status) × AddsAll written written' text
+    pub headline : (options : Options) (input : List ℕ) → IsRunOn asked left options input status → OfInput IsAccepted options input → WritesReport options input status written written'
+    pub only_report : (options : Options) (input : List ℕ) → IsRunOn asked left options input status → (other : Status) (text : List ℕ) → IsInputReport options input other text → (other ≡ status) × AddsAll written written' text
     pub outcome : IsSettled status → WritesOutcome asked left status written written'
     pub part : status ≡ WriteFault → WritesPrefix asked left written written'
     pub silent_fault : status ≡ ReadFault → written' ≡ written
     pub silent_memory : status ≡ Memory → written' ≡ written
-    pub fault : (options : Options) (file : List ℕ) → IsRunOn asked left options file status → (fault : FileFault) → HasFault options file fault → WritesFault fault status written written'
-    pub all_yes : (options : Options) (file : List ℕ) → IsRunOn asked left options file status → (status ≡ AllYes ↔ EachHolds options file)
-    pub mixed : (options : Options) (file : List ℕ) → IsRunOn asked left options file status → (status ≡ Mixed ↔ SomeDoesNot options file)
+    pub fault : (options : Options) (input : List ℕ) → IsRunOn asked left options input status → (fault : FileFault) → HasInputFault options input fault → WritesFault fault status written written'
+    pub all_yes : (options : Options) (input : List ℕ) → IsRunOn asked left options input status → (status ≡ AllYes ↔ OfInput EachHolds options input)
+    pub mixed : (options : Options) (input : List ℕ) → IsRunOn asked left options input status → (status ≡ Mixed ↔ OfInput SomeDoesNot options input)
     pub usage : IsSettled status → (status ≡ Usage ↔ asked ≡ None)
-    pub bad_text : (options : Options) (file : List ℕ) → IsRunOn asked left options file status → (status ≡ BadText ↔ IsFaulty options file BadText)
-    pub limit : (options : Options) (file : List ℕ) → IsRunOn asked left options file status → (status ≡ Limit ↔ IsFaulty options file Limit)
-    pub ill_formed : (options : Options) (file : List ℕ) → IsRunOn asked left options file status → (status ≡ IllFormed ↔ IsFaulty options file IllFormed)
-    pub no_question : (options : Options) (file : List ℕ) → IsRunOn asked left options file status → (status ≡ NoQuestion ↔ IsFaulty options file NoQuestion)
+    pub bad_text : (options : Options) (input : List ℕ) → IsRunOn asked left options input status → (status ≡ BadText ↔ IsFaultyInput options input BadText)
+    pub limit : (options : Options) (input : List ℕ) → IsRunOn asked left options input status → (status ≡ Limit ↔ IsFaultyInput options input Limit)
+    pub ill_formed : (options : Options) (input : List ℕ) → IsRunOn asked left options input status → (status ≡ IllFormed ↔ IsFaultyInput options input IllFormed)
+    pub no_question : (options : Options) (input : List ℕ) → IsRunOn asked left options input status → (status ≡ NoQuestion ↔ IsFaultyInput options input NoQuestion)
     pub read_fault : status ≡ ReadFault → Rose reads reads'
     pub read_risen : reads < reads' → status ≡ ReadFault
     pub write_fault : status ≡ WriteFault → Rose writes writes'
     pub write_risen : writes < writes' → status ≡ WriteFault
     pub unread : is_read asked ≡ false → (left' ≡ left) × (reads' ≡ reads)
-    pub taken : (file : List ℕ) → is_read asked ≡ true → left ≡ Some file → status ≢ ReadFault → status ≢ Memory → left' ≡ Some (drop (file_bytes + 1) file)
+    pub taken : (input : List ℕ) → is_read asked ≡ true → left ≡ Some input → status ≢ ReadFault → status ≢ Memory → left' ≡ Some (drop (most_read asked + 1) input)
 
   -- what a run that comes to writing knows by then
   pub record Writes (status : Status) (text : List ℕ) : Type 0 where
     pub settled : IsSettled status
     pub usage : status ≡ Usage ↔ asked ≡ None
-    pub file : List ℕ
-    pub input : IsInput asked left file
-    pub outcome : IsOutcome asked file status text
-    pub decides : (options : Options) (file : List ℕ) → asked ≡ Some options → IsFileOf options.generate left file → Decides options file status text
+    pub input : List ℕ
+    pub input_is : IsInput asked left input
+    pub outcome : IsOutcome asked input status text
+    pub decides : (options : Options) (input : List ℕ) → asked ≡ Some options → IsInputOf options.generate left input → DecidesInput options input status text
     pub unrisen : reads' ≡ reads
     pub unread : is_read asked ≡ false → left' ≡ left
-    pub taken : (file : List ℕ) → is_read asked ≡ true → left ≡ Some file → left' ≡ Some (drop (file_bytes + 1) file)
+    pub taken : (input : List ℕ) → is_read asked ≡ true → left ≡ Some input → left' ≡ Some (drop (most_read asked + 1) input)
 
   all_written : (status : Status) (text : List ℕ) → Writes status text → AddsAll written written' text → (writes < writes' → status ≡ WriteFault) → Keeps status
   all_written status text w adds risen =
       let (no_read, no_write, no_memory) = settled_status status w.settled in record {
-        headline = λ options file r a. (text, (w.decides options file r.in_form r.file_is).accepted a, adds);
-        only_report = λ options file r other line report. let (s, t) = (w.decides options file r.in_form r.file_is).only other line report in
+        headline = λ options input r a. (text, (w.decides options input r.in_form r.input_is).accepted a, adds);
+        only_report = λ options input r other line report. let (s, t) = (w.decides options input r.in_form r.input_is).only other line report in
             (s, subst (λ (line : List ℕ). AddsAll written written' line) (sym t) adds);
-        outcome = λ s. record { file = w.file; input = w.input; text = text; outcome = w.outcome; adds = adds };
+        outcome = λ s. record { input = w.input; input_is = w.input_is; text = text; outcome = w.outcome; adds = adds };
         part = λ e. absurd (no_write e);
         silent_fault = λ e. absurd (no_read e);
         silent_memory = λ e. absurd (no_memory e);
-        fault = λ options file r fault h. let (s, t) = (w.decides options file r.in_form r.file_is).faulted fault h in
+        fault = λ options input r fault h. let (s, t) = (w.decides options input r.in_form r.input_is).faulted fault h in
             (s, subst (λ (line : List ℕ). AddsAll written written' line) t adds);
-        all_yes = λ options file r. decides_all_yes options file status text (w.decides options file r.in_form r.file_is);
-        mixed = λ options file r. decides_mixed options file status text (w.decides options file r.in_form r.file_is);
+        all_yes = λ options input r. (w.decides options input r.in_form r.input_is).all_yes;
+        mixed = λ options input r. (w.decides options input r.in_form r.input_is).mixed;
         usage = λ s. w.usage;
-        bad_text = λ options file r. decides_faulty options file status text (w.decides options file r.in_form r.file_is) BadText (λ s t report. (not_of_report options file s t report).2);
-        limit = λ options file r. decides_faulty options file status text (w.decides options file r.in_form r.file_is) Limit (λ s t report. (not_of_report options file s t report).1);
-        ill_formed = λ options file r. decides_faulty options file status text (w.decides options file r.in_form r.file_is) IllFormed (λ s t report. (not_of_report options file s t report).3);
-        no_question = λ options file r. decides_faulty options file status text (w.decides options file r.in_form r.file_is) NoQuestion (λ s t report. (not_of_report options file s t report).4);
+        bad_text = λ options input r. (w.decides options input r.in_form r.input_is).bad_text;
+        limit = λ options input r. (w.decides options input r.in_form r.input_is).limit;
+        ill_formed = λ options input r. (w.decides options input r.in_form r.input_is).ill_formed;
+        no_question = λ options input r. (w.decides options input r.in_form r.input_is).no_question;
         read_fault = λ e. absurd (no_read e);
         read_risen = λ r. let same = w.unrisen in absurd (omega arith);
         write_fault = λ e. absurd (no_write e);
         write_risen = risen;
         unread = λ h. (w.unread h, w.unrisen);
-        taken = λ file h told a b. w.taken file h told;
+        taken = λ input h told a b. w.taken input h told;
       }
 
   write_failed : (status : Status) (text : List ℕ) → Writes status text → AddsPrefix written written' text → Rose writes writes' → Keeps WriteFault
   write_failed status text w part rose = record {
-    headline = λ options file r a. absurd r.settled;
-    only_report = λ options file r other line report. absurd r.settled;
+    headline = λ options input r a. absurd r.settled;
+    only_report = λ options input r other line report. absurd r.settled;
     outcome = λ s. absurd s;
-    part = λ e. record { file = w.file; input = w.input; status = status; text = text; outcome = w.outcome; adds = part };
+    part = λ e. record { input = w.input; input_is = w.input_is; status = status; text = text; outcome = w.outcome; adds = part };
     silent_fault = λ e. cc;
     silent_memory = λ e. cc;
-    fault = λ options file r fault h. absurd r.settled;
-    all_yes = λ options file r. absurd r.settled;
-    mixed = λ options file r. absurd r.settled;
+    fault = λ options input r fault h. absurd r.settled;
+    all_yes = λ options input r. absurd r.settled;
+    mixed = λ options input r. absurd r.settled;
     usage = λ s. absurd s;
-    bad_text = λ options file r. absurd r.settled;
-    limit = λ options file r. absurd r.settled;
-    ill_formed = λ options file r. absurd r.settled;
-    no_question = λ options file r. absurd r.settled;
+    bad_text = λ options input r. absurd r.settled;
+    limit = λ options input r. absurd r.settled;
+    ill_formed = λ options input r. absurd r.settled;
+    no_question = λ options input r. absurd r.settled;
     read_fault = λ e. cc;
     read_risen = λ r. let same = w.unrisen in absurd (omega arith);
     write_fault = λ e. rose;
     write_risen = λ h. refl;
     unread = λ h. (w.unread h, w.unrisen);
-    taken = λ file h told a b. w.taken file h told;
+    taken = λ input h told a b. w.taken input h told;
   }
 
   pub finished : (status : Status) (text : List ℕ) (result : Status) → Writes status text → Finishes written written' writes writes' status text result → Keeps result
@@ -133,24 +132,24 @@ module _ (asked : Option Options) (left left' : Option (List ℕ)) (reads reads'
 
   pub nothing_written : (status : Status) → WritesNothing status → Keeps status
   nothing_written status w = record {
-    headline = λ options file r a. absurd (w.unsettled r.settled);
-    only_report = λ options file r other line report. absurd (w.unsettled r.settled);
+    headline = λ options input r a. absurd (w.unsettled r.settled);
+    only_report = λ options input r other line report. absurd (w.unsettled r.settled);
     outcome = λ s. absurd (w.unsettled s);
     part = λ e. absurd (w.no_write e);
     silent_fault = λ e. w.silent.written_is;
     silent_memory = λ e. w.silent.written_is;
-    fault = λ options file r fault h. absurd (w.unsettled r.settled);
-    all_yes = λ options file r. absurd (w.unsettled r.settled);
-    mixed = λ options file r. absurd (w.unsettled r.settled);
+    fault = λ options input r fault h. absurd (w.unsettled r.settled);
+    all_yes = λ options input r. absurd (w.unsettled r.settled);
+    mixed = λ options input r. absurd (w.unsettled r.settled);
     usage = λ s. absurd (w.unsettled s);
-    bad_text = λ options file r. absurd (w.unsettled r.settled);
-    limit = λ options file r. absurd (w.unsettled r.settled);
-    ill_formed = λ options file r. absurd (w.unsettled r.settled);
-    no_question = λ options file r. absurd (w.unsettled r.settled);
+    bad_text = λ options input r. absurd (w.unsettled r.settled);
+    limit = λ options input r. absurd (w.unsettled r.settled);
+    ill_formed = λ options input r. absurd (w.unsettled r.settled);
+    no_question = λ options input r. absurd (w.unsettled r.settled);
     read_fault = w.read;
     read_risen = w.risen;
     write_fault = λ e. absurd (w.no_write e);
     write_risen = λ h. let same = w.silent.faults_are in absurd (omega arith);
     unread = λ h. (w.unread h, w.unrisen h);
-    taken = λ file h told a b. absurd (w.gives_up a b);
+    taken = λ input h told a b. absurd (w.gives_up a b);
   }

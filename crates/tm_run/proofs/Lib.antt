@@ -12,6 +12,7 @@ pub mod OverLemmas
 pub mod CourtLemmas
 pub mod OnlyLemmas
 pub mod DecideLemmas
+pub mod InputLemmas
 pub mod KeepLemmas
 pub mod DoneLemmas
 pub mod RefuteLemmas

@@ -5,6 +5,7 @@ pub mod Examined
 pub mod Faults
 pub mod Files
 pub mod Held
+pub mod Inputs
 pub mod NeedTexts
 pub mod Marks
 pub mod Needs

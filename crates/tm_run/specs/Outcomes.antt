@@ -7,6 +7,7 @@ use Rattle.tm_report.specs.FaultLines.{line_end, line_of}
 use Rattle.tm_report.specs.declared.fault.FileFault.{FileFault}
 use Rattle.tm_run.specs.Faults.{HasFault, status_of_fault}
 use Rattle.tm_run.specs.Files.{IsWorldOf}
+use Rattle.tm_run.specs.Inputs.{HasInputFault, OfInput}
 use Rattle.tm_run.specs.Reported.{IsReported}
 use Rattle.tm_run.specs.declared.options.Options.{Options}
 use Rattle.tm_run.specs.declared.status.Status.{Status}
@@ -33,11 +34,26 @@ pub record IsRefusal (options : Options) (file : List ℕ) (status : Status) (te
 abbrev pub IsFileOutcome : Options → List ℕ → Status → List ℕ → Type 0
 IsFileOutcome options file status text = IsReport options file status text ⊎ IsRefusal options file status text
 
+-- the same, of the file of which an input asks
+abbrev pub IsInputReport : Options → List ℕ → Status → List ℕ → Type 0
+IsInputReport options input status text = OfInput (λ asked file. IsReport asked file status text) options input
+
+-- the text is the line of a fault that the input has
+pub record IsInputRefusal (options : Options) (input : List ℕ) (status : Status) (text : List ℕ) : Type 0 where
+  pub fault : FileFault
+  pub has : HasInputFault options input fault
+  pub status_is : status ≡ status_of_fault fault
+  pub text_is : text ≡ line_of fault
+
+-- What is answered to an input: the report on its file, or why it gets none.
+abbrev pub IsInputOutcome : Options → List ℕ → Status → List ℕ → Type 0
+IsInputOutcome options input status text = IsInputReport options input status text ⊎ IsInputRefusal options input status text
+
 -- What a run comes to where no read and no write fails and memory is found: by what its words ask for, where
--- they are in form, and by its file.
+-- they are in form, and by its input.
 abbrev pub IsOutcome : Option Options → List ℕ → Status → List ℕ → Type 0
-IsOutcome None file status text = (status ≡ Usage) × (text ≡ usage_line)
-IsOutcome (Some options) file status text = IsFileOutcome options file status text
+IsOutcome None input status text = (status ≡ Usage) × (text ≡ usage_line)
+IsOutcome (Some options) input status text = IsInputOutcome options input status text
 
 -- no read and no write failed, and memory was found
 abbrev pub IsSettled : Status → Type 0
@@ -52,48 +68,47 @@ IsSettled Limit = Unit {0}
 IsSettled IllFormed = Unit {0}
 IsSettled NoQuestion = Unit {0}
 
--- The file that is asked for: the one of a number, or else the bytes of the input up to its end, which the source
--- told.
-abbrev pub IsFileOf : Option ℕ → Option (List ℕ) → List ℕ → Type 0
-IsFileOf (Some number) left file = file ≡ generated_file number
-IsFileOf None left file = left ≡ Some file
+-- The input that is asked for: the file of a number, or else the bytes up to their end, which the source told.
+abbrev pub IsInputOf : Option ℕ → Option (List ℕ) → List ℕ → Type 0
+IsInputOf (Some number) left input = input ≡ generated_file number
+IsInputOf None left input = left ≡ Some input
 
--- The same, of a source that may tell nothing: where it tells its bytes the file is these.
-abbrev pub IsFileIfTold : Option ℕ → Option (List ℕ) → List ℕ → Type 0
-IsFileIfTold (Some number) left file = file ≡ generated_file number
-IsFileIfTold None left file = (told : List ℕ) → left ≡ Some told → file ≡ told
+-- The same, of a source that may tell nothing: where it tells its bytes the input is these.
+abbrev pub IsInputIfTold : Option ℕ → Option (List ℕ) → List ℕ → Type 0
+IsInputIfTold (Some number) left input = input ≡ generated_file number
+IsInputIfTold None left input = (told : List ℕ) → left ≡ Some told → input ≡ told
 
--- the file of a run; with words that aren't in form none is asked for
+-- the input of a run; with words that aren't in form none is asked for
 abbrev pub IsInput : Option Options → Option (List ℕ) → List ℕ → Type 0
-IsInput None left file = ⊤
-IsInput (Some options) left file = IsFileIfTold options.generate left file
+IsInput None left input = ⊤
+IsInput (Some options) left input = IsInputIfTold options.generate left input
 
--- the words are in form and ask for this, the file is the one that they ask for, and the run is settled
-pub record IsRunOn (asked : Option Options) (left : Option (List ℕ)) (options : Options) (file : List ℕ) (status : Status) : Type 0 where
+-- the words are in form and ask for this, the input is the one that they ask for, and the run is settled
+pub record IsRunOn (asked : Option Options) (left : Option (List ℕ)) (options : Options) (input : List ℕ) (status : Status) : Type 0 where
   pub in_form : asked ≡ Some options
-  pub file_is : IsFileOf options.generate left file
+  pub input_is : IsInputOf options.generate left input
   pub settled : IsSettled status
 
 -- the whole text of the outcome of an input was written
 pub record WritesOutcome (asked : Option Options) (left : Option (List ℕ)) (status : Status) (before now : Option (List ℕ)) : Type 0 where
-  pub file : List ℕ
-  pub input : IsInput asked left file
+  pub input : List ℕ
+  pub input_is : IsInput asked left input
   pub text : List ℕ
-  pub outcome : IsOutcome asked file status text
+  pub outcome : IsOutcome asked input status text
   pub adds : AddsAll before now text
 
 -- a front of it was written
 pub record WritesPrefix (asked : Option Options) (left : Option (List ℕ)) (before now : Option (List ℕ)) : Type 0 where
-  pub file : List ℕ
-  pub input : IsInput asked left file
+  pub input : List ℕ
+  pub input_is : IsInput asked left input
   pub status : Status
   pub text : List ℕ
-  pub outcome : IsOutcome asked file status text
+  pub outcome : IsOutcome asked input status text
   pub adds : AddsPrefix before now text
 
 -- the whole report was written
 abbrev pub WritesReport : Options → List ℕ → Status → Option (List ℕ) → Option (List ℕ) → Type 0
-WritesReport options file status before now = (text : List ℕ) × IsReport options file status text × AddsAll before now text
+WritesReport options input status before now = (text : List ℕ) × IsInputReport options input status text × AddsAll before now text
 
 -- the status is that of the fault, and its whole line was written
 abbrev pub WritesFault : FileFault → Status → Option (List ℕ) → Option (List ℕ) → Type 0

@@ -6,6 +6,7 @@ mod bytes;
 mod closing;
 mod court;
 mod examining;
+mod inputs;
 mod judging;
 mod kinds;
 mod marks;

@@ -1,9 +1,10 @@
-ghost use Rattle.std.specs.Prelude.{◌≡◌};
+ghost use Rattle.std.specs.Prelude.{◌≡◌, ◌⊎◌};
 ghost use Rattle.tm_run.specs.Asking.{number_asked};
+ghost use Rattle.tm_run.specs.Inputs.{input_limit, pointer_for, to_verify};
 ghost use Rattle.tm_run.specs.Words.{go_together, no_options, profile_for, with_choice};
 
 use crate::bytes::Bytes;
-use tm_base::Profile;
+use tm_base::{LimitKind, Profile};
 use tm_refute::Refutation;
 
 /// What is asked of a file in place of the report on its questions.
@@ -113,5 +114,39 @@ impl Options {
         ensures { result ≡ profile_for self.now }
     {
         self.profile.unwrap_or(Profile::Le64)
+    }
+    /// How many bytes a reference has: 4 or 8.
+    pub fn pointer(&self) -> u32
+        ensures size { result ≡ pointer_for self.now }
+        ensures two { (result ≡ 4) ⊎ (result ≡ 8) }
+    {
+        match self.target() {
+            Profile::Le64 | Profile::Be64 => 8,
+            Profile::Le32 => 4,
+        }
+    }
+
+    /// The limit on the bytes of an input: a file, or with `verify` a text and the file behind it.
+    pub fn input_limit(&self) -> LimitKind
+        ensures { result ≡ input_limit self.now }
+    {
+        if self.verify {
+            LimitKind::TextBytes
+        } else {
+            LimitKind::FileBytes
+        }
+    }
+
+    /// What is asked of a file behind the text of this refutation of the question of a number, from 1.
+    pub fn to_verify(&self, number: u32, x: Refutation) -> Options
+        ensures { result ≡ to_verify number x self.now }
+    {
+        Options {
+            summary: self.summary,
+            generate: self.generate,
+            profile: self.profile,
+            mode: Some(Mode::Verify(number, x)),
+            verify: self.verify,
+        }
     }
 }

@@ -1,24 +1,22 @@
-ghost use Rattle.std.specs.Prelude.{◌≡◌, ◌≢◌, ℕ, ◌+◌, ◌<◌, ◌≤◌, ◌↔◌, true, false, None, Some, List, IfOk, IfErr, drop, length};
+ghost use Rattle.std.specs.Prelude.{◌≡◌, ◌≢◌, ℕ, ◌+◌, ◌<◌, ◌↔◌, true, false, None, Some, List, drop};
 ghost use Rattle.tm_gen.specs.Generated.{generated_file};
 ghost use Rattle.tm_io.specs.Faults.{Rose};
 ghost use Rattle.tm_io.specs.Told.{AddsAll};
 ghost use Rattle.tm_run.specs.Held.{EachHolds, SomeDoesNot};
-ghost use Rattle.tm_run.specs.Examined.{IsStop};
-ghost use Rattle.tm_run.specs.Faults.{HasFault, IsFaulty};
-ghost use Rattle.tm_run.specs.Files.{file_bytes, IsAccepted};
-ghost use Rattle.tm_run.specs.Outcomes.{IsReport, IsRunOn, IsSettled, WritesFault, WritesOutcome, WritesPrefix, WritesReport};
-ghost use Rattle.tm_run.specs.Runs.{Answers, Decides, Declines, Did, Finishes};
+ghost use Rattle.tm_run.specs.Files.{IsAccepted};
+ghost use Rattle.tm_run.specs.Inputs.{HasInputFault, IsFaultyInput, OfInput, most_read};
+ghost use Rattle.tm_run.specs.Outcomes.{IsInputReport, IsRunOn, IsSettled, WritesFault, WritesOutcome, WritesPrefix, WritesReport};
+ghost use Rattle.tm_run.specs.Runs.{Answers, Declines, Did, Finishes};
 ghost use Rattle.tm_run.specs.Words.{asked, is_read};
 ghost use Rattle.tm_run.specs.declared.options.Options.{Options};
 
-use crate::examining::examine;
+use crate::inputs::outcome;
 use crate::options::Options;
-use crate::reported::reported;
 use crate::status::{Status, fault_status};
 use crate::stop::Stop;
 use crate::words::chosen;
 use std::alloc::Global;
-use tm_base::{LimitKind, Memory, Text};
+use tm_base::Memory;
 use tm_gen::generate;
 use tm_io::{ReadErr, Sink, SinkErr, Source, read_all, write_all};
 use tm_report::{FileFault, fault_line};
@@ -26,29 +24,28 @@ use tm_report::{FileFault, fault_line};
 const USAGE_LINE: &str =
     "usage: transmute_report [--profile NAME] [--summary] [--generate N] [MODE]\n";
 
-/// What is wrong with an input that has too many bytes.
-const TOO_LONG: FileFault = FileFault::Passed(LimitKind::FileBytes, None);
-
 /// Reads questions, answers them and writes the report, as the words ask for it.
 ///
 /// The words are options, each at most once; what each asks for is told in docs/COMMAND.md. With any others
 /// the usage line is written and nothing is read. With `--generate` nothing is read either. Else all of the
-/// source is read, up to one byte past the most that a file may have. What a question file is, and what is
-/// written, is told in docs/QUESTION_FILES.md and docs/REPORT.md.
+/// source is read, up to one byte past the most that an input may have: a file, or with `--verify` the text
+/// of a refutation and the file behind it. What a question file is, and what is written, is told in
+/// docs/QUESTION_FILES.md and docs/REPORT.md.
 pub fn run<S: Source, K: Sink>(alloc: Global, words: &[String], src: &mut S, out: &mut K) -> Status
     // The headline: the report on an accepted file is written, in which each question is refused exactly
     // where a type that it reaches is at fault, and else is answered yes exactly where each value of its
     // source, or with `validity` some, fitted, is a value of its target; and what a no shows is true.
     // `IsReport` says it, of the file that was read or generated and of the profile that is asked for. With a
     // mode the text is what the mode says of the file's questions or types, and the clauses below speak of that.
-    ensures headline { (options : Options) (file : List ℕ)
-        → IsRunOn (asked words.now) (S.left src.old) options file result
-        → IsAccepted options file
-        → WritesReport options file result (K.written out.old) (K.written out.new) }
-    // No other report is one on the file: it is a function of the file and of what is asked for.
-    ensures only_report { (options : Options) (file : List ℕ)
-        → IsRunOn (asked words.now) (S.left src.old) options file result
-        → (status : Status) (text : List ℕ) → IsReport options file status text
+    // With `--verify` the input is the text of a refutation, and the file stands behind it: `AsksOf` says so.
+    ensures headline { (options : Options) (input : List ℕ)
+        → IsRunOn (asked words.now) (S.left src.old) options input result
+        → OfInput IsAccepted options input
+        → WritesReport options input result (K.written out.old) (K.written out.new) }
+    // No other report is one on the input: it is a function of the input and of what is asked for.
+    ensures only_report { (options : Options) (input : List ℕ)
+        → IsRunOn (asked words.now) (S.left src.old) options input result
+        → (status : Status) (text : List ℕ) → IsInputReport options input status text
         → (status ≡ result) × AddsAll (K.written out.old) (K.written out.new) text }
 
     // What is written, in each case, and what the status is then.
@@ -59,33 +56,34 @@ pub fn run<S: Source, K: Sink>(alloc: Global, words: &[String], src: &mut S, out
     ensures silent_fault { result ≡ Status.ReadFault → K.written out.new ≡ K.written out.old }
     ensures silent_memory { result ≡ Status.Memory → K.written out.new ≡ K.written out.old }
 
-    // A file with a fault gets its line and its status.
-    ensures fault { (options : Options) (file : List ℕ)
-        → IsRunOn (asked words.now) (S.left src.old) options file result
-        → (fault : FileFault) → HasFault options file fault
+    // An input with a fault gets its line and its status.
+    ensures fault { (options : Options) (input : List ℕ)
+        → IsRunOn (asked words.now) (S.left src.old) options input result
+        → (fault : FileFault) → HasInputFault options input fault
         → WritesFault fault result (K.written out.old) (K.written out.new) }
 
-    // The cause of each status. A file that `EachHolds` or `SomeDoesNot` speaks of is accepted; what is to hold
-    // is told by `HoldsFor`, and of which questions by `questions_for`, for the mode.
-    ensures all_yes { (options : Options) (file : List ℕ)
-        → IsRunOn (asked words.now) (S.left src.old) options file result
-        → (result ≡ Status.AllYes ↔ EachHolds options file) }
-    ensures mixed { (options : Options) (file : List ℕ)
-        → IsRunOn (asked words.now) (S.left src.old) options file result
-        → (result ≡ Status.Mixed ↔ SomeDoesNot options file) }
+    // The cause of each status. `OfInput` speaks of the file of which the input asks, and of what is asked. A
+    // file that `EachHolds` or `SomeDoesNot` speaks of is accepted; what is to hold is told by `HoldsFor`, and of
+    // which questions by `questions_for`, for the mode.
+    ensures all_yes { (options : Options) (input : List ℕ)
+        → IsRunOn (asked words.now) (S.left src.old) options input result
+        → (result ≡ Status.AllYes ↔ OfInput EachHolds options input) }
+    ensures mixed { (options : Options) (input : List ℕ)
+        → IsRunOn (asked words.now) (S.left src.old) options input result
+        → (result ≡ Status.Mixed ↔ OfInput SomeDoesNot options input) }
     ensures usage { IsSettled result → (result ≡ Status.Usage ↔ asked words.now ≡ None) }
-    ensures bad_text { (options : Options) (file : List ℕ)
-        → IsRunOn (asked words.now) (S.left src.old) options file result
-        → (result ≡ Status.BadText ↔ IsFaulty options file Status.BadText) }
-    ensures limit { (options : Options) (file : List ℕ)
-        → IsRunOn (asked words.now) (S.left src.old) options file result
-        → (result ≡ Status.Limit ↔ IsFaulty options file Status.Limit) }
-    ensures ill_formed { (options : Options) (file : List ℕ)
-        → IsRunOn (asked words.now) (S.left src.old) options file result
-        → (result ≡ Status.IllFormed ↔ IsFaulty options file Status.IllFormed) }
-    ensures no_question { (options : Options) (file : List ℕ)
-        → IsRunOn (asked words.now) (S.left src.old) options file result
-        → (result ≡ Status.NoQuestion ↔ IsFaulty options file Status.NoQuestion) }
+    ensures bad_text { (options : Options) (input : List ℕ)
+        → IsRunOn (asked words.now) (S.left src.old) options input result
+        → (result ≡ Status.BadText ↔ IsFaultyInput options input Status.BadText) }
+    ensures limit { (options : Options) (input : List ℕ)
+        → IsRunOn (asked words.now) (S.left src.old) options input result
+        → (result ≡ Status.Limit ↔ IsFaultyInput options input Status.Limit) }
+    ensures ill_formed { (options : Options) (input : List ℕ)
+        → IsRunOn (asked words.now) (S.left src.old) options input result
+        → (result ≡ Status.IllFormed ↔ IsFaultyInput options input Status.IllFormed) }
+    ensures no_question { (options : Options) (input : List ℕ)
+        → IsRunOn (asked words.now) (S.left src.old) options input result
+        → (result ≡ Status.NoQuestion ↔ IsFaultyInput options input Status.NoQuestion) }
     ensures read_fault { result ≡ Status.ReadFault → Rose (S.faults src.old) (S.faults src.new) }
     ensures read_risen { S.faults src.old < S.faults src.new → result ≡ Status.ReadFault }
     ensures write_fault { result ≡ Status.WriteFault → Rose (K.faults out.old) (K.faults out.new) }
@@ -94,9 +92,9 @@ pub fn run<S: Source, K: Sink>(alloc: Global, words: &[String], src: &mut S, out
     // What is left of the source. It isn't read where the words aren't in form or a file is generated.
     ensures unread { is_read (asked words.now) ≡ false
         → (S.left src.new ≡ S.left src.old) × (S.faults src.new ≡ S.faults src.old) }
-    ensures taken { (file : List ℕ) → is_read (asked words.now) ≡ true → S.left src.old ≡ Some file
+    ensures taken { (input : List ℕ) → is_read (asked words.now) ≡ true → S.left src.old ≡ Some input
         → result ≢ Status.ReadFault → result ≢ Status.Memory
-        → S.left src.new ≡ Some (drop (file_bytes + 1) file) }
+        → S.left src.new ≡ Some (drop (most_read (asked words.now) + 1) input) }
 {
     done(alloc, words, src, out)
 }
@@ -114,7 +112,7 @@ fn done<S: Source, K: Sink>(alloc: Global, words: &[String], src: &mut S, out: &
     }
 }
 
-/// Writes the report on the file that is asked for, or the line that says why it gets none.
+/// Writes the report on the input that is asked for, or the line that says why it gets none.
 fn answer_asked<S: Source, K: Sink>(
     alloc: Global,
     options: &Options,
@@ -131,7 +129,7 @@ fn answer_asked<S: Source, K: Sink>(
     }
 }
 
-/// Reads a file and writes the report on it, or the line that says why it gets none.
+/// Reads an input and writes the report on it, or the line that says why it gets none.
 fn answer_read<S: Source, K: Sink>(
     alloc: Global,
     options: &Options,
@@ -143,10 +141,11 @@ fn answer_read<S: Source, K: Sink>(
         (S.faults src.new) (K.written out.old) (K.written out.new) (K.faults out.old)
         (K.faults out.new) result }
 {
-    match read_all(alloc, src, LimitKind::FileBytes.number()) {
-        Ok(file) => answer(alloc, options, &file, out),
+    let limit = options.input_limit();
+    match read_all(alloc, src, limit.number()) {
+        Ok(input) => answer(alloc, options, &input, out),
         Err(ReadErr::Fault) => Status::ReadFault,
-        Err(ReadErr::TooLong) => decline(alloc, TOO_LONG, out),
+        Err(ReadErr::TooLong) => decline(alloc, FileFault::Passed(limit, None), out),
         Err(ReadErr::Memory) => Status::Memory,
     }
 }
@@ -157,36 +156,21 @@ fn answer_generated<K: Sink>(alloc: Global, options: &Options, number: u64, out:
         options.now (generated_file number) result }
 {
     match generate(alloc, number) {
-        Ok(file) if file.len() <= LimitKind::FileBytes.number() as usize => {
-            answer(alloc, options, &file, out)
-        }
-        Ok(_) => decline(alloc, TOO_LONG, out),
+        Ok(file) => answer(alloc, options, &file, out),
         Err(_) => Status::Memory,
     }
 }
 
-/// Writes the report on a file, or the line that says why it gets none.
-fn answer<K: Sink>(alloc: Global, options: &Options, file: &[u8], out: &mut K) -> Status
-    requires { length file.now ≤ file_bytes }
+/// Writes the report on an input, or the line that says why it gets none.
+fn answer<K: Sink>(alloc: Global, options: &Options, input: &[u8], out: &mut K) -> Status
     ensures { Answers (K.written out.old) (K.written out.new) (K.faults out.old) (K.faults out.new)
-        options.now file.now result }
+        options.now input.now result }
 {
-    match judged(alloc, options, file) {
+    match outcome(alloc, options, input) {
         Ok((status, text)) => finish(out, text.as_str(), status),
         Err(Stop::Fault(fault)) => decline(alloc, fault, out),
         Err(Stop::Memory) => Status::Memory,
     }
-}
-
-/// The status and the text of the report on a file.
-fn judged(alloc: Global, options: &Options, file: &[u8]) -> Result<(Status, Text), Stop>
-    requires { length file.now ≤ file_bytes }
-    ensures report { IfOk result (λ outcome. Decides options.now file.now outcome.0 outcome.1) }
-    ensures stop { IfErr result (IsStop options.now file.now) }
-{
-    let world = examine(alloc, options, file)?;
-    let outcome = reported(alloc, options, file, &world)?;
-    Ok(outcome)
 }
 
 /// Writes the line of a fault.

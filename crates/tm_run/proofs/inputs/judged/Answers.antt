@@ -2,7 +2,7 @@ use Rattle.tm_run.specs.Examined.{IsStop}
 use Rattle.tm_run.proofs.ClosingLemmas.{few-asked, there-asked}
 use Rattle.tm_run.proofs.DecideLemmas.{report_decides, report_stops}
 use Rattle.tm_run.proofs.FaultLemmas.{passed_on}
-use Rattle.tm_run.proofs.running.judged.Goals as goal
+use Rattle.tm_run.proofs.inputs.judged.Goals as goal
 
 pub reported-requires-clause-few : goal.reported-requires-clause-few
 reported-requires-clause-few c = few-asked c.args.options.now c.args.file.now c.in_ok-world.world c.in_ok-world.ensures.world
