@@ -19,8 +19,6 @@ mod marks;
 #[cfg(test)]
 mod matches;
 #[cfg(test)]
-mod refutations;
-#[cfg(test)]
 mod runs;
 #[cfg(test)]
 mod words;
