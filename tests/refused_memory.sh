@@ -14,6 +14,11 @@ trap 'rm -rf "$work"' EXIT
 passed=0
 failed=0
 
+words_of() { # ROW
+    words=()
+    [ ! -f "$1/args" ] || mapfile -t words <"$1/args"
+}
+
 # Whether the run that was just made wrote nothing for want of memory, or what it writes with ample memory.
 is_right() { # ROW STATUS
     if [ "$2" = 7 ]; then
@@ -25,7 +30,7 @@ is_right() { # ROW STATUS
 
 refuse() { # ROW NUMBER [LATER]
     local status
-    env LD_PRELOAD="$work/refuse.so" REFUSE="$2" ${3:+REFUSE_LATER=1} "$program" <"$1/stdin" >"$work/stdout" 2>/dev/null
+    env LD_PRELOAD="$work/refuse.so" REFUSE="$2" ${3:+REFUSE_LATER=1} "$program" "${words[@]}" <"$1/stdin" >"$work/stdout" 2>/dev/null
     status=$?
     if is_right "$1" "$status"; then
         passed=$((passed + 1))
@@ -35,9 +40,10 @@ refuse() { # ROW NUMBER [LATER]
     fi
 }
 
-for name in byte_is_no_bool reference_behind_a_number wire_formats; do
+for name in byte_is_no_bool reference_behind_a_number wire_formats refute_two_levels verify_two_levels; do
     row=$here/../rows/$name
-    env LD_PRELOAD="$work/refuse.so" REFUSE_COUNT="$work/count" "$program" <"$row/stdin" >/dev/null
+    words_of "$row"
+    env LD_PRELOAD="$work/refuse.so" REFUSE_COUNT="$work/count" "$program" "${words[@]}" <"$row/stdin" >/dev/null
     count=$(cat "$work/count")
     for ((number = 1; number <= count; number++)); do
         refuse "$row" "$number"
