@@ -1,7 +1,6 @@
 //! What pieces and proofs ask for.
 ghost use Rattle.std.specs.Prelude.{◌≡◌, ℕ, ◌<◌, ◌||◌, OnOk, false, length, slice_index_or};
 ghost use Rattle.std.specs.List.{list_any};
-ghost use Rattle.tm_base.specs.Layout.{size_of};
 ghost use Rattle.tm_base.specs.Tables.{expanded_in};
 ghost use Rattle.tm_base.specs.Worlds.{tables_of};
 ghost use Rattle.tm_refs.specs.LaidOut.{HasLayout};
@@ -10,9 +9,9 @@ ghost use Rattle.tm_refute.specs.Chosen.{IsChosenProof};
 ghost use Rattle.tm_refute.specs.Making.{IsMaking};
 
 use crate::asked::Asked;
-use crate::fitted::fitted;
 use crate::maker::Maker;
 use crate::refutation::{Piece, Proof};
+use crate::showing::cells_shown;
 use crate::standing::stands;
 use tm_base::{Cell, Ground, Memory, RefId, RefRow};
 use tm_refs::leaves_of;
@@ -34,8 +33,7 @@ impl Maker<'_> {
             OnOk result (AsksToo tables self.now.assume limit
             (expanded_in tables t.now) piece.now asked.old asked.new) }
     {
-        let count = self.size(t).min(piece.offset as usize + 1);
-        let shown = fitted(self.alloc, piece.word.as_slice(), count)?;
+        let shown = cells_shown(self.alloc, self.world, self.layouts, t, piece)?;
         let occurring = occurring(shown.as_slice());
         let leaves = leaves_of(self.world, t);
         self.ask_all(limit, &occurring, &leaves, asked)
@@ -106,18 +104,6 @@ impl Maker<'_> {
             Proof::Local(_) => Ok(()),
             Proof::Forward(piece) => self.ask(Some(depth), &t.pointee, piece, asked),
             Proof::Reverse(piece) => self.ask(Some(depth), &s.pointee, piece, asked),
-        }
-    }
-
-    /// The size of a type, in bytes.
-    fn size(&self, g: &Ground) -> usize
-        requires making { IsMaking self.now }
-        requires has { HasLayout (tables_of self.now.world.now) g.now }
-        ensures { result ≡ size_of (expanded_in (tables_of self.now.world.now) g.now) }
-    {
-        match self.layouts.of(g) {
-            Ok(layout) => layout.size as usize,
-            Err(_) => unreachable!(),
         }
     }
 }

@@ -29,6 +29,7 @@ mod reader;
 mod refutation;
 mod refuting;
 mod rule;
+mod showing;
 mod standing;
 mod stop;
 mod text;

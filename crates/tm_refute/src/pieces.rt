@@ -1,17 +1,16 @@
 //! Whether pieces break two types.
-ghost use Rattle.std.specs.Prelude.{◌≡◌, ◌+◌, ◌↔◌, IsTrue, IfOk, All, length, take};
-ghost use Rattle.tm_base.specs.Cells.{fit};
-ghost use Rattle.tm_base.specs.Layout.{size_of};
+ghost use Rattle.std.specs.Prelude.{◌↔◌, IsTrue, IfOk, All, length};
 ghost use Rattle.tm_base.specs.Tables.{expanded_in};
 ghost use Rattle.tm_base.specs.Transmutes.{IsSourceWord};
 ghost use Rattle.tm_base.specs.Viable.{Viable};
 ghost use Rattle.tm_base.specs.Worlds.{tables_of};
 ghost use Rattle.tm_refs.specs.LaidOut.{HasLayout};
+ghost use Rattle.tm_refute.specs.Chosen.{shown};
 ghost use Rattle.tm_refute.specs.Ready.{IsReady};
 ghost use Rattle.tm_refute.specs.Refutes.{Breaks, IsKnown, Stands};
 
-use crate::fitted::fitted;
 use crate::refutation::Piece;
+use crate::showing::cells_shown;
 use crate::standing::Standing;
 use crate::verifier::Verifier;
 use tm_base::{Cell, Equal, Ground, Memory};
@@ -70,11 +69,9 @@ impl Verifier<'_> {
         requires target { HasLayout (tables_of self.now.world.now) t.now }
         ensures { let t = expanded_in (tables_of self.now.world.now) t.now in
             IfOk result (λ goes. IsTrue goes
-            ↔ Viable (Stands self.now.entries.now limit) self.now.assume.safety t
-            (take (piece.now.offset + 1) (fit piece.now.word (size_of t)))) }
+            ↔ Viable (Stands self.now.entries.now limit) self.now.assume.safety t (shown t piece.now)) }
     {
-        let count = self.size(t).min(piece.offset as usize + 1);
-        let asked = fitted(self.alloc, piece.word.as_slice(), count)?;
+        let shown = cells_shown(self.alloc, self.world, self.layouts, t, piece)?;
         let refs = Standing {
             depths: &self.depths,
             limit,
@@ -85,20 +82,8 @@ impl Verifier<'_> {
             &refs,
             self.assume.safety,
             t,
-            asked.as_slice(),
+            shown.as_slice(),
         ))
-    }
-
-    /// The size of a type, in bytes.
-    fn size(&self, g: &Ground) -> usize
-        requires ready { IsReady self.now }
-        requires has { HasLayout (tables_of self.now.world.now) g.now }
-        ensures { result ≡ size_of (expanded_in (tables_of self.now.world.now) g.now) }
-    {
-        match self.layouts.of(g) {
-            Ok(layout) => layout.size as usize,
-            Err(_) => unreachable!(),
-        }
     }
 }
 
