@@ -36,3 +36,4 @@ pub mod PlacesRows
 pub mod JudgedRows
 pub mod StructLemmas
 pub mod EnumLemmas
+pub mod PartLemmas

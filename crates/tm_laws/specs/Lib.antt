@@ -4,3 +4,4 @@ pub mod Laws
 pub mod PlacesApart
 pub mod WordLaws
 pub mod SliceLaws
+pub mod PartLaws

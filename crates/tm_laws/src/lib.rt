@@ -10,7 +10,8 @@ ghost use Rattle.tm_laws.specs.Laws.{TypesAreSettled, MoreMayBeAssumed, Compatib
 
 pub use answers::{answers_mean_what_they_say, noes_show_why};
 pub use places::{
-    places_of_judged_types_stand_apart, places_stand_apart, structs_hold_their_fields,
+    enums_hold_their_fields, expansion_keeps_parts, places_of_judged_types_stand_apart,
+    places_stand_apart, structs_hold_their_fields,
 };
 use tm_base::World;
 pub use words::{

@@ -1,9 +1,15 @@
-//! Where the fields of types stand.
+//! Which types a type holds by value, and where its fields stand.
 
+ghost use Rattle.tm_laws.specs.PartLaws.{ExpansionKeepsParts};
 ghost use Rattle.tm_laws.specs.PlacesApart.{PlacesStandApart, PlacesOfJudgedTypesStandApart};
 ghost use Rattle.tm_laws.specs.SliceLaws.{StructsHoldTheirFields, EnumsHoldTheirFields};
 
 use tm_base::World;
+
+/// A type over the world holds the same parts by value as it is named and as it is written out, in one order.
+pub fn expansion_keeps_parts(world: &World)
+    ensures { ExpansionKeepsParts world.now }
+{}
 
 /// Where no type that is held by value is at fault, the fields of each stand apart, behind the tag and
 /// inside the type.
