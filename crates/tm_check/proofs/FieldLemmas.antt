@@ -9,7 +9,7 @@ use Rattle.tm_base.specs.Places.{at_front}
 use Rattle.tm_base.specs.ValidTest.{is_free}
 use Rattle.tm_check.specs.Begins.{begins, fields_begin}
 use Rattle.tm_check.proofs.CutLemmas.{list_all-cut, taken-cut}
-use Rattle.tm_check.proofs.PlaceLemmas.{NoGap, place-above}
+use Rattle.tm_layout.proofs.EndLemmas.{NoGap, place-above}
 
 module _ (A : ℕ → ℕ → Bool) (keep : Bool) where
   -- a gap of equal length makes no difference

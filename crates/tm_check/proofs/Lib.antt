@@ -5,13 +5,12 @@ pub mod LeafLemmas
 pub mod ScalarLemmas
 pub mod ReferenceLemmas
 pub mod PartLemmas
-pub mod PlaceLemmas
 pub mod FieldLemmas
 pub mod TransparentLemmas
 pub mod SoundLemmas
 pub mod ToldLemmas
 pub mod ExactLemmas
-pub mod LaidOutLemmas
+pub mod LevelLemmas
 pub mod DefinedLemmas
 pub mod EnumLemmas
 pub mod StepLemmas

@@ -25,7 +25,7 @@ use Rattle.tm_check.proofs.CutLemmas.{both, either, join}
 use Rattle.tm_check.proofs.FieldLemmas.{fields-behind, fields-shifted}
 use Rattle.tm_check.proofs.LeafLemmas.{free-sound, nonzero-sound, tag-sound}
 use Rattle.tm_check.proofs.PartLemmas.{GoesTo, IsSound, IsSoundTo, times-sound, follows-sound}
-use Rattle.tm_check.proofs.PlaceLemmas.{VariantsEnd, end-above, place-above, tag-below, union-size, variants-end}
+use Rattle.tm_layout.proofs.EndLemmas.{VariantsEnd, end-above, place-above, tag-below, union-size, variants-end}
 use Rattle.tm_check.proofs.ReferenceLemmas.{ref-sound, wrap-sound}
 use Rattle.tm_check.proofs.ScalarLemmas.{prim-sound}
 use Rattle.tm_check.proofs.TransparentLemmas.{stands, struct_placed}

@@ -22,7 +22,7 @@ use Rattle.tm_check.proofs.CutLemmas.{and-true, cut_at, front-free, or-first, or
 use Rattle.tm_check.proofs.FieldLemmas.{fields-behind, fields-shifted}
 use Rattle.tm_check.proofs.LeafLemmas.{nonzero-told, tag-told}
 use Rattle.tm_check.proofs.PartLemmas.{IsComplete, times-told, follows-told}
-use Rattle.tm_check.proofs.PlaceLemmas.{tag-below}
+use Rattle.tm_layout.proofs.EndLemmas.{tag-below}
 use Rattle.tm_check.proofs.ReferenceLemmas.{ref-told, wrap-told}
 use Rattle.tm_check.proofs.ScalarLemmas.{prim-told}
 use Rattle.tm_check.proofs.TransparentLemmas.{stands, struct_placed}

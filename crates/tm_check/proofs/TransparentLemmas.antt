@@ -16,7 +16,7 @@ use Rattle.tm_base.specs.Places.{at_front, fields_place, first_place, variant_pl
 use Rattle.tm_layout.proofs.TableLemmas.{first_false, second_false}
 use Rattle.tm_check.specs.Begins.{fields_begin, struct_places}
 use Rattle.tm_check.proofs.FieldLemmas.{fields-bare}
-use Rattle.tm_check.proofs.PlaceLemmas.{bare-end, bare-gapless, bare-size, struct-end}
+use Rattle.tm_layout.proofs.EndLemmas.{bare-end, bare-gapless, bare-size, struct-end}
 
 no-either : (a b : Option Why) → is_some (or_else a b) ≡ false → (is_some a ≡ false) × (is_some b ≡ false)
 no-either None b e = (refl, e)

@@ -2,4 +2,3 @@ pub mod Runs
 pub mod Numbers
 pub mod Begins
 pub mod Checked
-pub mod LaidOut

@@ -7,7 +7,7 @@ ghost use Rattle.tm_base.specs.Valid.{Valid};
 ghost use Rattle.tm_base.specs.Viable.{RefusesAt, Viable};
 ghost use Rattle.tm_base.specs.Worlds.{IsTypeOver, tables_of};
 ghost use Rattle.tm_check.specs.Checked.{IsBorneOut, IsRefused, IsTaken};
-ghost use Rattle.tm_check.specs.LaidOut.{IsLaidOut};
+ghost use Rattle.tm_layout.specs.LaidOut.{IsLaidOut};
 ghost use Rattle.tm_check.specs.Runs.{word_of};
 ghost use Rattle.tm_layout.specs.Made.{IsMadeFor};
 

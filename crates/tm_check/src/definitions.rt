@@ -6,7 +6,7 @@ ghost use Rattle.tm_base.specs.Layout.{only, tag_layout};
 ghost use Rattle.tm_base.specs.Tables.{expanded_in};
 ghost use Rattle.tm_base.specs.Worlds.{tables_of};
 ghost use Rattle.tm_check.specs.Begins.{begins};
-ghost use Rattle.tm_check.specs.LaidOut.{IsDefinition, IsLaidOut};
+ghost use Rattle.tm_layout.specs.LaidOut.{IsDefinition, IsLaidOut};
 ghost use Rattle.tm_check.specs.Runs.{word_of};
 
 use crate::matcher::Matcher;

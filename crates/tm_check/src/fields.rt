@@ -7,7 +7,7 @@ ghost use Rattle.tm_base.specs.Places.{fields_place};
 ghost use Rattle.tm_base.specs.Tables.{expanded_in};
 ghost use Rattle.tm_base.specs.Worlds.{tables_of};
 ghost use Rattle.tm_check.specs.Begins.{fields_begin, some_field_begins, some_variant_begins};
-ghost use Rattle.tm_check.specs.LaidOut.{AreFieldsOf, IsDefinition, IsLaidOut, places_at};
+ghost use Rattle.tm_layout.specs.LaidOut.{AreFieldsOf, IsDefinition, IsLaidOut, places_at};
 ghost use Rattle.tm_check.specs.Runs.{word_of};
 ghost use Rattle.tm_layout.specs.Made.{EachIs};
 

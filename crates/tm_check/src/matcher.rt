@@ -4,7 +4,7 @@ ghost use Rattle.tm_base.specs.Layout.{size_of};
 ghost use Rattle.tm_base.specs.Tables.{expanded_in};
 ghost use Rattle.tm_base.specs.Worlds.{tables_of};
 ghost use Rattle.tm_check.specs.Begins.{begins, times_begin};
-ghost use Rattle.tm_check.specs.LaidOut.{IsLaidOut};
+ghost use Rattle.tm_layout.specs.LaidOut.{IsLaidOut};
 ghost use Rattle.tm_check.specs.Runs.{word_of};
 ghost use Rattle.tm_layout.specs.Made.{IsMadeFor};
 

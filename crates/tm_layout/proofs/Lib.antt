@@ -17,3 +17,7 @@ pub mod ReachedLemmas
 pub mod TextLemmas
 pub mod OverLemmas
 pub mod LeastLemmas
+pub mod EndLemmas
+pub mod LaidOutLemmas
+pub mod VariantLemmas
+pub mod EnumFieldLemmas

@@ -10,3 +10,4 @@ pub mod Defined
 pub mod Placed
 pub mod Reached
 pub mod Least
+pub mod LaidOut

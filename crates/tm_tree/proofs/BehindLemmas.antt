@@ -15,7 +15,7 @@ use Rattle.tm_base.specs.Places.{fields_place, variant_places}
 use Rattle.tm_base.specs.Valid.{AreFree}
 use Rattle.tm_base.proofs.LayoutLemmas.{first-front, tagged_variants-apart, union_variants-apart}
 use Rattle.tm_tree.specs.Parts.{field_parts, pads, parts_of}
-use Rattle.tm_tree.proofs.PlaceLemmas.{round_up-above}
+use Rattle.tm_layout.proofs.EndLemmas.{round_up-above}
 
 -- ---- places
 

@@ -1,9 +1,7 @@
 -- An enum by its definition: its tags hold their values, and where the fields of a variant stand.
-use Rattle.std.proofs.Common.{◌≡◌, ℕ, zero, suc, ◌+◌, refl, sym, ◌∙◌, ap, subst, Bool, true, false, ◌&&◌, ◌||◌, not, if◌then◌else◌, ℤ, List, [], ◌∷◌, map, length, Option, Some, None, slice_get, unwrap_or, arith}
-use Rattle.std.proofs.lemmas.List.{length-map}
-use Rattle.std.proofs.lemmas.Option.{slice_get-map}
+use Rattle.std.proofs.Common.{◌≡◌, ℕ, zero, suc, refl, sym, ◌∙◌, ap, subst, true, false, ◌&&◌, ◌||◌, not, ℤ, List, [], ◌∷◌, Option, Some, None, slice_get}
 use Rattle.std.specs.List.{AllByRecursion, list_all}
-use Rattle.std.specs.Option.{is_none, is_some, option_map}
+use Rattle.std.specs.Option.{is_none, is_some}
 use Rattle.tm_base.specs.declared.definition.Def.{Def}
 use Rattle.tm_base.specs.declared.definition.Kind.TheVariants.{Enum}
 use Rattle.tm_base.specs.declared.definition.Repr.{Repr}
@@ -20,18 +18,21 @@ use Rattle.tm_base.specs.Integers.{fits_integer, fits_signed, is_integer, is_tag
 use Rattle.tm_base.specs.Laws.{Apart}
 use Rattle.tm_base.specs.Layout.{Layout, field_layouts, places, prim_size, size_of, tag_layout, variant_layouts}
 use Rattle.tm_base.specs.Parts.{some_part}
-use Rattle.tm_base.specs.Places.{fields_place, first_place, variant_places}
+use Rattle.tm_base.specs.Places.{fields_place, variant_places}
 use Rattle.tm_base.specs.Tables.{Tables, expanded_in}
-use Rattle.tm_base.specs.Whole.{is_enum_repr, is_repr_in_form, is_tag_in_form, is_value_in_form}
+use Rattle.tm_base.specs.Whole.{is_tag_in_form, is_value_in_form}
 use Rattle.tm_base.proofs.WorldLemmas.{list_all-at}
 use Rattle.tm_layout.proofs.DefinitionLemmas.{in_form}
 use Rattle.tm_layout.proofs.RowLemmas.{first_true, second_true}
+use Rattle.tm_layout.specs.LaidOut.{places_at}
+use Rattle.tm_layout.proofs.EnumFieldLemmas.{enum-whole, in_repr, typed, variant-fields as fields-of, variant-places}
+use Rattle.tm_layout.proofs.VariantLemmas.{layouts-at, layouts-same}
 use Rattle.tm_niche.specs.Forms.{one_of, tag_form}
 use Rattle.tm_tree.specs.declared.rows.Row.{Row}
-use Rattle.tm_tree.specs.LaidOut.{AreFieldsOf, IsDefinition, places_at, tag_type}
+use Rattle.tm_tree.specs.LaidOut.{AreFieldsWithin, IsSizedDefinition, tag_type}
 use Rattle.tm_tree.specs.Parts.{field_parts, parts_of, variant_ways}
 use Rattle.tm_tree.proofs.BehindLemmas.{variants-apart}
-use Rattle.tm_tree.proofs.DefinedLemmas.{few-fields, layouts-at, layouts-count, layouts-same, placed-same, places-count, total-at, typed-at}
+use Rattle.tm_tree.proofs.DefinedLemmas.{placed-same}
 use Rattle.tm_tree.proofs.FitLemmas.{no-either, no-when, none-first, none-second, not-false, only-c}
 
 -- ---- tags
@@ -80,43 +81,26 @@ all-at P [] i x all at = cc
 all-at P (y ∷ xs) zero x (here, others) at = let same : y ≡ x = cc in subst P same here
 all-at P (y ∷ xs) (suc i) x (here, others) at = all-at P xs i x others at
 
-variant_places-count : (begin first : ℕ) (ls : List Layout) (c : Bool) → length (if c then map (λ place. begin + place) (places None 0 ls) else places None first ls) ≡ length ls
-variant_places-count begin first ls true = length-map (places None 0 ls) (λ place. begin + place) ∙ places-count None 0 ls
-variant_places-count begin first ls false = places-count None first ls
-
-enum-places : (profile : Profile) (id : NamedId) (repr : Repr) (part : Ground → Expanded) (vs : List Variant) (types : List (List Ground)) (i : ℕ) (v : Variant) (gs : List Ground)
-    → slice_get vs i ≡ Some v → slice_get types i ≡ Some gs
-    → places_at (named profile id Enum repr (variants_of part vs types)) i ≡ variant_places profile repr (fields_place profile repr (variants_of part vs types)) (field_layouts (fields_of part v.fields gs))
-enum-places profile id repr part vs types i v gs at_v at_gs =
-    let place = variant_places profile repr (fields_place profile repr (variants_of part vs types)) in
-    ap (λ o. unwrap_or o []) (slice_get-map place (variant_layouts (variants_of part vs types)) i ∙ ap (option_map place) (layouts-at part vs types i v gs at_v at_gs))
-
 -- ---- an enum of a world
 
-module _ (tables : Tables) (id : NamedId) (size : ℕ) (def : Def) (types : List (List Ground)) (is : IsDefinition tables id size def types) (kind : def.kind ≡ Enum) where
+module _ (tables : Tables) (id : NamedId) (size : ℕ) (def : Def) (types : List (List Ground)) (is : IsSizedDefinition tables id size def types) (kind : def.kind ≡ Enum) where
   abbrev part : Ground → Expanded
   part = expanded_in tables
 
   abbrev cases : Variants
   cases = variants_of part def.variants types
 
-  enum-whole : part (Named id) ≡ named tables.profile id Enum def.repr cases
-  enum-whole = is.whole ∙ ap (λ k. named tables.profile id k def.repr cases) kind
-
-  in_repr : is_enum_repr def.repr def.variants ≡ true
-  in_repr = ap (λ k. is_repr_in_form k def.repr def.variants) (sym kind) ∙ (in_form tables.profile def is.in_form).written
-
   pub tag-is_integer : is_integer (tag_type def.repr.tag) ≡ true
-  tag-is_integer = type-integer def.repr def.variants def.repr.tag (second_true _ (is_tag_in_form def.repr def.variants def.repr.tag) (first_true _ _ in_repr))
+  tag-is_integer = type-integer def.repr def.variants def.repr.tag (second_true _ (is_tag_in_form def.repr def.variants def.repr.tag) (first_true _ _ (in_repr tables id def types is.definition kind)))
 
   no_cause : has_cause (named tables.profile id Enum def.repr cases) ≡ false
-  no_cause = none-first (has_cause (named tables.profile id Enum def.repr cases)) (some_part has_cause (named tables.profile id Enum def.repr cases)) (ap has_no_layout (sym enum-whole) ∙ is.sound)
+  no_cause = none-first (has_cause (named tables.profile id Enum def.repr cases)) (some_part has_cause (named tables.profile id Enum def.repr cases)) (ap has_no_layout (sym (enum-whole tables id def types is.definition kind)) ∙ is.definition.sound)
 
   module _ (i : ℕ) (v : Variant) (gs : List Ground) (at_v : slice_get def.variants i ≡ Some v) (at_gs : slice_get types i ≡ Some gs) where
     value-form : is_value_in_form tables.profile def.repr.tag v.value ≡ true
     value-form =
         list_all-at (λ u. is_value_in_form tables.profile def.repr.tag u.value) def.variants i v
-        (second_true _ (list_all (λ u. is_value_in_form tables.profile def.repr.tag u.value) def.variants) (first_true _ _ (first_true _ _ is.in_form))) at_v
+        (second_true _ (list_all (λ u. is_value_in_form tables.profile def.repr.tag u.value) def.variants) (first_true _ _ (first_true _ _ is.definition.in_form))) at_v
 
     -- a tag holds its variant's value
     pub tag-fits : fits_integer tables.profile (tag_type def.repr.tag) v.value ≡ true
@@ -134,40 +118,29 @@ module _ (tables : Tables) (id : NamedId) (size : ℕ) (def : Def) (types : List
     abbrev members : List Layout
     members = field_layouts (fields_of part v.fields gs)
 
-    typed : length v.fields ≡ length gs
-    typed = typed-at def.variants types is.shaped i v gs at_v at_gs
-
-    variant-places : places_at (part (Named id)) i ≡ variant_places tables.profile def.repr begin members
-    variant-places = ap (λ t. places_at t i) enum-whole ∙ enum-places tables.profile id def.repr part def.variants types i v gs at_v at_gs
-
     variant-apart : Apart tag (variant_places tables.profile def.repr begin members) members size
     variant-apart =
-        subst (λ (n : ℕ). Apart tag (variant_places tables.profile def.repr begin members) members n) (sym (is.size ∙ ap size_of enum-whole))
+        subst (λ (n : ℕ). Apart tag (variant_places tables.profile def.repr begin members) members n) (sym (is.size ∙ ap size_of (enum-whole tables id def types is.definition kind)))
         (all-at (λ ls. Apart tag (variant_places tables.profile def.repr begin ls) ls (size_of (named tables.profile id Enum def.repr cases))) (variant_layouts cases) i members
         (variants-apart tables.profile id def.repr cases) (layouts-at part def.variants types i v gs at_v at_gs))
 
     -- the fields of a variant stand apart behind the tag, and inside the enum
-    pub variant-fields : AreFieldsOf tables id i tag size gs
+    pub variant-fields : AreFieldsWithin tables id i tag size gs
     variant-fields =
-        let same = layouts-same part v.fields gs typed in
-        let total = few-fields tables.profile def is.in_form in
-        let most = total-at def.variants i v at_v in
+        let same = layouts-same part v.fields gs (typed tables id def types is.definition kind i v gs at_v at_gs) in
         record {
-          each = is.each i gs at_gs;
-          few = omega (arith, typed);
-          sound = is.sound;
-          count = ap (λ xs. length xs) variant-places ∙ variant_places-count begin (first_place tables.profile def.repr) members def.repr.c ∙ ap (λ xs. length xs) same ∙ layouts-count part gs;
-          apart = subst (λ ps. Apart tag ps (field_layouts (elements part gs)) size) (sym variant-places)
+          fields = fields-of tables id def types is.definition kind i v gs at_v at_gs;
+          apart = subst (λ ps. Apart tag ps (field_layouts (elements part gs)) size) (sym (variant-places tables id def types is.definition kind i v gs at_v at_gs))
               (subst (λ ls. Apart tag (variant_places tables.profile def.repr begin members) ls size) same variant-apart);
         }
 
     -- their trees are those of the variant
     pub variant-made : field_parts size tag (places_at (part (Named id)) i) (elements part gs) ≡ field_parts size tag (variant_places tables.profile def.repr begin members) (fields_of part v.fields gs)
     variant-made =
-        ap (λ ps. field_parts size tag ps (elements part gs)) variant-places ∙ sym (placed-same part size tag (variant_places tables.profile def.repr begin members) v.fields gs typed)
+        ap (λ ps. field_parts size tag ps (elements part gs)) (variant-places tables id def types is.definition kind i v gs at_v at_gs) ∙ sym (placed-same part size tag (variant_places tables.profile def.repr begin members) v.fields gs (typed tables id def types is.definition kind i v gs at_v at_gs))
 
   -- the trees of the enum are its ways
   pub enum-made : one_of (variant_ways tables.profile def.repr (fields_place tables.profile def.repr cases) size cases) ∷ [] ≡ parts_of (part (Named id))
   unfolding parts_of
   enum-made =
-      ap (λ (n : ℕ). one_of (variant_ways tables.profile def.repr (fields_place tables.profile def.repr cases) n cases) ∷ []) (is.size ∙ ap size_of enum-whole) ∙ ap parts_of (sym enum-whole)
+      ap (λ (n : ℕ). one_of (variant_ways tables.profile def.repr (fields_place tables.profile def.repr cases) n cases) ∷ []) (is.size ∙ ap size_of (enum-whole tables id def types is.definition kind)) ∙ ap parts_of (sym (enum-whole tables id def types is.definition kind))

@@ -29,7 +29,7 @@ use Rattle.tm_layout.proofs.NodeLemmas.{all_nodes, nodes_in, nodes_of, row_nodes
 use Rattle.tm_layout.proofs.OverLemmas.{reached-over}
 use Rattle.tm_layout.proofs.RowLemmas.{first_true, named-level, second_true}
 use Rattle.tm_layout.proofs.TableLemmas.{both_false, over-whole, wrapped-other}
-use Rattle.tm_tree.proofs.InsideLemmas.{argument-other}
+use Rattle.tm_layout.proofs.LaidOutLemmas.{argument-other}
 
 -- where no part has a cause and the type isn't at fault, it has none itself
 no-cause : (own layout : Option Why) (below : Bool) → below ≡ false → or_else own (if below then None else layout) ≡ None → (is_some own || is_some layout) ≡ false

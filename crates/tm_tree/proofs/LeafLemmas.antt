@@ -30,7 +30,7 @@ use Rattle.tm_niche.proofs.WordLemmas.{one-is}
 use Rattle.tm_tree.specs.Fit.{IsFit, AreFit, AreVariantsFit}
 use Rattle.tm_tree.specs.Parts.{bare_parts, field_parts, guarded, hidden, pads, parts_of, prim_parts, struct_parts, tree_for, union_parts, union_ways, variant_ways, wrap_parts}
 use Rattle.tm_tree.proofs.BehindLemmas.{apart-first, apart-within, variants-apart}
-use Rattle.tm_tree.proofs.PlaceLemmas.{struct-end}
+use Rattle.tm_layout.proofs.EndLemmas.{struct-end}
 
 -- how deep a type holds others by value
 unfoldable mutual

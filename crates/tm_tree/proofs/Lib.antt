@@ -1,7 +1,6 @@
 pub mod PlainLemmas
-pub mod PlaceLemmas
 pub mod BehindLemmas
-pub mod InsideLemmas
+pub mod LevelLemmas
 pub mod DefinedLemmas
 pub mod EnumLemmas
 pub mod StepLemmas

@@ -23,7 +23,7 @@ use Rattle.tm_tree.specs.Fit.{HoldsValues, IsFit, AreFit, AreVariantsFit}
 use Rattle.tm_tree.specs.Parts.{bare_parts, field_parts, guarded, pads, parts_of, struct_parts, tree_for, union_parts, union_ways, variant_ways}
 use Rattle.tm_tree.proofs.BehindLemmas.{begin-tag, free-split, shifted-first}
 use Rattle.tm_tree.proofs.PlainLemmas.{guarded-words, never-words, prim-words, turns-words, wrap-words}
-use Rattle.tm_tree.proofs.PlaceLemmas.{bare-end, bare-gapless, bare-size, place-above, struct-end, tag-below, union-size, variants-end, NoGap, VariantsEnd}
+use Rattle.tm_layout.proofs.EndLemmas.{bare-end, bare-gapless, bare-size, place-above, struct-end, tag-below, union-size, variants-end, NoGap, VariantsEnd}
 
 no-length : (u : Word) → length u ≡ 0 → u ≡ []
 no-length [] e = refl

@@ -6,7 +6,8 @@ ghost use Rattle.tm_base.specs.Tables.{expanded_in};
 ghost use Rattle.tm_base.specs.Worlds.{tables_of};
 ghost use Rattle.tm_layout.specs.Made.{IsMadeFor};
 ghost use Rattle.tm_niche.specs.Forms.{tag_form};
-ghost use Rattle.tm_tree.specs.LaidOut.{IsLaidOut, tag_type};
+ghost use Rattle.tm_layout.specs.LaidOut.{IsLaidOut};
+ghost use Rattle.tm_tree.specs.LaidOut.{tag_type};
 
 use crate::rows::{Row, one};
 use std::alloc::Global;

@@ -9,7 +9,8 @@ ghost use Rattle.tm_base.specs.Places.{fields_place};
 ghost use Rattle.tm_base.specs.Tables.{expanded_in};
 ghost use Rattle.tm_base.specs.Worlds.{tables_of};
 ghost use Rattle.tm_layout.specs.Made.{EachIs};
-ghost use Rattle.tm_tree.specs.LaidOut.{AreFieldsOf, IsDefinition, IsLaidOut, places_at};
+ghost use Rattle.tm_layout.specs.LaidOut.{IsLaidOut, places_at};
+ghost use Rattle.tm_tree.specs.LaidOut.{AreFieldsWithin, IsSizedDefinition};
 ghost use Rattle.tm_tree.specs.Parts.{bare_parts, field_parts, union_ways, variant_ways};
 
 use crate::builder::Builder;
@@ -43,7 +44,7 @@ impl Builder<'_> {
         size: u32,
         types: &[Ground],
     ) -> Result<Members, Memory>
-        requires { AreFieldsOf (tables_of self.now.world.now) id variant front.end size types.now }
+        requires { AreFieldsWithin (tables_of self.now.world.now) id variant front.end size types.now }
         ensures { let part = expanded_in (tables_of self.now.world.now) in
             let places = places_at (part (Named id)) variant in
             IfOk result (λ parts. parts
@@ -87,7 +88,7 @@ impl Builder<'_> {
         def: &Def,
         types: &[List<Ground>],
     ) -> Result<Members, Memory>
-        requires is { IsDefinition (tables_of self.now.world.now) id size def.now types.now }
+        requires is { IsSizedDefinition (tables_of self.now.world.now) id size def.now types.now }
         requires kind { def.now.kind ≡ Enum }
         ensures { let profile = self.now.world.now.profile in
             let part = expanded_in (tables_of self.now.world.now) in

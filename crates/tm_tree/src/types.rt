@@ -6,7 +6,8 @@ ghost use Rattle.tm_base.specs.Tables.{expanded_in};
 ghost use Rattle.tm_base.specs.Worlds.{IsTypeOver, tables_of};
 ghost use Rattle.tm_layout.specs.Made.{IsMadeFor};
 ghost use Rattle.tm_tree.specs.Exact.{IsTreeOf};
-ghost use Rattle.tm_tree.specs.LaidOut.{IsDefinition, IsLaidOut};
+ghost use Rattle.tm_layout.specs.LaidOut.{IsLaidOut};
+ghost use Rattle.tm_tree.specs.LaidOut.{IsSizedDefinition};
 ghost use Rattle.tm_tree.specs.Parts.{parts_of, turns_of};
 
 use crate::builder::Builder;
@@ -108,7 +109,7 @@ impl Builder<'_> {
         def: &Def,
         types: &[List<Ground>],
     ) -> Result<Members, Memory>
-        requires { IsDefinition (tables_of self.now.world.now) id size def.now types.now }
+        requires { IsSizedDefinition (tables_of self.now.world.now) id size def.now types.now }
         ensures { let part = expanded_in (tables_of self.now.world.now) in
             IfOk result (λ parts. parts ≡ parts_of (part (Named id))) }
     {

@@ -19,12 +19,15 @@ use Rattle.tm_layout.specs.Made.{EachIs}
 use Rattle.tm_layout.proofs.MakingLemmas.{nodes-Array, nodes-row, nodes-Wrap, row-in_form, whole-there}
 use Rattle.tm_layout.proofs.NodeLemmas.{all_nodes, nodes_at, nodes_in, row_nodes, row_nodes_at}
 use Rattle.tm_check.specs.Begins.{begins, fields_begin, ref_begins, some_field_begins, takes_besides}
-use Rattle.tm_check.specs.LaidOut.{AreFieldsOf, IsDefinition, IsLaidOut, places_at}
+use Rattle.tm_layout.specs.LaidOut.{AreFieldsOf, IsDefinition, IsLaidOut, places_at}
 use Rattle.tm_check.specs.Numbers.{nonzero_begins, tag_begins}
 use Rattle.tm_check.specs.Runs.{word_of}
-use Rattle.tm_check.proofs.DefinedLemmas.{as_many, few-variants, only-laid_out, only-nodes, struct-begins, struct-fields, union-begins, union-is}
-use Rattle.tm_check.proofs.EnumLemmas.{enum-begins, variant-fields, variant-same}
-use Rattle.tm_check.proofs.LaidOutLemmas.{def-there, definition-of, inside-Array, inside-Wrap, level-begins, level-of, prim-small, wrapped-begins, wrapped-size, written}
+use Rattle.tm_layout.proofs.EnumFieldLemmas.{variant-fields}
+use Rattle.tm_layout.proofs.VariantLemmas.{as_many, few-variants, only-laid_out, only-nodes, union-is}
+use Rattle.tm_check.proofs.DefinedLemmas.{struct-begins, struct-fields, union-begins}
+use Rattle.tm_check.proofs.EnumLemmas.{enum-begins, variant-same}
+use Rattle.tm_layout.proofs.LaidOutLemmas.{def-there, definition-of, inside-Array, inside-Wrap, level-of, wrapped-size, written}
+use Rattle.tm_check.proofs.LevelLemmas.{level-begins, prim-small, wrapped-begins}
 use Rattle.tm_check.proofs.StepLemmas.{field-next, fields-end, first-closed, first-fails, made-so, placed-in, second-closed, second-fails, some-end, some-next, third-decides, times-step, times-stop, unmade, variants-end, variants-next, way-open}
 use Rattle.tm_check.proofs.matcher.Matcher.+matching.Goals as goal
 use Rattle.tm_check.proofs.matcher.Matcher.+matching.Goals.{array-then-loop-left-test+else-not-is_empty, array-else-loop-left-test, fields-then-not-is_free-via-then-not-is_free, fields-then-not-is_free-via-else-not-is_free+then-not-begins, some_field-else-begins-via-then-begins+else-is_free, some_field-else-begins-via-else-begins, some_variant-else-tag-via-then-tag+else-fields, some_variant-else-tag-via-else-tag}

@@ -7,7 +7,7 @@ use Rattle.tm_base.specs.Tables.{expanded_in}
 use Rattle.tm_base.specs.Worlds.{tables_of}
 use Rattle.tm_layout.proofs.NodeLemmas.{nodes_in, all_nodes, row_nodes}
 use Rattle.tm_check.specs.Begins.{begins, fields_begin, some_field_begins, some_variant_begins, times_begin}
-use Rattle.tm_check.specs.LaidOut.{places_at}
+use Rattle.tm_layout.specs.LaidOut.{places_at}
 use Rattle.tm_check.specs.Runs.{word_of}
 use Rattle.tm_check.proofs.matcher.Matcher.+matching.Given as goal
 

@@ -1,6 +1,7 @@
 use Rattle.std.proofs.Common.{◌∙◌}
 use Rattle.tm_base.specs.Worlds.{tables_of}
-use Rattle.tm_check.proofs.LaidOutLemmas.{prim-laid_out, prim-sized, tag-sized}
+use Rattle.tm_layout.proofs.LaidOutLemmas.{prim-laid_out, prim-sized}
+use Rattle.tm_check.proofs.LevelLemmas.{tag-sized}
 use Rattle.tm_check.proofs.matcher.Matcher.tag_size.Goals as goal
 
 pub size-requires : goal.size-requires

@@ -19,11 +19,14 @@ use Rattle.tm_layout.proofs.MakingLemmas.{nodes-Array, nodes-row, nodes-Wrap, ro
 use Rattle.tm_layout.proofs.NodeLemmas.{all_nodes, nodes_at, nodes_in, row_nodes, row_nodes_at}
 use Rattle.tm_niche.specs.Forms.{IsIntegerSize, joined, nonzero_form, one_of, tag_form}
 use Rattle.tm_tree.specs.declared.rows.Row.{Row}
-use Rattle.tm_tree.specs.LaidOut.{AreFieldsOf, IsDefinition, IsLaidOut, places_at}
+use Rattle.tm_layout.specs.LaidOut.{IsLaidOut, places_at}
+use Rattle.tm_tree.specs.LaidOut.{AreFieldsWithin, IsSizedDefinition}
 use Rattle.tm_tree.specs.Parts.{bare_parts, field_parts, guarded, parts_of, tree_for, union_ways, variant_ways, wrap_parts}
-use Rattle.tm_tree.proofs.DefinedLemmas.{as_many, bare-made, few-variants, only-laid_out, only-nodes, struct-fields, struct-is, struct-made, union-fields, union-is, union-made}
+use Rattle.tm_layout.proofs.VariantLemmas.{as_many, few-variants, only-laid_out, only-nodes, struct-is, union-is}
+use Rattle.tm_tree.proofs.DefinedLemmas.{bare-made, struct-fields, struct-made, union-fields, union-made}
 use Rattle.tm_tree.proofs.EnumLemmas.{enum-made, tag-fits, variant-fields, variant-made}
-use Rattle.tm_tree.proofs.InsideLemmas.{def-there, definition-of, inside-Array, inside-Wrap, level-of, level-parts, no-Tuple, prim-integer, wrapped-parts, wrapped-size, written}
+use Rattle.tm_layout.proofs.LaidOutLemmas.{def-there, definition-of, inside-Array, inside-Wrap, level-of, no-Tuple, wrapped-size, written}
+use Rattle.tm_tree.proofs.LevelLemmas.{level-parts, prim-integer, wrapped-parts}
 use Rattle.tm_tree.proofs.StepLemmas.{bare-end, bare-next, inside-at, place-inside, place-past, place-there, placed-in, row-end, row-next, row-within, union-way, variants-end, variants-next, ways-end, ways-next}
 use Rattle.tm_tree.proofs.TypeLemmas.{tree-is}
 use Rattle.tm_tree.proofs.builder.Builder.+building.Goals as goal
@@ -58,8 +61,8 @@ defined-bare_parts-requires t c =
     let tables = tables_of c.args.self.now.world.now in
     let types = c.args.types.now in
     let is = c.requires in
-    let one = struct-is tables c.args.id c.args.size c.args.def.now types is c.in-Struct.is in
-    let laid = subst (EachIs (IsLaidOut tables)) (sym c.only.ensures) (only-laid_out tables c.args.id c.args.size c.args.def.now types is one) in
+    let one = struct-is tables c.args.id c.args.def.now types is.definition c.in-Struct.is in
+    let laid = subst (EachIs (IsLaidOut tables)) (sym c.only.ensures) (only-laid_out tables c.args.id c.args.def.now types is.definition one) in
     let few = only-nodes tables types in
     let smaller : 2 + all_nodes tables c.only.result.now < 4 + row_nodes tables types = rw c.only.ensures (omega arith) in
     search rules
@@ -69,8 +72,8 @@ defined-field_parts-requires t c =
     let tables = tables_of c.args.self.now.world.now in
     let types = c.args.types.now in
     let begin : c.new-row.result.end ≡ 0 = ap (λ (r : Row). r.end) c.new-row.ensures in
-    let fields = subst (λ (n : ℕ). AreFieldsOf tables c.args.id 0 n c.args.size c.only-in-Struct-2.result.now) (sym begin)
-    (subst (AreFieldsOf tables c.args.id 0 0 c.args.size) (sym c.only-in-Struct-2.ensures) (struct-fields tables c.args.id c.args.size c.args.def.now types c.requires c.in-Struct-2.is c.if-def.false)) in
+    let fields = subst (λ (n : ℕ). AreFieldsWithin tables c.args.id 0 n c.args.size c.only-in-Struct-2.result.now) (sym begin)
+    (subst (AreFieldsWithin tables c.args.id 0 0 c.args.size) (sym c.only-in-Struct-2.ensures) (struct-fields tables c.args.id c.args.size c.args.def.now types c.requires c.in-Struct-2.is c.if-def.false)) in
     let few = only-nodes tables types in
     let smaller : 2 + all_nodes tables c.only-in-Struct-2.result.now < 4 + row_nodes tables types = rw c.only-in-Struct-2.ensures (omega arith) in
     search rules
@@ -79,8 +82,8 @@ pub defined-union_ways-requires : goal.defined-union_ways-requires
 defined-union_ways-requires t c =
     let tables = tables_of c.args.self.now.world.now in
     let types = c.args.types.now in
-    let one = union-is tables c.args.id c.args.size c.args.def.now types c.requires c.in-Union.is in
-    let laid = subst (EachIs (IsLaidOut tables)) (sym c.only-in-Union.ensures) (only-laid_out tables c.args.id c.args.size c.args.def.now types c.requires one) in
+    let one = union-is tables c.args.id c.args.def.now types c.requires.definition c.in-Union.is in
+    let laid = subst (EachIs (IsLaidOut tables)) (sym c.only-in-Union.ensures) (only-laid_out tables c.args.id c.args.def.now types c.requires.definition one) in
     let inside = subst (λ gs. AllByRecursion (λ l. l.size ≤ c.args.size) (field_layouts (elements (expanded_in tables) gs))) (sym c.only-in-Union.ensures) (union-fields tables c.args.id c.args.size c.args.def.now types c.requires c.in-Union.is) in
     let few = only-nodes tables types in
     let smaller : 2 + all_nodes tables c.only-in-Union.result.now < 4 + row_nodes tables types = rw c.only-in-Union.ensures (omega arith) in
@@ -137,23 +140,23 @@ field_parts-pad_to-requires t c =
     let world = c.args.self.now.world.now in
     let part = expanded_in (tables_of world) in
     let ps = places_at (part (Named c.args.id)) c.args.variant in
-    let there = place-there part c.args.size ps c.args.types.now _ c.loop-field.field c.loop-field.row c.index-types-field.result c.requires.count c.loop-field-test.true c.index-types-field.is c.loop-field.invariant in
-    let at : c.place-place.result ≡ get_or ps c.loop-field.field 0 = c.place-place.ensures.place (tables_of world) c.args.self.now.made _ c.requires.sound (placed-in (slice_get (places_of (part (Named c.args.id))) c.args.variant) c.loop-field.field _ there) in
-    let past = place-past part c.args.size ps c.args.types.now _ c.loop-field.field c.loop-field.row c.index-types-field.result c.requires.count c.loop-field-test.true c.index-types-field.is c.loop-field.invariant in
+    let there = place-there part c.args.size ps c.args.types.now _ c.loop-field.field c.loop-field.row c.index-types-field.result c.requires.fields.count c.loop-field-test.true c.index-types-field.is c.loop-field.invariant in
+    let at : c.place-place.result ≡ get_or ps c.loop-field.field 0 = c.place-place.ensures.place (tables_of world) c.args.self.now.made _ c.requires.fields.sound (placed-in (slice_get (places_of (part (Named c.args.id))) c.args.variant) c.loop-field.field _ there) in
+    let past = place-past part c.args.size ps c.args.types.now _ c.loop-field.field c.loop-field.row c.index-types-field.result c.requires.fields.count c.loop-field-test.true c.index-types-field.is c.loop-field.invariant in
     omega arith
 
 pub field_parts-parts-requires : goal.field_parts-parts-requires
 field_parts-parts-requires t c =
     let tables = tables_of c.args.self.now.world.now in
     let at = slice_get_read c.args.types.now (length c.args.types.now) c.loop-field.field c.index-types-field.result refl c.loop-field-test.true c.index-types-field.is in
-    let laid = c.requires.each c.loop-field.field c.index-types-field.result at in
+    let laid = c.requires.fields.each c.loop-field.field c.index-types-field.result at in
     let below = nodes_at tables c.args.types.now c.loop-field.field c.index-types-field.result c.loop-field-test.true in
     let smaller : 1 + nodes_in tables c.index-types-field.result < 2 + all_nodes tables c.args.types.now = rw c.index-types-field.is (omega arith) in
     search rules
 
 pub field_parts-size-requires : goal.field_parts-size-requires
 field_parts-size-requires t c =
-    c.requires.each c.loop-field.field c.index-types-field.result
+    c.requires.fields.each c.loop-field.field c.index-types-field.result
     (slice_get_read c.args.types.now (length c.args.types.now) c.loop-field.field c.index-types-field.result refl c.loop-field-test.true c.index-types-field.is)
 
 pub field_parts-add-requires : goal.field_parts-add-requires
@@ -161,9 +164,9 @@ field_parts-add-requires t c =
     let world = c.args.self.now.world.now in
     let part = expanded_in (tables_of world) in
     let ps = places_at (part (Named c.args.id)) c.args.variant in
-    let there = place-there part c.args.size ps c.args.types.now _ c.loop-field.field c.loop-field.row c.index-types-field.result c.requires.count c.loop-field-test.true c.index-types-field.is c.loop-field.invariant in
-    let at : c.place-place.result ≡ get_or ps c.loop-field.field 0 = c.place-place.ensures.place (tables_of world) c.args.self.now.made _ c.requires.sound (placed-in (slice_get (places_of (part (Named c.args.id))) c.args.variant) c.loop-field.field _ there) in
-    let inside = place-inside part c.args.size ps c.args.types.now _ c.loop-field.field c.loop-field.row c.index-types-field.result c.requires.count c.loop-field-test.true c.index-types-field.is c.loop-field.invariant in
+    let there = place-there part c.args.size ps c.args.types.now _ c.loop-field.field c.loop-field.row c.index-types-field.result c.requires.fields.count c.loop-field-test.true c.index-types-field.is c.loop-field.invariant in
+    let at : c.place-place.result ≡ get_or ps c.loop-field.field 0 = c.place-place.ensures.place (tables_of world) c.args.self.now.made _ c.requires.fields.sound (placed-in (slice_get (places_of (part (Named c.args.id))) c.args.variant) c.loop-field.field _ there) in
+    let inside = place-inside part c.args.size ps c.args.types.now _ c.loop-field.field c.loop-field.row c.index-types-field.result c.requires.fields.count c.loop-field-test.true c.index-types-field.is c.loop-field.invariant in
     let end : c.pad_to.new.self.end ≡ c.place-place.result = ap (λ (r : Row). r.end) c.in_ok-pad_to.ensures in
     let size : c.size.result ≡ size_of (part c.index-types-field.result) = c.size.ensures in
     let small : c.args.size < 2 ^ 32 = c.ranges.size.fits in
@@ -174,9 +177,9 @@ field_parts-loop-field-preserved t c =
     let world = c.args.self.now.world.now in
     let part = expanded_in (tables_of world) in
     let ps = places_at (part (Named c.args.id)) c.args.variant in
-    let there = place-there part c.args.size ps c.args.types.now _ c.loop-field.field c.loop-field.row c.index-types-field.result c.requires.count c.loop-field-test.true c.index-types-field.is c.loop-field.invariant in
-    let at : c.place-place.result ≡ get_or ps c.loop-field.field 0 = c.place-place.ensures.place (tables_of world) c.args.self.now.made _ c.requires.sound (placed-in (slice_get (places_of (part (Named c.args.id))) c.args.variant) c.loop-field.field _ there) in
-    row-next part c.args.size ps c.args.types.now _ c.loop-field.field c.loop-field.row c.index-types-field.result c.requires.count c.loop-field-test.true c.index-types-field.is c.loop-field.invariant
+    let there = place-there part c.args.size ps c.args.types.now _ c.loop-field.field c.loop-field.row c.index-types-field.result c.requires.fields.count c.loop-field-test.true c.index-types-field.is c.loop-field.invariant in
+    let at : c.place-place.result ≡ get_or ps c.loop-field.field 0 = c.place-place.ensures.place (tables_of world) c.args.self.now.made _ c.requires.fields.sound (placed-in (slice_get (places_of (part (Named c.args.id))) c.args.variant) c.loop-field.field _ there) in
+    row-next part c.args.size ps c.args.types.now _ c.loop-field.field c.loop-field.row c.index-types-field.result c.requires.fields.count c.loop-field-test.true c.index-types-field.is c.loop-field.invariant
     c.place-place.result c.size.result c.in_ok-parts.field-0 c.add.new.self at c.in_ok-parts.ensures c.size.ensures
     (c.in_ok-add.ensures ∙ ap (λ (r : Row). record { parts = r.parts ++ c.in_ok-parts.field-0; end = r.end + c.size.result }) c.in_ok-pad_to.ensures)
 
@@ -209,8 +212,8 @@ named-defined-requires t c =
     let at = sym c.in-Some.ensures.item in
     let nodes = nodes-row tables c.args.id row (written tables (Named c.args.id) c.requires) at (row-in_form world c.args.id.0 row at) in
     let smaller : 4 + row_nodes tables c.as_slice.result.now < nodes_in tables (Named c.args.id) = rw (c.as_slice.ensures, nodes) (omega arith) in
-    let is = subst (IsDefinition tables c.args.id c.size-size.result c.in-Some-get.def.now) (sym c.as_slice.ensures)
-    (definition-of world c.args.id c.size-size.result row c.in-Some-get.def.now c.requires at (sym c.in-Some-get.ensures.item) c.size-size.ensures) in
+    let is = subst (IsSizedDefinition tables c.args.id c.size-size.result c.in-Some-get.def.now) (sym c.as_slice.ensures)
+    record { definition = definition-of world c.args.id row c.in-Some-get.def.now c.requires at (sym c.in-Some-get.ensures.item); size = c.size-size.ensures } in
     search rules
 
 -- ---- types
@@ -370,7 +373,7 @@ union_ways-returns t c =
 
 pub variant_ways-unreachable-requires : goal.variant_ways-unreachable-requires
 variant_ways-unreachable-requires t c =
-    let many = as_many c.args.def.now.variants c.args.types.now c.requires.is.shaped in
+    let many = as_many c.args.def.now.variants c.args.types.now c.requires.is.definition.shaped in
     let long = ap (λ (vs : List Variant). length vs) c.as_slice-variant-items.ensures in
     let below : c.loop-number.number < length c.args.types.now = omega (arith, c.loop-number-test.true) in
     let h = c.in_default.ensures in
@@ -394,7 +397,7 @@ variant_ways-tag-requires-clause-fits t c =
 
 pub variant_ways-overflow_cast-number : goal.variant_ways-overflow_cast-number
 variant_ways-overflow_cast-number t c =
-    let few = few-variants c.args.self.now.world.now.profile c.args.def.now c.requires.is.in_form in
+    let few = few-variants c.args.self.now.world.now.profile c.args.def.now c.requires.is.definition.in_form in
     let long = ap (λ (vs : List Variant). length vs) c.as_slice-variant-items.ensures in
     let below : c.loop-number.number < 2 ^ 32 = omega (arith, c.loop-number-test.true) in
     search rules
@@ -414,8 +417,8 @@ variant_ways-field_parts-requires t c =
     let at_gs = slice_get_read types (length types) i gs refl c.in-Some.ensures.lookup.3.0 c.in-Some.ensures.lookup.1 in
     let fields = variant-fields tables c.args.id c.args.size def types c.requires.is c.requires.kind i v gs at_v at_gs in
     let end : c.in_ok-tag.tag.end ≡ (tag_layout world.profile def.repr.tag).size = ap (λ (r : Row). r.end) c.in_ok-tag.ensures in
-    let of_slice = subst (λ (n : ℕ). AreFieldsOf tables c.args.id i n c.args.size c.as_slice.result.now) (sym end)
-    (subst (AreFieldsOf tables c.args.id i (tag_layout world.profile def.repr.tag).size c.args.size) (sym c.as_slice.ensures) fields) in
+    let of_slice = subst (λ (n : ℕ). AreFieldsWithin tables c.args.id i n c.args.size c.as_slice.result.now) (sym end)
+    (subst (AreFieldsWithin tables c.args.id i (tag_layout world.profile def.repr.tag).size c.args.size) (sym c.as_slice.ensures) fields) in
     let below = row_nodes_at tables types i gs c.in-Some.ensures.lookup.3.0 in
     let same : c.as_slice.result.now ≡ get_or types i gs = c.as_slice.ensures ∙ c.in-Some.ensures.lookup.1 in
     let smaller : 2 + all_nodes tables c.as_slice.result.now < 3 + row_nodes tables types = rw same (omega arith) in

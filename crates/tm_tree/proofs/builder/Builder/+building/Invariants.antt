@@ -5,7 +5,7 @@ use Rattle.tm_base.specs.Places.{fields_place}
 use Rattle.tm_base.specs.Tables.{expanded_in}
 use Rattle.tm_base.specs.Worlds.{tables_of}
 use Rattle.tm_layout.proofs.NodeLemmas.{nodes_in, all_nodes, row_nodes}
-use Rattle.tm_tree.specs.LaidOut.{places_at}
+use Rattle.tm_layout.specs.LaidOut.{places_at}
 use Rattle.tm_tree.specs.Parts.{bare_parts, field_parts, union_ways, variant_ways}
 use Rattle.tm_tree.proofs.StepLemmas.{IsRowSoFar}
 use Rattle.tm_tree.proofs.builder.Builder.+building.Given as goal

@@ -5,7 +5,7 @@ use Rattle.tm_base.specs.Layout.{prim_size}
 use Rattle.tm_base.specs.Worlds.{tables_of}
 use Rattle.tm_niche.specs.Forms.{tag_form}
 use Rattle.tm_tree.proofs.EnumLemmas.{tag-row}
-use Rattle.tm_tree.proofs.InsideLemmas.{prim-laid_out, prim-sized}
+use Rattle.tm_layout.proofs.LaidOutLemmas.{prim-laid_out, prim-sized}
 use Rattle.tm_tree.proofs.builder.Builder.tag.Goals as goal
 
 pub size-requires : goal.size-requires

@@ -1,5 +1,5 @@
 -- What a type that has a layout holds by value has one too.
-use Rattle.std.proofs.Common.{◌≡◌, ℕ, zero, suc, ◌≤◌, ◌++◌, refl, sym, ◌∙◌, ap, subst, Bool, true, false, ◌&&◌, ◌||◌, List, [], ◌∷◌, length, Option, None, Some, unwrap_or, slice_get, arith}
+use Rattle.std.proofs.Common.{◌≡◌, ℕ, zero, suc, ◌++◌, refl, sym, ◌∙◌, ap, subst, Bool, true, false, ◌&&◌, List, [], ◌∷◌, length, Option, None, Some, slice_get, arith}
 use Rattle.std.specs.List.{Contains, flat_map, list_all}
 use Rattle.std.specs.Option.{is_some}
 use Rattle.std.proofs.lemmas.Bool.{eqb-true}
@@ -13,16 +13,12 @@ use Rattle.tm_base.specs.declared.ground.Ground.TheOpen.{Ground-F}
 use Rattle.tm_base.specs.declared.ground.Ground.TheVariants as ground_is
 use Rattle.tm_base.specs.declared.ground.NamedId.{NamedId}
 use Rattle.tm_base.specs.declared.ground.Primitive.{Primitive}
-use Rattle.tm_base.specs.declared.ground.Primitive.TheVariants as primitive
 use Rattle.tm_base.specs.declared.ground.Wrapper.{Wrapper}
 use Rattle.tm_base.specs.declared.ground.Wrapper.TheVariants as wrapper
-use Rattle.tm_base.specs.declared.profile.Profile.{Profile}
-use Rattle.tm_base.specs.declared.profile.Profile.TheVariants.{Le64, Be64, Le32}
 use Rattle.tm_base.specs.declared.world.World.{World}
-use Rattle.tm_base.specs.Cells.{Word}
 use Rattle.tm_base.specs.Expanded.{Expanded, array, named, prim, wrap, expanded_within, fields_of, level, variants_of}
 use Rattle.tm_base.specs.Faults.{has_cause, has_no_layout}
-use Rattle.tm_base.specs.Layout.{layout_of, prim_size, size_of, tag_layout}
+use Rattle.tm_base.specs.Layout.{layout_of, prim_size, size_of}
 use Rattle.tm_base.specs.Parts.{is_whole, some_part, some_field, some_variant, some_within}
 use Rattle.tm_base.specs.Reaches.{ChainIn, argument_of, parts_within, pointees_within, row_parts}
 use Rattle.tm_base.specs.Tables.{Tables, expanded_in}
@@ -37,8 +33,7 @@ use Rattle.tm_layout.proofs.OverLemmas.{reached-over}
 use Rattle.tm_layout.proofs.RefusalLemmas.{refused-exactly}
 use Rattle.tm_layout.proofs.RowLemmas.{first_true, named-level, second_true}
 use Rattle.tm_layout.proofs.TableLemmas.{first_false, over-whole, second_false, wrapped-other}
-use Rattle.tm_check.specs.Begins.{begins, takes_besides}
-use Rattle.tm_check.specs.LaidOut.{IsDefinition, IsLaidOut}
+use Rattle.tm_layout.specs.LaidOut.{IsDefinition, IsLaidOut}
 
 both_true : (a b : Bool) → a ≡ true → b ≡ true → (a && b) ≡ true
 both_true a b p q = cc
@@ -104,12 +99,12 @@ module _ (world : World) where
   pub level-of : (g : Ground) (x : Ground-F Ground) → IsLaidOut (tables_of world) g → out-Ground g ≡ x → part g ≡ one_level x
   level-of g x laid e = expanded-level world.profile world.defs world.named g (over-whole (tables_of world) g laid.over) ∙ ap one_level e
 
-  -- so is what begins one
-  pub level-begins : (A : ℕ → ℕ → Bool) (keep : Bool) (g : Ground) (x : Ground-F Ground) (w : Word) → IsLaidOut (tables_of world) g → out-Ground g ≡ x → begins A keep (one_level x) w ≡ begins A keep (part g) w
-  level-begins A keep g x w laid e = ap (λ t. begins A keep t w) (sym (level-of g x laid e))
-
   level-sound : (g : Ground) (x : Ground-F Ground) → IsLaidOut (tables_of world) g → out-Ground g ≡ x → has_no_layout (one_level x) ≡ false
   level-sound g x laid e = ap has_no_layout (sym (level-of g x laid e)) ∙ laid.sound
+
+  -- a tuple has no layout
+  pub no-Tuple : (g : Ground) (gs : List Ground) → IsLaidOut (tables_of world) g → out-Ground g ≡ Ground-F.Tuple gs → ⊥
+  no-Tuple g gs laid e = let none : true ≡ false = level-sound g (Ground-F.Tuple gs) laid e in cc
 
   entered-over : (g h : Ground) (x : Ground-F Ground) → IsLaidOut (tables_of world) g → out-Ground g ≡ x → Contains (parts_within world.named x ++ pointees_within world.refs x) h → IsTypeOver (tables_of world) h
   unfolding ChainIn
@@ -137,12 +132,6 @@ module _ (world : World) where
   pub wrapped-size : (g k : Ground) (w : Wrapper) → (w ≡ wrapper.PhantomData → ⊥) → IsLaidOut (tables_of world) g → out-Ground g ≡ Ground-F.Wrap w k → size_of (part g) ≡ size_of (part k)
   unfolding layout_of
   wrapped-size g k w other laid e = ap size_of (level-of g (Ground-F.Wrap w k) laid e ∙ wrapped-other (tables_of world) [] w k other)
-
-  -- a wrapper begins with what it takes besides, or with what it holds
-  pub wrapped-begins : (A : ℕ → ℕ → Bool) (keep : Bool) (g k : Ground) (w : Wrapper) (v : Word) → (w ≡ wrapper.PhantomData → ⊥) → IsLaidOut (tables_of world) g → out-Ground g ≡ Ground-F.Wrap w k
-      → (takes_besides w (size_of (part k)) v || begins A keep (part k) v) ≡ begins A keep (part g) v
-  unfolding begins
-  wrapped-begins A keep g k w v other laid e = ap (λ t. begins A keep t v) (sym (level-of g (Ground-F.Wrap w k) laid e ∙ wrapped-other (tables_of world) [] w k other))
 
   -- a named type with a layout, by its row and its definition
   pub definition-of : (id : NamedId) (row : NamedRow) (def : Def) → IsLaidOut (tables_of world) (Named id) → slice_get world.named id.0 ≡ Some row → slice_get world.defs row.def.0 ≡ Some def
@@ -189,18 +178,3 @@ module _ (tables : Tables) (p : Primitive) where
         (both_true (is_head_in_form (length tables.named) (length tables.refs) (out-Ground (Prim p))) true (ap (is_head_in_form (length tables.named) (length tables.refs)) (ground_is.outs-Prim p)) refl) prim-whole;
     sound = ap has_no_layout prim-level ∙ sym (refused-exactly (prim tables.profile p)) ∙ ap is_some (sym (primitive-facts tables.profile p (prim_size tables.profile p) refl).refusal);
   }
-
--- how many bytes a primitive may have
-pub prim-small : (profile : Profile) (p : Primitive) → prim_size profile p ≤ 16
-prim-small Le64 primitive.Usize = omega arith
-prim-small Be64 primitive.Usize = omega arith
-prim-small Le32 primitive.Usize = omega arith
-prim-small Le64 primitive.Isize = omega arith
-prim-small Be64 primitive.Isize = omega arith
-prim-small Le32 primitive.Isize = omega arith
-prim-small profile p = omega arith
-
--- a tag has as many bytes as its type
-pub tag-sized : (profile : Profile) (tag : Option Primitive) (p : Primitive) → p ≡ unwrap_or tag primitive.I32 → prim_size profile p ≡ (tag_layout profile tag).size
-tag-sized profile None p e = ap (prim_size profile) e
-tag-sized profile (Some q) p e = ap (prim_size profile) e

@@ -1,4 +1,4 @@
--- Types of a world that have a layout, and what their definitions and fields are, as they are matched.
+-- Types of a world that have a layout, and what their definitions and fields are.
 use Rattle.std.specs.Prelude.{◌≡◌, ◌≤◌, ℕ, true, false, IsTrue, List, [], length, slice_get, unwrap_or}
 use Rattle.tm_base.specs.declared.definition.Def.{Def}
 use Rattle.tm_base.specs.declared.ground.Ground.{Ground, Named}
@@ -16,7 +16,7 @@ abbrev pub places_at : Expanded → ℕ → List ℕ
 places_at t variant_number = unwrap_or (slice_get (places_of t) variant_number) []
 
 module _ (tables : Tables) where
-  -- a type over the world that has a layout
+  -- a type over the world whose size and alignment are guaranteed
   pub record IsLaidOut (g : Ground) : Type 0 where
     pub over : IsTypeOver tables g
     pub sound : has_no_layout (expanded_in tables g) ≡ false
