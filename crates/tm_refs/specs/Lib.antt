@@ -1,4 +1,3 @@
-pub mod LaidOut
 pub mod Local
 pub mod Looks
 pub mod Standings

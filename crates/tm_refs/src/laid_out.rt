@@ -3,7 +3,7 @@ ghost use Rattle.tm_base.specs.Layout.{align_of, size_of};
 ghost use Rattle.tm_base.specs.Tables.{expanded_in};
 ghost use Rattle.tm_base.specs.Worlds.{tables_of};
 ghost use Rattle.tm_layout.specs.Made.{IsMadeFor};
-ghost use Rattle.tm_refs.specs.LaidOut.{HasLayout};
+ghost use Rattle.tm_layout.specs.LaidOut.{IsLaidOut};
 
 use tm_base::{Ground, World};
 use tm_layout::{Layout, Layouts};
@@ -11,7 +11,7 @@ use tm_layout::{Layout, Layouts};
 /// The layout of a type that has one.
 pub fn layout(world: &World, layouts: &Layouts, g: &Ground) -> Layout
     requires made { IsMadeFor (tables_of world.now) layouts.now }
-    requires has { HasLayout (tables_of world.now) g.now }
+    requires has { IsLaidOut (tables_of world.now) g.now }
     ensures size { result.size ≡ size_of (expanded_in (tables_of world.now) g.now) }
     ensures align { result.align ≡ align_of (expanded_in (tables_of world.now) g.now) }
 {

@@ -3,7 +3,7 @@ ghost use Rattle.tm_base.specs.Compatible.{Keeps};
 ghost use Rattle.tm_base.specs.Tables.{OnRows};
 ghost use Rattle.tm_base.specs.Worlds.{tables_of};
 ghost use Rattle.tm_layout.specs.Made.{IsMadeFor};
-ghost use Rattle.tm_refs.specs.LaidOut.{HasLayout};
+ghost use Rattle.tm_layout.specs.LaidOut.{IsLaidOut};
 ghost use Rattle.tm_refs.specs.Local.{AreJudged, IsLocalAnswer};
 ghost use Rattle.tm_region.specs.Order.{IsOrderOf};
 
@@ -69,8 +69,8 @@ fn keeps(
 ) -> bool
     requires made { IsMadeFor (tables_of world.now) layouts.now }
     requires order { IsOrderOf world.now.bounds order.now }
-    requires source { HasLayout (tables_of world.now) source.now.pointee }
-    requires target { HasLayout (tables_of world.now) target.now.pointee }
+    requires source { IsLaidOut (tables_of world.now) source.now.pointee }
+    requires target { IsLaidOut (tables_of world.now) target.now.pointee }
     ensures { IsTrue result ↔ Keeps (tables_of world.now) assume source.now target.now rule }
 {
     match rule {

@@ -3,7 +3,7 @@ ghost use Rattle.std.specs.Prelude.{◌≡◌, ℕ, ◌<◌, ◌||◌, OnOk, fal
 ghost use Rattle.std.specs.List.{list_any};
 ghost use Rattle.tm_base.specs.Tables.{expanded_in};
 ghost use Rattle.tm_base.specs.Worlds.{tables_of};
-ghost use Rattle.tm_refs.specs.LaidOut.{HasLayout};
+ghost use Rattle.tm_layout.specs.LaidOut.{IsLaidOut};
 ghost use Rattle.tm_refute.specs.Asking.{AsksAll, AsksLeaves, AsksToo, HasSource, ProofAsksToo, is_of};
 ghost use Rattle.tm_refute.specs.Chosen.{IsChosenProof};
 ghost use Rattle.tm_refute.specs.Making.{IsMaking};
@@ -27,7 +27,7 @@ impl Maker<'_> {
         asked: &mut Asked,
     ) -> Result<(), Memory>
         requires making { IsMaking self.now }
-        requires has { HasLayout (tables_of self.now.world.now) t.now }
+        requires has { IsLaidOut (tables_of self.now.world.now) t.now }
         requires value { HasSource (tables_of self.now.world.now) piece.now.word }
         ensures { let tables = tables_of self.now.world.now in
             OnOk result (AsksToo tables self.now.assume limit
@@ -92,8 +92,8 @@ impl Maker<'_> {
         asked: &mut Asked,
     ) -> Result<(), Memory>
         requires making { IsMaking self.now }
-        requires source { HasLayout (tables_of self.now.world.now) s.now.pointee }
-        requires target { HasLayout (tables_of self.now.world.now) t.now.pointee }
+        requires source { IsLaidOut (tables_of self.now.world.now) s.now.pointee }
+        requires target { IsLaidOut (tables_of self.now.world.now) t.now.pointee }
         requires is { let tables = tables_of self.now.world.now in
             IsChosenProof tables self.now.assume depth proof.now s.now t.now }
         ensures { let tables = tables_of self.now.world.now in

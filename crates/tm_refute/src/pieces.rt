@@ -4,7 +4,7 @@ ghost use Rattle.tm_base.specs.Tables.{expanded_in};
 ghost use Rattle.tm_base.specs.Transmutes.{IsSourceWord};
 ghost use Rattle.tm_base.specs.Viable.{Viable};
 ghost use Rattle.tm_base.specs.Worlds.{tables_of};
-ghost use Rattle.tm_refs.specs.LaidOut.{HasLayout};
+ghost use Rattle.tm_layout.specs.LaidOut.{IsLaidOut};
 ghost use Rattle.tm_refute.specs.Chosen.{shown};
 ghost use Rattle.tm_refute.specs.Ready.{IsReady};
 ghost use Rattle.tm_refute.specs.Refutes.{Breaks, IsKnown, Stands};
@@ -27,8 +27,8 @@ impl Verifier<'_> {
         piece: &Piece,
     ) -> Result<bool, Memory>
         requires ready { IsReady self.now }
-        requires source { HasLayout (tables_of self.now.world.now) s.now }
-        requires target { HasLayout (tables_of self.now.world.now) t.now }
+        requires source { IsLaidOut (tables_of self.now.world.now) s.now }
+        requires target { IsLaidOut (tables_of self.now.world.now) t.now }
         ensures { let tables = tables_of self.now.world.now in
             IfOk result (λ breaks. IsTrue breaks
             ↔ Breaks tables self.now.assume self.now.entries.now limit
@@ -56,7 +56,7 @@ impl Verifier<'_> {
     /// Whether the cells are a value of a source.
     fn is_value(&self, s: &Ground, word: &[Cell]) -> bool
         requires ready { IsReady self.now }
-        requires source { HasLayout (tables_of self.now.world.now) s.now }
+        requires source { IsLaidOut (tables_of self.now.world.now) s.now }
         ensures { let tables = tables_of self.now.world.now in
             IsTrue result ↔ IsSourceWord (expanded_in tables s.now) word.now }
     {
@@ -66,7 +66,7 @@ impl Verifier<'_> {
     /// Whether the target goes along with the piece's word, fitted, up to its place.
     fn goes_along(&self, limit: Option<u32>, t: &Ground, piece: &Piece) -> Result<bool, Memory>
         requires ready { IsReady self.now }
-        requires target { HasLayout (tables_of self.now.world.now) t.now }
+        requires target { IsLaidOut (tables_of self.now.world.now) t.now }
         ensures { let t = expanded_in (tables_of self.now.world.now) t.now in
             IfOk result (λ goes. IsTrue goes
             ↔ Viable (Stands self.now.entries.now limit) self.now.assume.safety t (shown t piece.now)) }

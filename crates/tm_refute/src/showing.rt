@@ -3,7 +3,7 @@ ghost use Rattle.std.specs.Prelude.{◌≡◌, IfOk};
 ghost use Rattle.tm_base.specs.Tables.{expanded_in};
 ghost use Rattle.tm_base.specs.Worlds.{tables_of};
 ghost use Rattle.tm_layout.specs.Made.{IsMadeFor};
-ghost use Rattle.tm_refs.specs.LaidOut.{HasLayout};
+ghost use Rattle.tm_layout.specs.LaidOut.{IsLaidOut};
 ghost use Rattle.tm_refute.specs.Chosen.{shown};
 
 use crate::fitted::fitted;
@@ -21,7 +21,7 @@ pub fn cells_shown(
     piece: &Piece,
 ) -> Result<Vec<Cell>, Memory>
     requires made { IsMadeFor (tables_of world.now) layouts.now }
-    requires has { HasLayout (tables_of world.now) t.now }
+    requires has { IsLaidOut (tables_of world.now) t.now }
     ensures { IfOk result (λ cells.
         cells.items ≡ shown (expanded_in (tables_of world.now) t.now) piece.now) }
 {

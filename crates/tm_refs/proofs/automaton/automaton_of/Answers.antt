@@ -12,7 +12,7 @@ use Rattle.tm_tree.proofs.JudgedLemmas.{judged-laid_out}
 use Rattle.tm_refs.proofs.automaton.automaton_of.Goals as goal
 
 pub layout-size-requires-clause-has : goal.layout-size-requires-clause-has
-layout-size-requires-clause-has c = record { over = c.requires.over; laid_out = judged-laid_out c.args.world.now c.args.g.now c.requires.over c.requires.judged }
+layout-size-requires-clause-has c = record { over = c.requires.over; sound = judged-laid_out c.args.world.now c.args.g.now c.requires.over c.requires.judged }
 
 pub tree_of-requires-clause-judged : goal.tree_of-requires-clause-judged
 tree_of-requires-clause-judged c = judged-laid_out c.args.world.now c.args.g.now c.requires.over c.requires.judged

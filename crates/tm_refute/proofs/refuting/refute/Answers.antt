@@ -24,7 +24,7 @@ returns-in_default-clause-none c = λ refutable.
 pub ask-requires-clause-has : goal.ask-requires-clause-has
 ask-requires-clause-has c =
     let judged : IsJudged (tables_of c.args.world.now) c.args.ask.now.dst = search rules in
-    record { over = c.requires.target; laid_out = judged-laid_out c.args.world.now c.args.ask.now.dst c.requires.target judged }
+    record { over = c.requires.target; sound = judged-laid_out c.args.world.now c.args.ask.now.dst c.requires.target judged }
 
 pub returns-clause-some : goal.returns-clause-some
 returns-clause-some c =

@@ -9,7 +9,7 @@ use Rattle.tm_refute.proofs.showing.cells_shown.Goals as goal
 
 pub unreachable-requires : goal.unreachable-requires
 unreachable-requires c =
-    both_ways _ c.requires.has.laid_out (c.in_default.ensures.answer (tables_of c.args.world.now) c.requires.made c.requires.has.over).0
+    both_ways _ c.requires.has.sound (c.in_default.ensures.answer (tables_of c.args.world.now) c.requires.made c.requires.has.over).0
 
 -- the first cells of the word as the type holds it are the word as so many bytes hold it
 pub returns : goal.returns

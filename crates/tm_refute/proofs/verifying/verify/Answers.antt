@@ -7,13 +7,13 @@ use Rattle.tm_refute.proofs.verifying.verify.Goals as goal
 pub breaks-requires-clause-source : goal.breaks-requires-clause-source
 breaks-requires-clause-source c = record {
   over = c.requires.source;
-  laid_out = judged-laid_out c.args.world.now c.args.ask.now.src c.requires.source (c.in_ok-is_judged.ensures.0 c.if-not-branch.false);
+  sound = judged-laid_out c.args.world.now c.args.ask.now.src c.requires.source (c.in_ok-is_judged.ensures.0 c.if-not-branch.false);
 }
 
 pub breaks-requires-clause-target : goal.breaks-requires-clause-target
 breaks-requires-clause-target c = record {
   over = c.requires.target;
-  laid_out = judged-laid_out c.args.world.now c.args.ask.now.dst c.requires.target (c.in_ok-is_judged-2.ensures.0 c.if-not-branch-2.false);
+  sound = judged-laid_out c.args.world.now c.args.ask.now.dst c.requires.target (c.in_ok-is_judged-2.ensures.0 c.if-not-branch-2.false);
 }
 
 pub returns : goal.returns
