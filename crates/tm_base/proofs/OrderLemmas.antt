@@ -165,3 +165,21 @@ list_less-trans {X} less total trans (x ∷ xs) (y ∷ ys) (z ∷ zs) h k =
 
 pub word_less-trans : (u v w : Word) → word_less u v ≡ true → word_less v w ≡ true → word_less u w ≡ true
 word_less-trans u v w = list_less-trans cell_less cell_less-total cell_less-trans u v w
+
+pub nat_lt-irrefl : (n : ℕ) → nat_lt n n ≡ false
+nat_lt-irrefl n = grind (arith, nat_tests)
+
+pub nat_lt-trans : (l m n : ℕ) → nat_lt l m ≡ true → nat_lt m n ≡ true → nat_lt l n ≡ true
+nat_lt-trans l m n h k = grind (arith, nat_tests)
+
+-- no text is less than itself
+pub text_less-irrefl : (text : List ℕ) → text_less text text ≡ false
+unfolding list_less
+text_less-irrefl [] = refl
+text_less-irrefl (x ∷ xs) =
+    let first = nat_lt-irrefl x in
+    let rest = text_less-irrefl xs in
+    rw (first, rest) refl
+
+pub text_less-trans : (u v w : List ℕ) → text_less u v ≡ true → text_less v w ≡ true → text_less u w ≡ true
+text_less-trans u v w = list_less-trans nat_lt nat_lt-total nat_lt-trans u v w

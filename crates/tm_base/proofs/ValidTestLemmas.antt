@@ -26,12 +26,12 @@ use Rattle.tm_base.specs.ValidTest.{is_byte, is_free, are_bytes, word_same, is_s
 use Rattle.tm_base.proofs.OrderLemmas.{word_less-total, word_less-asym}
 use Rattle.tm_base.proofs.ValidLemmas.{Valid-length}
 
-is_byte-decides : (c : Cell) → Decides (is_byte c) (IsByte c)
+pub is_byte-decides : (c : Cell) → Decides (is_byte c) (IsByte c)
 is_byte-decides (Byte b) = Decides-ltb b 256
 is_byte-decides Uninit = (λ h. cc, λ h. elim h [ ])
 is_byte-decides (Ptr r k) = (λ h. cc, λ h. elim h [ ])
 
-is_free-decides : (c : Cell) → Decides (is_free c) (IsFree c)
+pub is_free-decides : (c : Cell) → Decides (is_free c) (IsFree c)
 is_free-decides (Byte b) = Decides-ltb b 256
 is_free-decides Uninit = (λ h. tt, λ h. refl)
 is_free-decides (Ptr r k) = (λ h. cc, λ h. elim h [ ])

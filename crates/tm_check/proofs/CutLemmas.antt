@@ -3,12 +3,13 @@ use Rattle.std.proofs.Common.{◌≡◌, ℕ, zero, suc, ◌+◌, ◌-◌, ◌�
 use Rattle.std.proofs.lemmas.List.{length-append, length-replicate, drop-take, take-take, nil_from_length}
 use Rattle.std.specs.List.{All, list_all}
 use Rattle.std.specs.Bool.{Decides}
-use Rattle.std.proofs.lemmas.Bool.Decides.{Decides-ltb, Decides-by_and}
+use Rattle.std.proofs.lemmas.Bool.Decides.{Decides-by_and}
 use Rattle.std.proofs.lemmas.List.Elements.{All-append, All-replicate, All-head, All-tail, All-cons, All-nil}
 use Rattle.tm_base.specs.declared.cell.Cell.{Cell}
-use Rattle.tm_base.specs.declared.cell.Cell.TheVariants.{Byte, Uninit, Ptr}
+use Rattle.tm_base.specs.declared.cell.Cell.TheVariants.{Uninit}
 use Rattle.tm_base.specs.Cells.{Word, IsByte, IsFree}
 use Rattle.tm_base.specs.ValidTest.{is_byte, is_free}
+use Rattle.tm_base.proofs.ValidTestLemmas.{is_byte-decides, is_free-decides}
 
 -- ---- tests
 
@@ -30,16 +31,6 @@ or-first a b h = cc
 pub or-second : (a b : Bool) → b ≡ true → (a || b) ≡ true
 or-second true b h = refl
 or-second false b h = h
-
-is_byte-decides : (c : Cell) → Decides (is_byte c) (IsByte c)
-is_byte-decides (Byte b) = Decides-ltb b 256
-is_byte-decides Uninit = (λ h. cc, λ h. elim h [ ])
-is_byte-decides (Ptr r k) = (λ h. cc, λ h. elim h [ ])
-
-is_free-decides : (c : Cell) → Decides (is_free c) (IsFree c)
-is_free-decides (Byte b) = Decides-ltb b 256
-is_free-decides Uninit = (λ h. tt, λ h. refl)
-is_free-decides (Ptr r k) = (λ h. cc, λ h. elim h [ ])
 
 pub bytes-decide : (w : Word) → Decides (list_all is_byte w) (All IsByte w)
 bytes-decide = Decides-by_and is_byte IsByte (list_all is_byte) is_byte-decides refl (λ x xs. refl)

@@ -10,7 +10,7 @@ use Rattle.tm_base.specs.Tables.{Tables, expanded_in}
 use Rattle.tm_base.specs.Texts.{text_of}
 use Rattle.tm_base.proofs.OrderLemmas.{text_less-total}
 use Rattle.tm_laws.proofs.JudgedKnownLemmas.{is_at_fault, some_of, ReachesFault}
-use Rattle.tm_laws.proofs.LeastLemmas.{text_less-irrefl, text_less-trans}
+use Rattle.tm_base.proofs.OrderLemmas.{text_less-irrefl, text_less-trans}
 use Rattle.tm_laws.proofs.ListedLemmas.{LeastFound, least_in}
 use Rattle.tm_laws.proofs.ReachedLemmas.{reachable, Reaches-listed, Reaches-known}
 

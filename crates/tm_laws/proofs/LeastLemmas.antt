@@ -1,31 +1,13 @@
 -- The least of some numbers, words and types: where it is known of each whether a fact holds of it, and
 -- it holds of one.
-use Rattle.std.proofs.Common.{◌≡◌, ℕ, suc, ◌<◌, ◌≤◌, ◌⊎◌, inl, inr, refl, true, false, List, [], ◌∷◌, arith, nat_lt}
+use Rattle.std.proofs.Common.{◌≡◌, ℕ, suc, ◌<◌, ◌≤◌, ◌⊎◌, inl, inr, false, arith, nat_lt}
 use Rattle.std.proofs.lemmas.Bool.{cases_lt, ltb-false}
-use Rattle.std.proofs.lemmas.Bool.Decides.{nat_tests}
 use Rattle.tm_base.specs.Cells.{Word}
-use Rattle.tm_base.specs.Orders.{list_less, word_less, text_less}
-use Rattle.tm_base.proofs.OrderLemmas.{word_less-trans, list_less-trans, nat_lt-total}
+use Rattle.tm_base.specs.Orders.{word_less}
+use Rattle.tm_base.proofs.OrderLemmas.{word_less-trans, nat_lt-irrefl, nat_lt-trans}
 use Rattle.tm_base.proofs.ValidTestLemmas.{word_less-irrefl}
 use Rattle.tm_laws.proofs.ListedLemmas.{LeastFound, least_in, Listed}
 use Rattle.tm_laws.proofs.WordSearchLemmas.{below, below-has}
-
-nat_lt-irrefl : (n : ℕ) → nat_lt n n ≡ false
-nat_lt-irrefl n = grind (arith, nat_tests)
-
-nat_lt-trans : (l m n : ℕ) → nat_lt l m ≡ true → nat_lt m n ≡ true → nat_lt l n ≡ true
-nat_lt-trans l m n h k = grind (arith, nat_tests)
-
-pub text_less-irrefl : (text : List ℕ) → text_less text text ≡ false
-unfolding list_less
-text_less-irrefl [] = refl
-text_less-irrefl (x ∷ xs) =
-    let first = nat_lt-irrefl x in
-    let rest = text_less-irrefl xs in
-    rw (first, rest) refl
-
-pub text_less-trans : (u v w : List ℕ) → text_less u v ≡ true → text_less v w ≡ true → text_less u w ≡ true
-text_less-trans u v w = list_less-trans nat_lt nat_lt-total nat_lt-trans u v w
 
 -- the least word with a fact that listed words alone have, or the knowledge that there is none
 pub least_word : (P : Word → Type 0) → Listed P → ((w : Word) → Dec (P w)) → ((w : Word) × P w × ((v : Word) → P v → word_less v w ≡ false)) ⊎ ((w : Word) → ¬ P w)

@@ -14,7 +14,7 @@ use Rattle.tm_layout.specs.declared.refused.Refused.{Refused}
 use Rattle.tm_layout.specs.Least.{IsRefused, IsLeast, AreSound, IsLeastAnswer}
 use Rattle.tm_layout.specs.Named.{IsFirstRefused}
 use Rattle.tm_layout.specs.Reached.{AreReached}
-use Rattle.tm_layout.proofs.TextLemmas.{text_less-irrefl, text_less-trans}
+use Rattle.tm_base.proofs.OrderLemmas.{text_less-irrefl, text_less-trans}
 
 -- an item of a list with one more behind it
 last-cases : (types : List Ground) (g h : Ground) → Contains (types ++ g ∷ []) h → Contains types h ⊎ (g ≡ h)

@@ -6,28 +6,6 @@ use Rattle.std.specs.declared.cmp.Ordering.{Ordering}
 use Rattle.std.specs.declared.cmp.Ordering.TheVariants.{Less, Equal, Greater}
 use Rattle.std.proofs.lemmas.Bool.Decides.{nat_tests}
 use Rattle.tm_base.specs.Orders.{list_less, text_less}
-use Rattle.tm_base.proofs.OrderLemmas.{list_less-trans}
-
-nat_lt-irrefl : (n : ℕ) → nat_lt n n ≡ false
-nat_lt-irrefl n = grind (arith, nat_tests)
-
-nat_lt-trans : (l m n : ℕ) → nat_lt l m ≡ true → nat_lt m n ≡ true → nat_lt l n ≡ true
-nat_lt-trans l m n h k = grind (arith, nat_tests)
-
-nat_lt-total : (m n : ℕ) → nat_lt m n ≡ false → nat_lt n m ≡ false → m ≡ n
-nat_lt-total m n h k = grind (arith, nat_tests)
-
--- no text is less than itself
-pub text_less-irrefl : (text : List ℕ) → text_less text text ≡ false
-unfolding list_less
-text_less-irrefl [] = refl
-text_less-irrefl (x ∷ xs) =
-    let first = nat_lt-irrefl x in
-    let rest = text_less-irrefl xs in
-    rw (first, rest) refl
-
-pub text_less-trans : (u v w : List ℕ) → text_less u v ≡ true → text_less v w ≡ true → text_less u w ≡ true
-text_less-trans u v w = list_less-trans nat_lt nat_lt-total nat_lt-trans u v w
 
 tied : (x y : ℕ) → nat_lt x y ≡ false → (x == y) ≡ true → nat_lt y x ≡ false
 tied x y h k = grind (arith, nat_tests)

@@ -1,36 +1,17 @@
 -- What bytes hold in a type of another size, byte by byte.
-use Rattle.std.proofs.Common.{◌≡◌, ◌∙◌, ℕ, zero, suc, nat_lt, slice_index_or, ◌+◌, ◌-◌, ◌<◌, ◌≤◌, ◌⊎◌, inl, inr, Some, List, [], ◌∷◌, ◌++◌, length, take, get_or, replicate, slice_get, option_map, refl, ap, arith, rules, Fits, w8, append_assoc, append-nil}
+use Rattle.std.proofs.Common.{◌≡◌, ◌∙◌, ℕ, zero, suc, nat_lt, slice_index_or, ◌+◌, ◌-◌, ◌<◌, ◌≤◌, Some, List, [], ◌∷◌, ◌++◌, length, take, get_or, replicate, slice_get, option_map, refl, ap, arith, rules, Fits, w8}
 use Rattle.std.specs.List.{list_all}
-use Rattle.std.proofs.lemmas.Bool.{cases_lt, lt-ltb}
-use Rattle.std.proofs.lemmas.List.{take_more, take_all, replicate_more, get_or_past, length-map}
+use Rattle.std.proofs.lemmas.Bool.{lt-ltb}
+use Rattle.std.proofs.lemmas.List.{get_or_past, length-map}
 use Rattle.std.proofs.lemmas.Option.{get_or_from_slice_get, slice_get-map, slice_get_read}
 use Rattle.tm_base.specs.declared.cell.Cell.{Cell}
 use Rattle.tm_base.specs.declared.cell.Cell.TheVariants.{Byte, Uninit}
 use Rattle.tm_base.specs.Cells.{Word, fit}
 use Rattle.tm_base.specs.ValidTest.{is_free}
+use Rattle.tm_base.proofs.CellLemmas.{fit-more}
 use Rattle.tm_check.proofs.CutLemmas.{and-true, both}
 use Rattle.tm_validate.specs.Against.{bytes_of}
 use Rattle.tm_validate.proofs.AlikeLemmas.{Free, free-front}
-
--- a fit with one cell more
-fit-more : (w : Word) (m : ℕ) → fit w (m + 1) ≡ fit w m ++ get_or w m Uninit ∷ []
-fit-more w m = by (cases_lt m (length w)) where
-  by : (m < length w) ⊎ (length w ≤ m) → fit w (m + 1) ≡ fit w m ++ get_or w m Uninit ∷ []
-  by (inl inside) =
-      let none : m - length w ≡ 0 = omega arith in
-      let still : m + 1 - length w ≡ 0 = omega arith in
-      rw (none, still, append-nil (take (m + 1) w), append-nil (take m w)) (take_more w m Uninit inside)
-  by (inr past) =
-      let more : m + 1 - length w ≡ (m - length w) + 1 = omega arith in
-      rw (
-        take_all (m + 1) w (omega arith),
-        take_all m w past,
-        get_or_past w m Uninit past,
-        more,
-        ← replicate_more (m - length w) Uninit,
-        ← append_assoc w (replicate (m - length w) Uninit) (Uninit ∷ []),
-      )
-      refl
 
 -- the next cell is the next byte
 pub next-byte : (bytes : List ℕ) (m byte : ℕ) → m < length bytes → byte ≡ get_or bytes m byte → fit (bytes_of bytes) (m + 1) ≡ fit (bytes_of bytes) m ++ Byte byte ∷ []

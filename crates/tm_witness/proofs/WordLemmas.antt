@@ -1,32 +1,10 @@
--- A fit grows by a cell, and the order of words goes cell by cell.
-use Rattle.std.proofs.Common.{◌≡◌, ℕ, ◌+◌, ◌-◌, ◌<◌, ◌≤◌, ◌⊎◌, inl, inr, Bool, true, false, [], ◌∷◌, ◌++◌, length, take, drop, get_or, replicate, min, nat_lt, refl, arith, append_assoc, append-nil, length-drop}
-use Rattle.std.proofs.lemmas.Bool.{cases_lt}
+-- The order of words goes cell by cell.
+use Rattle.std.proofs.Common.{◌≡◌, ℕ, ◌+◌, ◌-◌, ◌<◌, Bool, true, false, [], ◌∷◌, length, drop, get_or, min, nat_lt, refl, arith, length-drop}
 use Rattle.std.proofs.lemmas.Bool.Decides.{nat_tests}
-use Rattle.std.proofs.lemmas.List.{take_more, take_all, drop_more, replicate_more, get_or_past}
+use Rattle.std.proofs.lemmas.List.{drop_more}
 use Rattle.tm_base.specs.declared.cell.Cell.{Cell}
-use Rattle.tm_base.specs.declared.cell.Cell.TheVariants.{Uninit}
-use Rattle.tm_base.specs.Cells.{Word, fit}
+use Rattle.tm_base.specs.Cells.{Word}
 use Rattle.tm_base.specs.Orders.{list_less, cell_less, word_less}
-
--- a fit with one cell more
-pub fit-more : (w : Word) (m : ℕ) → fit w (m + 1) ≡ fit w m ++ get_or w m Uninit ∷ []
-fit-more w m = by (cases_lt m (length w)) where
-  by : (m < length w) ⊎ (length w ≤ m) → fit w (m + 1) ≡ fit w m ++ get_or w m Uninit ∷ []
-  by (inl inside) =
-      let none : m - length w ≡ 0 = omega arith in
-      let still : m + 1 - length w ≡ 0 = omega arith in
-      rw (none, still, append-nil (take (m + 1) w), append-nil (take m w)) (take_more w m Uninit inside)
-  by (inr past) =
-      let more : m + 1 - length w ≡ (m - length w) + 1 = omega arith in
-      rw (
-        take_all (m + 1) w (omega arith),
-        take_all m w past,
-        get_or_past w m Uninit past,
-        more,
-        ← replicate_more (m - length w) Uninit,
-        ← append_assoc w (replicate (m - length w) Uninit) (Uninit ∷ []),
-      )
-      refl
 
 module _ (v w : Word) (k : ℕ) where
   -- the order of what two words have from a place on

@@ -1,6 +1,6 @@
 use Rattle.std.proofs.lemmas.Option.{unwrap_or-slice_get}
 use Rattle.tm_base.specs.declared.cell.Cell.TheVariants.{Uninit}
-use Rattle.tm_witness.proofs.WordLemmas.{fit-more}
+use Rattle.tm_base.proofs.CellLemmas.{fit-more}
 use Rattle.tm_witness.proofs.words.fit.Goals as goal
 
 pub loop-place-preserved : goal.loop-place-preserved
