@@ -3,7 +3,7 @@ use Rattle.std.proofs.Common.{◌≡◌, ℕ, zero, suc, ◌+◌, ◌^◌, ◌<�
 use Rattle.std.proofs.lemmas.Bool.{cases_lt}
 use Rattle.tm_base.specs.declared.tree.Tree.{Tree}
 use Rattle.tm_base.specs.Cells.{Word}
-use Rattle.tm_base.specs.Shapes.{leaves_of, HasNoPrivate, HasNoAlternatives, HasSize}
+use Rattle.tm_base.specs.Shapes.{leaves_of, HasNoPrivate, HasNoChoice, HasSize}
 use Rattle.tm_base.specs.Transmutes.{holds}
 use Rattle.tm_base.specs.Trees.{TreeWord}
 use Rattle.tm_auto.specs.declared.build.Building.{Building}
@@ -28,7 +28,7 @@ use Rattle.tm_auto.proofs.WholeLemmas.{tree_whole}
 pub record IsAutomatonOf (t : Tree) (auto : Automaton) : Type 0 where
   pub automaton : IsAutomaton auto
   pub words : (A : ℕ → ℕ → Bool) (keep : Bool) (w : Word) → TreeWord auto.pointer (holds A) keep t w ↔ AutoWord (holds A) auto w
-  pub single : HasNoAlternatives t → HasOneStateALayer auto
+  pub single : HasNoChoice t → HasOneStateALayer auto
   pub linear : length auto.edges ≤ leaves_of auto.pointer t
 
 -- ---- the whole tree
@@ -64,7 +64,7 @@ module _ (t : Tree) (b : Building) (can : CanBegin t b) where
   begin_long c d state h sealed = let none : 0 ≡ length b.head.items = sym (ap length can.head) in placed_some 0 d state h (subst (λ (z : ℕ). IsSealed z 0 c d state) none sealed)
 
   pub begin_empty : extent_of t ≡ Empty → IsPlacedTree t 0 b b 0
-  begin_empty e = placed_none Begins (HasNoAlternatives t) (leaves_of b.pointer t) (λ A. LooseWord b.pointer (holds A) t) 0 b b 0 (λ A w. (empty_alone b.pointer can.pointer.0 t e can.even A w, λ q. rw q (none A))) (record { pointer = refl; states = refl; edges = refl; head = refl }) refl ready.sound ready.below ready.plain
+  begin_empty e = placed_none Begins (HasNoChoice t) (leaves_of b.pointer t) (λ A. LooseWord b.pointer (holds A) t) 0 b b 0 (λ A w. (empty_alone b.pointer can.pointer.0 t e can.even A w, λ q. rw q (none A))) (record { pointer = refl; states = refl; edges = refl; head = refl }) refl ready.sound ready.below ready.plain
     where
       none : IsExtent Empty (λ A. LooseWord b.pointer (holds A) t)
       none = subst (λ (z : Extent). IsExtent z (λ A. LooseWord b.pointer (holds A) t)) e (extent_is b.pointer can.pointer.0 t)

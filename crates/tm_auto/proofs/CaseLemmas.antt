@@ -7,7 +7,7 @@ use Rattle.tm_base.specs.declared.cell.RefId.{RefId}
 use Rattle.tm_base.specs.declared.tree.Tree.{Tree, Range, Pad, Ref, Seq}
 use Rattle.tm_base.specs.declared.memory.Memory.{Memory}
 use Rattle.tm_base.specs.Cells.{Word}
-use Rattle.tm_base.specs.Shapes.{leaves_of, all_leaves, HasNoPrivate, NonePrivate, HasNoAlternatives, NoneAlternative}
+use Rattle.tm_base.specs.Shapes.{leaves_of, all_leaves, HasNoPrivate, NonePrivate, HasNoChoice, NoneHasChoice}
 use Rattle.tm_base.specs.Transmutes.{holds}
 use Rattle.tm_auto.specs.declared.build.Building.{Building}
 use Rattle.tm_auto.specs.declared.edge.Edge.{Edge}
@@ -24,7 +24,7 @@ use Rattle.tm_auto.proofs.GrowLemmas.{Both, CellWords}
 use Rattle.tm_auto.proofs.LooseLemmas.{LooseWord-Seq, LooseWord-Ref, LooseWord-Range, LooseWord-Pad}
 use Rattle.tm_auto.proofs.MakeLemmas.{IsSame, begins_joins, makes_as, makes_way, makes_before, placed_none, placed_some}
 use Rattle.tm_auto.proofs.ShapeLemmas.{extent_of-Seq, extent_of-no_range}
-use Rattle.tm_base.proofs.ShapeLemmas.{leaves_of-Seq, HasNoAlternatives-Seq, HasNoPrivate-Seq}
+use Rattle.tm_base.proofs.ShapeLemmas.{leaves_of-Seq, HasNoChoice-Seq, HasNoPrivate-Seq}
 
 -- What stands in front of the target: nothing yet, or words of P.
 abbrev pub Front : (Label → Type 0) → Type 0 → ℕ → Words → ℕ → Building → Building → ℕ → Type 0
@@ -153,14 +153,14 @@ drop_one ts at t pos l e =
     drop-cons ts (at - 1) t (omega arith) ∙ ap (λ (z : Tree). z ∷ drop (suc (at - 1)) ts) (sym e) ∙ ap (λ (k : ℕ). t ∷ drop k ts) next
 
 -- what a call of the builder tells, of trees with references of the size that they had before
-pub said_before : (p : ℕ) (t : Tree) (target : ℕ) (d e : Building) → d.pointer ≡ p → MakesTree t target d e → MakesBy Begins (HasNoAlternatives t) (leaves_of p t) (λ A. LooseWord p (holds A) t) target d e
-said_before p t target d e same h = subst (λ (z : ℕ). MakesBy Begins (HasNoAlternatives t) (leaves_of z t) (λ A. LooseWord z (holds A) t) target d e) same h
+pub said_before : (p : ℕ) (t : Tree) (target : ℕ) (d e : Building) → d.pointer ≡ p → MakesTree t target d e → MakesBy Begins (HasNoChoice t) (leaves_of p t) (λ A. LooseWord p (holds A) t) target d e
+said_before p t target d e same h = subst (λ (z : ℕ). MakesBy Begins (HasNoChoice t) (leaves_of z t) (λ A. LooseWord z (holds A) t) target d e) same h
 
 -- ---- one after another
 
 -- the last trees stand
 abbrev pub TurnFront : List Tree → ℕ → Building → Building → ℕ → Type 0
-TurnFront ts target b c next = Front Begins (NoneAlternative ts) (all_leaves b.pointer ts) (λ A. LooseInTurn b.pointer (holds A) ts) target b c next
+TurnFront ts target b c next = Front Begins (NoneHasChoice ts) (all_leaves b.pointer ts) (λ A. LooseInTurn b.pointer (holds A) ts) target b c next
 
 pub turn_none : (ts : List Tree) (target : ℕ) (b c : Building) → ts ≡ [] → IsSame b c → TurnFront ts target b c target
 turn_none ts target b c e same = rw e (inl (refl, same, λ A w. (λ h. h, λ h. h)))
@@ -194,10 +194,10 @@ module _ (ts : List Tree) (at : ℕ) (t : Tree) (target : ℕ) (b : Building) (p
   pub turn_room : (mark : ℕ) (c : Building) (next : ℕ) → mark ≡ length b.head.items → TurnFront (drop at ts) target b c next → mark < length c.head.items → c.states + 1 ≤ 2 ^ 31
   turn_room mark c next em h = let x = leaves_left in front_room {room = all_leaves b.pointer (drop at ts)} mark (leaves_of b.pointer (Seq ts)) em (omega arith) can.room h
 
-  pub turn_placed : (mark : ℕ) (c d : Building) (next state : ℕ) → mark ≡ length b.head.items → TurnFront (drop at ts) target b c next → IsSealed mark next c d state → IsPlacedBy Begins (NoneAlternative (drop at ts)) (all_leaves b.pointer (drop at ts)) (λ A. LooseInTurn b.pointer (holds A) (drop at ts)) target b d state
+  pub turn_placed : (mark : ℕ) (c d : Building) (next state : ℕ) → mark ≡ length b.head.items → TurnFront (drop at ts) target b c next → IsSealed mark next c d state → IsPlacedBy Begins (NoneHasChoice (drop at ts)) (all_leaves b.pointer (drop at ts)) (λ A. LooseInTurn b.pointer (holds A) (drop at ts)) target b d state
   turn_placed mark c d next state em h sealed = front_placed mark d state em can.ready can.ready.plain h sealed
 
-  pub turn_can : (d : Building) (state : ℕ) → extent_of t ≡ Long → IsPlacedBy Begins (NoneAlternative (drop at ts)) (all_leaves b.pointer (drop at ts)) (λ A. LooseInTurn b.pointer (holds A) (drop at ts)) target b d state → CanGrow t state d
+  pub turn_can : (d : Building) (state : ℕ) → extent_of t ≡ Long → IsPlacedBy Begins (NoneHasChoice (drop at ts)) (all_leaves b.pointer (drop at ts)) (λ A. LooseInTurn b.pointer (holds A) (drop at ts)) target b d state → CanGrow t state d
   turn_can d state long h =
       let x = leaves_left in
       let few = h.few in
@@ -208,15 +208,15 @@ module _ (ts : List Tree) (at : ℕ) (t : Tree) (target : ℕ) (b : Building) (p
         room = rw h.pointer room;
       }
 
-  pub turn_long : (d e : Building) (state : ℕ) → IsPlacedBy Begins (NoneAlternative (drop at ts)) (all_leaves b.pointer (drop at ts)) (λ A. LooseInTurn b.pointer (holds A) (drop at ts)) target b d state → MakesTree t state d e → TurnFront (drop (at - 1) ts) target b e state
+  pub turn_long : (d e : Building) (state : ℕ) → IsPlacedBy Begins (NoneHasChoice (drop at ts)) (all_leaves b.pointer (drop at ts)) (λ A. LooseInTurn b.pointer (holds A) (drop at ts)) target b d state → MakesTree t state d e → TurnFront (drop (at - 1) ts) target b e state
   turn_long d e state placed h =
-      let made : MakesBy Begins (NoneAlternative (t ∷ drop at ts)) (all_leaves b.pointer (t ∷ drop at ts)) (λ A. LooseInTurn b.pointer (holds A) (t ∷ drop at ts)) target b e = makes_before placed (said_before b.pointer t state d e placed.pointer h) in
+      let made : MakesBy Begins (NoneHasChoice (t ∷ drop at ts)) (all_leaves b.pointer (t ∷ drop at ts)) (λ A. LooseInTurn b.pointer (holds A) (t ∷ drop at ts)) target b e = makes_before placed (said_before b.pointer t state d e placed.pointer h) in
       subst (λ (z : List Tree). TurnFront z target b e state) (sym (drop_one ts at t pos within et)) (inr made)
 
   pub turn_empty : (c : Building) (next : ℕ) → extent_of t ≡ Empty → TurnFront (drop at ts) target b c next → TurnFront (drop (at - 1) ts) target b c next
   turn_empty c next empty h = subst (λ (z : List Tree). TurnFront z target b c next) (sym (drop_one ts at t pos within et)) (elim h [
     | inl (st, same, none) ↦ inl (st, same, λ A w. (λ k. (none A w).0 ((words A w).1 k), λ k. (words A w).0 ((none A w).1 k)))
-    | inr made ↦ inr (makes_as {line2 = NoneAlternative (t ∷ drop at ts)} {room2 = all_leaves b.pointer (t ∷ drop at ts)} {Q = λ A. LooseInTurn b.pointer (holds A) (t ∷ drop at ts)} (omega arith) (λ l. l.1) words made)
+    | inr made ↦ inr (makes_as {line2 = NoneHasChoice (t ∷ drop at ts)} {room2 = all_leaves b.pointer (t ∷ drop at ts)} {Q = λ A. LooseInTurn b.pointer (holds A) (t ∷ drop at ts)} (omega arith) (λ l. l.1) words made)
   ])
     where
       none_here : IsExtent Empty (λ A. LooseWord b.pointer (holds A) t)
@@ -240,4 +240,4 @@ turn_done ts target b c next can (inl (at, same, none)) =
     let (d, w, h) = subst (λ z. IsExtent z (λ A. LooseInTurn b.pointer (holds A) ts)) g.long (turn_is b.pointer can.ready.pointer.0 ts) in
     let e : d ∷ w ≡ [] = (none any (d ∷ w)).0 h in
     cc
-turn_done ts target b c next can (inr made) = let e = leaves_of-Seq b.pointer ts in makes_as (omega arith) (HasNoAlternatives-Seq ts).0 (λ A w. let (x, y) = LooseWord-Seq b.pointer (holds A) ts w in (y, x)) made
+turn_done ts target b c next can (inr made) = let e = leaves_of-Seq b.pointer ts in makes_as (omega arith) (HasNoChoice-Seq ts).0 (λ A w. let (x, y) = LooseWord-Seq b.pointer (holds A) ts w in (y, x)) made

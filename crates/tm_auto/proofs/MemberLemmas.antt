@@ -3,7 +3,7 @@ use Rattle.std.proofs.Common.{◌≡◌, ◌≢◌, ℕ, ◌+◌, ◌^◌, ◌<�
 use Rattle.std.proofs.Math.Seq.{take-suc}
 use Rattle.tm_base.specs.declared.tree.Tree.{Tree, Alt}
 use Rattle.tm_base.specs.Cells.{Word}
-use Rattle.tm_base.specs.Shapes.{leaves_of, all_leaves, HasNoAlternatives, NoneAlternative}
+use Rattle.tm_base.specs.Shapes.{leaves_of, all_leaves, HasNoChoice, NoneHasChoice}
 use Rattle.tm_base.specs.Transmutes.{holds}
 use Rattle.tm_auto.specs.declared.build.Building.{Building}
 use Rattle.tm_auto.specs.declared.extent.Extent.{Extent}
@@ -17,11 +17,11 @@ use Rattle.tm_auto.proofs.ExtentLemmas.{IsExtent, extent_is, even_member, no_emp
 use Rattle.tm_auto.proofs.LooseLemmas.{LooseWord-Alt, LooseOneOf-more}
 use Rattle.tm_auto.proofs.MakeLemmas.{IsSame, makes_as, makes_from, makes_either, ready_still}
 use Rattle.tm_auto.proofs.ShapeLemmas.{extent_of-Alt}
-use Rattle.tm_base.proofs.ShapeLemmas.{leaves_of-Alt, HasNoAlternatives-Alt, HasNoPrivate-Alt}
+use Rattle.tm_base.proofs.ShapeLemmas.{leaves_of-Alt, HasNoChoice-Alt, HasNoPrivate-Alt}
 
 -- what is told of the first members
 abbrev Line : List Tree → Type 0
-Line ts = (length ts ≤ 1) × NoneAlternative ts
+Line ts = (length ts ≤ 1) × NoneHasChoice ts
 
 -- no word yet, and nothing was put; or ways stand
 abbrev pub OneFront : List Tree → ℕ → Building → Building → Type 0
@@ -42,14 +42,14 @@ more_some (s ∷ ts) t e = cc
 less_line : (ts : List Tree) (t : Tree) → Line (ts ++ t ∷ []) → Line ts
 less_line ts t (l, h) = (let x = length-append ts (t ∷ []) in omega arith, all ts h)
   where
-    all : (ts : List Tree) → NoneAlternative (ts ++ t ∷ []) → NoneAlternative ts
+    all : (ts : List Tree) → NoneHasChoice (ts ++ t ∷ []) → NoneHasChoice ts
     all [] h = tt
     all (s ∷ ts) h = (h.0, all ts h.1)
 
-last_line : (ts : List Tree) (t : Tree) → Line (ts ++ t ∷ []) → HasNoAlternatives t
+last_line : (ts : List Tree) (t : Tree) → Line (ts ++ t ∷ []) → HasNoChoice t
 last_line ts t (l, h) = all ts h
   where
-    all : (ts : List Tree) → NoneAlternative (ts ++ t ∷ []) → HasNoAlternatives t
+    all : (ts : List Tree) → NoneHasChoice (ts ++ t ∷ []) → HasNoChoice t
     all [] h = h.0
     all (s ∷ ts) h = all ts h.1
 
@@ -140,4 +140,4 @@ pub one_done : (ts : List Tree) (target : ℕ) (b c : Building) → CanGrow (Alt
 one_done ts target b c can (inl (same, none)) =
     let (d, w, h) = subst (λ (z : Extent). IsExtent z (λ A. LooseWord b.pointer (holds A) (Alt ts))) can.growable.long (extent_is b.pointer can.ready.pointer.0 (Alt ts)) in
     absurd (none any (d ∷ w) ((LooseWord-Alt b.pointer (holds any) ts (d ∷ w)).0 h))
-one_done ts target b c can (inr (some, made)) = let e = leaves_of-Alt b.pointer ts in makes_as (omega arith) (HasNoAlternatives-Alt ts).0 (λ A w. let (x, y) = LooseWord-Alt b.pointer (holds A) ts w in (y, x)) made
+one_done ts target b c can (inr (some, made)) = let e = leaves_of-Alt b.pointer ts in makes_as (omega arith) (HasNoChoice-Alt ts).0 (λ A w. let (x, y) = LooseWord-Alt b.pointer (holds A) ts w in (y, x)) made

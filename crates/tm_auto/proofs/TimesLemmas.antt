@@ -2,7 +2,7 @@
 use Rattle.std.proofs.Common.{◌≡◌, ◌≢◌, ℕ, suc, ◌+◌, ◌*◌, ◌^◌, ◌<◌, ◌≤◌, inl, inr, [], ◌∷◌, refl, sym, ◌∙◌, subst, arith, length}
 use Rattle.tm_base.specs.declared.tree.Tree.{Tree, Repeat}
 use Rattle.tm_base.specs.Cells.{Times}
-use Rattle.tm_base.specs.Shapes.{leaves_of, HasNoAlternatives}
+use Rattle.tm_base.specs.Shapes.{leaves_of, HasNoChoice}
 use Rattle.tm_base.specs.Transmutes.{holds}
 use Rattle.tm_auto.specs.declared.build.Building.{Building}
 use Rattle.tm_auto.specs.declared.extent.Extent.{Extent}
@@ -16,11 +16,11 @@ use Rattle.tm_auto.proofs.ExtentLemmas.{IsExtent, extent_is, even_part}
 use Rattle.tm_auto.proofs.LooseLemmas.{LooseWord-Repeat}
 use Rattle.tm_auto.proofs.MakeLemmas.{IsSame, makes_as, makes_before}
 use Rattle.tm_auto.proofs.ShapeLemmas.{extent_of-no_turn, extent_of-turns}
-use Rattle.tm_base.proofs.ShapeLemmas.{leaves_of-Repeat, HasNoAlternatives-Repeat, HasNoPrivate-Repeat}
+use Rattle.tm_base.proofs.ShapeLemmas.{leaves_of-Repeat, HasNoChoice-Repeat, HasNoPrivate-Repeat}
 
 -- so many turns stand
 abbrev pub TimesFront : ℕ → Tree → ℕ → Building → Building → ℕ → Type 0
-TimesFront k t target b c next = Front Begins (HasNoAlternatives t) (k * leaves_of b.pointer t) (λ A. Times k (LooseWord b.pointer (holds A) t)) target b c next
+TimesFront k t target b c next = Front Begins (HasNoChoice t) (k * leaves_of b.pointer t) (λ A. Times k (LooseWord b.pointer (holds A) t)) target b c next
 
 pub times_none : (t : Tree) (target : ℕ) (b c : Building) → IsSame b c → TimesFront 0 t target b c target
 times_none t target b c same = inl (refl, same, λ A w. (λ h. h, λ h. h))
@@ -58,26 +58,26 @@ module _ (count : ℕ) (t : Tree) (target : ℕ) (b : Building) (can : CanGrow (
   pub times_room : (k mark : ℕ) (c : Building) (next : ℕ) → k < count → mark ≡ length b.head.items → TimesFront k t target b c next → mark < length c.head.items → c.states + 1 ≤ 2 ^ 31
   times_room k mark c next lt em h = let x = leaves_left k lt in front_room {room = k * leaves_of b.pointer t} mark (leaves_of b.pointer (Repeat count t)) em (omega arith) can.room h
 
-  pub times_placed : (k mark : ℕ) (c d : Building) (next state : ℕ) → mark ≡ length b.head.items → TimesFront k t target b c next → IsSealed mark next c d state → IsPlacedBy Begins (HasNoAlternatives t) (k * leaves_of b.pointer t) (λ A. Times k (LooseWord b.pointer (holds A) t)) target b d state
+  pub times_placed : (k mark : ℕ) (c d : Building) (next state : ℕ) → mark ≡ length b.head.items → TimesFront k t target b c next → IsSealed mark next c d state → IsPlacedBy Begins (HasNoChoice t) (k * leaves_of b.pointer t) (λ A. Times k (LooseWord b.pointer (holds A) t)) target b d state
   times_placed k mark c d next state em h sealed = front_placed mark d state em can.ready can.ready.plain h sealed
 
-  pub times_can : (k : ℕ) (d : Building) (state : ℕ) → k < count → IsPlacedBy Begins (HasNoAlternatives t) (k * leaves_of b.pointer t) (λ A. Times k (LooseWord b.pointer (holds A) t)) target b d state → CanGrow t state d
+  pub times_can : (k : ℕ) (d : Building) (state : ℕ) → k < count → IsPlacedBy Begins (HasNoChoice t) (k * leaves_of b.pointer t) (λ A. Times k (LooseWord b.pointer (holds A) t)) target b d state → CanGrow t state d
   times_can k d state lt h =
       let x = leaves_left k lt in
       let few = h.few in
       let room : d.states + leaves_of b.pointer t ≤ 2 ^ 31 = (let y = can.room in omega arith) in
       record { growable = rw h.pointer growable; ready = placed_ready can.ready h; room = rw h.pointer room }
 
-  pub times_more : (k : ℕ) (d e : Building) (state : ℕ) → IsPlacedBy Begins (HasNoAlternatives t) (k * leaves_of b.pointer t) (λ A. Times k (LooseWord b.pointer (holds A) t)) target b d state → MakesTree t state d e → TimesFront (k + 1) t target b e state
+  pub times_more : (k : ℕ) (d e : Building) (state : ℕ) → IsPlacedBy Begins (HasNoChoice t) (k * leaves_of b.pointer t) (λ A. Times k (LooseWord b.pointer (holds A) t)) target b d state → MakesTree t state d e → TimesFront (k + 1) t target b e state
   times_more k d e state placed h =
       let next : suc k ≡ k + 1 = omega arith in
       let one = one_more k (leaves_of b.pointer t) in
-      let made : MakesBy Begins (HasNoAlternatives t) ((k + 1) * leaves_of b.pointer t) (λ A. Times (suc k) (LooseWord b.pointer (holds A) t)) target b e = makes_as (omega arith) (λ l. (l, l)) (λ A w. (λ h. h, λ h. h)) (makes_before placed (said_before b.pointer t state d e placed.pointer h)) in
-      inr (subst (λ (z : ℕ). MakesBy Begins (HasNoAlternatives t) ((k + 1) * leaves_of b.pointer t) (λ A. Times z (LooseWord b.pointer (holds A) t)) target b e) next made)
+      let made : MakesBy Begins (HasNoChoice t) ((k + 1) * leaves_of b.pointer t) (λ A. Times (suc k) (LooseWord b.pointer (holds A) t)) target b e = makes_as (omega arith) (λ l. (l, l)) (λ A w. (λ h. h, λ h. h)) (makes_before placed (said_before b.pointer t state d e placed.pointer h)) in
+      inr (subst (λ (z : ℕ). MakesBy Begins (HasNoChoice t) ((k + 1) * leaves_of b.pointer t) (λ A. Times z (LooseWord b.pointer (holds A) t)) target b e) next made)
 
   pub times_done : (c : Building) (next : ℕ) → TimesFront count t target b c next → MakesTree (Repeat count t) target b c
   times_done c next (inl (at, same, none)) =
       let (d, w, h) = subst (λ (z : Extent). IsExtent z (λ A. LooseWord b.pointer (holds A) (Repeat count t))) can.growable.long (extent_is b.pointer can.ready.pointer.0 (Repeat count t)) in
       let e : d ∷ w ≡ [] = (none any (d ∷ w)).0 ((LooseWord-Repeat b.pointer (holds any) count t (d ∷ w)).0 h) in
       cc
-  times_done c next (inr made) = let e = leaves_of-Repeat b.pointer count t in makes_as (omega arith) (HasNoAlternatives-Repeat count t).0 (λ A w. let (x, y) = LooseWord-Repeat b.pointer (holds A) count t w in (y, x)) made
+  times_done c next (inr made) = let e = leaves_of-Repeat b.pointer count t in makes_as (omega arith) (HasNoChoice-Repeat count t).0 (λ A w. let (x, y) = LooseWord-Repeat b.pointer (holds A) count t w in (y, x)) made

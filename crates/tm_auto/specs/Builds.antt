@@ -5,7 +5,7 @@ use Rattle.tm_base.specs.declared.cell.Cell.{Cell}
 use Rattle.tm_base.specs.declared.cell.RefId.{RefId}
 use Rattle.tm_base.specs.declared.tree.Tree.{Tree}
 use Rattle.tm_base.specs.Cells.{Word}
-use Rattle.tm_base.specs.Shapes.{leaves_of, HasNoPrivate, HasNoAlternatives}
+use Rattle.tm_base.specs.Shapes.{leaves_of, HasNoPrivate, HasNoChoice}
 use Rattle.tm_base.specs.Transmutes.{holds}
 use Rattle.tm_auto.specs.declared.build.Building.{Building}
 use Rattle.tm_auto.specs.declared.build.Way.{Way}
@@ -136,10 +136,10 @@ pub record IsPlacedBy (q : Label → Type 0) (line : Type 0) (room : ℕ) (P : W
 
 -- what is built for a tree
 abbrev pub MakesTree : Tree → ℕ → Building → Building → Type 0
-MakesTree t target b c = MakesBy Begins (HasNoAlternatives t) (leaves_of b.pointer t) (λ A. LooseWord b.pointer (holds A) t) target b c
+MakesTree t target b c = MakesBy Begins (HasNoChoice t) (leaves_of b.pointer t) (λ A. LooseWord b.pointer (holds A) t) target b c
 
 abbrev pub IsPlacedTree : Tree → ℕ → Building → Building → ℕ → Type 0
-IsPlacedTree t target b c state = IsPlacedBy Begins (HasNoAlternatives t) (leaves_of b.pointer t) (λ A. LooseWord b.pointer (holds A) t) target b c state
+IsPlacedTree t target b c state = IsPlacedBy Begins (HasNoChoice t) (leaves_of b.pointer t) (λ A. LooseWord b.pointer (holds A) t) target b c state
 
 -- there is room for a tree that may be grown in front of the target
 pub record CanGrow (t : Tree) (target : ℕ) (b : Building) : Type 0 where

@@ -1,6 +1,6 @@
 ghost use Rattle.std.specs.Prelude.{◌≡◌, ℕ, ◌+◌, ◌^◌, ◌<◌, ◌≤◌, ◌⊎◌, ◌↔◌, Bool, IfOk, OnOk, IsTrue, length};
 ghost use Rattle.tm_base.specs.Cells.{Word};
-ghost use Rattle.tm_base.specs.Shapes.{leaves_of, HasNoPrivate, HasNoAlternatives, HasSize};
+ghost use Rattle.tm_base.specs.Shapes.{leaves_of, HasNoPrivate, HasNoChoice, HasSize};
 ghost use Rattle.tm_base.specs.Transmutes.{holds};
 ghost use Rattle.tm_base.specs.Trees.{TreeWord};
 ghost use Rattle.tm_auto.specs.Automata.{AutoWord, IsAutomaton, HasOneStateALayer, IsLayered, ReadsWords, AreStates, AreInLayer, IsStep, edges_from};
@@ -47,7 +47,7 @@ impl Auto {
         ensures pointer { IfOk result (λ auto. auto.pointer ≡ pointer) }
         ensures words { IfOk result (λ auto. (A : ℕ → ℕ → Bool) (keep : Bool) (w : Word)
             → TreeWord pointer (holds A) keep tree.now w ↔ AutoWord (holds A) auto w) }
-        ensures single { HasNoAlternatives tree.now → IfOk result (λ auto. HasOneStateALayer auto) }
+        ensures single { HasNoChoice tree.now → IfOk result (λ auto. HasOneStateALayer auto) }
         ensures linear { IfOk result (λ auto. length auto.edges ≤ leaves_of pointer tree.now) }
     {
         let mut b = Building::new(alloc, pointer as u8);

@@ -4,7 +4,7 @@ use Rattle.tm_base.specs.declared.tree.Tree.{Tree, Row_of-Tree, end_of-Tree, mor
 use Rattle.tm_base.specs.declared.tree.Tree.TheBlock.{hidden-the_row-Tree-0, shape-the_row-Tree-1, hidden-the_row-Tree-1}
 use Rattle.tm_base.specs.declared.cell.RefId.{RefId}
 use Rattle.tm_base.specs.Cells.{Word, Times}
-use Rattle.tm_base.specs.Shapes.{leaves_of, row_leaves, all_leaves, row_length, HasNoPrivate, RowHasNoPrivate, NonePrivate, HasNoAlternatives, RowHasNoAlternatives, NoneAlternative, HasSize}
+use Rattle.tm_base.specs.Shapes.{leaves_of, row_leaves, all_leaves, row_length, HasNoPrivate, RowHasNoPrivate, NonePrivate, HasNoChoice, RowHasNoChoice, NoneHasChoice, HasSize}
 use Rattle.tm_base.specs.Transmutes.{holds}
 use Rattle.tm_base.specs.Trees.{TreeWord}
 use Rattle.tm_base.proofs.CellLemmas.{length-pointer_of}
@@ -41,8 +41,8 @@ HasNoPrivate-Private t h = h
 
 -- ---- alternatives
 
-alternative-row : {n : _} (row : Row_of-Tree n) → RowHasNoAlternatives row ↔ NoneAlternative (items-the_row-Tree n row)
-unfolding HasNoAlternatives
+alternative-row : {n : _} (row : Row_of-Tree n) → RowHasNoChoice row ↔ NoneHasChoice (items-the_row-Tree n row)
+unfolding HasNoChoice
 alternative-row end_of-Tree = (λ h. h, λ h. h)
 alternative-row (more_of-Tree t ts) = let both = alternative-row ts in (λ h. (h.0, both.0 h.1), λ h. (h.0, both.1 h.1))
 
@@ -50,24 +50,24 @@ length-row : {n : _} (row : Row_of-Tree n) → row_length row ≡ length (items-
 length-row end_of-Tree = refl
 length-row (more_of-Tree t ts) = let e = length-row ts in omega arith
 
-pub HasNoAlternatives-Seq : (ts : List Tree) → HasNoAlternatives (Seq ts) ↔ NoneAlternative ts
-unfolding HasNoAlternatives
-HasNoAlternatives-Seq ts =
+pub HasNoChoice-Seq : (ts : List Tree) → HasNoChoice (Seq ts) ↔ NoneHasChoice ts
+unfolding HasNoChoice
+HasNoChoice-Seq ts =
     let e = items_hidden-the_row-Tree-0 ts in
     let both = alternative-row (hidden-the_row-Tree-0 ts) in
-    (λ h. subst NoneAlternative e (both.0 h), λ h. both.1 (subst NoneAlternative (sym e) h))
+    (λ h. subst NoneHasChoice e (both.0 h), λ h. both.1 (subst NoneHasChoice (sym e) h))
 
-pub HasNoAlternatives-Alt : (ts : List Tree) → HasNoAlternatives (Alt ts) ↔ ((length ts ≤ 1) × NoneAlternative ts)
-unfolding HasNoAlternatives
-HasNoAlternatives-Alt ts =
+pub HasNoChoice-Alt : (ts : List Tree) → HasNoChoice (Alt ts) ↔ ((length ts ≤ 1) × NoneHasChoice ts)
+unfolding HasNoChoice
+HasNoChoice-Alt ts =
     let e = items_hidden-the_row-Tree-0 ts in
     let both = alternative-row (hidden-the_row-Tree-0 ts) in
     let n : row_length (hidden-the_row-Tree-0 ts) ≡ length ts = length-row (hidden-the_row-Tree-0 ts) ∙ ap length e in
-    (λ h. (subst (λ k. k ≤ 1) n h.0, subst NoneAlternative e (both.0 h.1)), λ h. (subst (λ k. k ≤ 1) (sym n) h.0, both.1 (subst NoneAlternative (sym e) h.1)))
+    (λ h. (subst (λ k. k ≤ 1) n h.0, subst NoneHasChoice e (both.0 h.1)), λ h. (subst (λ k. k ≤ 1) (sym n) h.0, both.1 (subst NoneHasChoice (sym e) h.1)))
 
-pub HasNoAlternatives-Repeat : (n : ℕ) (t : Tree) → HasNoAlternatives (Repeat n t) ↔ HasNoAlternatives t
-unfolding HasNoAlternatives shape-the_row-Tree-1 hidden-the_row-Tree-1 denote.Hole.Carrier.hidden
-HasNoAlternatives-Repeat n t = (λ h. h.0, λ h. (h, tt))
+pub HasNoChoice-Repeat : (n : ℕ) (t : Tree) → HasNoChoice (Repeat n t) ↔ HasNoChoice t
+unfolding HasNoChoice shape-the_row-Tree-1 hidden-the_row-Tree-1 denote.Hole.Carrier.hidden
+HasNoChoice-Repeat n t = (λ h. h.0, λ h. (h, tt))
 
 -- ---- leaves
 

@@ -54,23 +54,23 @@ row_length (more_of-Tree t ts) = 1 + row_length ts
 
 -- no alternative in the tree has two members or more
 unfoldable mutual
-  pub HasNoAlternatives : Tree → Type 0
-  HasNoAlternatives Never = Unit {0}
-  HasNoAlternatives (Range low high) = Unit {0}
-  HasNoAlternatives Pad = Unit {0}
-  HasNoAlternatives (Ref t) = Unit {0}
-  HasNoAlternatives (Seq' shape row) = RowHasNoAlternatives row
-  HasNoAlternatives (Alt' shape row) = (row_length row ≤ 1) × RowHasNoAlternatives row
-  HasNoAlternatives (Repeat' n shape row) = RowHasNoAlternatives row
-  HasNoAlternatives (Private' shape row) = RowHasNoAlternatives row
+  pub HasNoChoice : Tree → Type 0
+  HasNoChoice Never = Unit {0}
+  HasNoChoice (Range low high) = Unit {0}
+  HasNoChoice Pad = Unit {0}
+  HasNoChoice (Ref t) = Unit {0}
+  HasNoChoice (Seq' shape row) = RowHasNoChoice row
+  HasNoChoice (Alt' shape row) = (row_length row ≤ 1) × RowHasNoChoice row
+  HasNoChoice (Repeat' n shape row) = RowHasNoChoice row
+  HasNoChoice (Private' shape row) = RowHasNoChoice row
 
-  pub RowHasNoAlternatives : {m : _} → Row_of-Tree m → Type 0
-  RowHasNoAlternatives end_of-Tree = Unit {0}
-  RowHasNoAlternatives (more_of-Tree t ts) = HasNoAlternatives t × RowHasNoAlternatives ts
+  pub RowHasNoChoice : {m : _} → Row_of-Tree m → Type 0
+  RowHasNoChoice end_of-Tree = Unit {0}
+  RowHasNoChoice (more_of-Tree t ts) = HasNoChoice t × RowHasNoChoice ts
 
-abbrev pub NoneAlternative : List Tree → Type 0
-NoneAlternative [] = Unit {0}
-NoneAlternative (t ∷ ts) = HasNoAlternatives t × NoneAlternative ts
+abbrev pub NoneHasChoice : List Tree → Type 0
+NoneHasChoice [] = Unit {0}
+NoneHasChoice (t ∷ ts) = HasNoChoice t × NoneHasChoice ts
 
 -- whatever its references may hold, each word of the tree, its private parts' among them, has so many cells
 abbrev pub HasSize : ℕ → ℕ → Tree → Type 0

@@ -1,8 +1,8 @@
 -- Leaves, private parts and alternatives of what is made of some trees.
 use Rattle.std.proofs.Common.{◌≡◌, ℕ, zero, suc, ◌+◌, ◌*◌, ◌≤◌, refl, sym, ap, subst, ◌∙◌, ◌==◌, Bool, true, false, ◌||◌, if◌then◌else◌, List, [], ◌∷◌, ◌++◌, arith, Result, Ok, Err, IfOk}
 use Rattle.tm_base.specs.declared.tree.Tree.{Tree, Never, Range, Pad, Repeat}
-use Rattle.tm_base.specs.Shapes.{leaves_of, all_leaves, HasNoPrivate, NonePrivate, HasNoAlternatives, NoneAlternative}
-use Rattle.tm_base.proofs.ShapeLemmas.{leaves_of-Seq, leaves_of-Alt, leaves_of-Repeat, HasNoPrivate-Seq, HasNoPrivate-Alt, HasNoPrivate-Repeat, HasNoAlternatives-Seq, HasNoAlternatives-Repeat}
+use Rattle.tm_base.specs.Shapes.{leaves_of, all_leaves, HasNoPrivate, NonePrivate, HasNoChoice, NoneHasChoice}
+use Rattle.tm_base.proofs.ShapeLemmas.{leaves_of-Seq, leaves_of-Alt, leaves_of-Repeat, HasNoPrivate-Seq, HasNoPrivate-Alt, HasNoPrivate-Repeat, HasNoChoice-Seq, HasNoChoice-Repeat}
 use Rattle.tm_niche.specs.Forms.{is_never, some_never, living, sequence_of, alternative_of, joined, one_of, repeated}
 use Rattle.tm_niche.proofs.WordLemmas.{never-is, one-is}
 
@@ -128,37 +128,37 @@ repeated-private (suc n) t h =
 
 -- ---- alternatives
 
-pub single-Never : HasNoAlternatives Never
-unfolding HasNoAlternatives
+pub single-Never : HasNoChoice Never
+unfolding HasNoChoice
 single-Never = tt
 
-pub single-Range : (low high : ℕ) → HasNoAlternatives (Range low high)
-unfolding HasNoAlternatives
+pub single-Range : (low high : ℕ) → HasNoChoice (Range low high)
+unfolding HasNoChoice
 single-Range low high = tt
 
-pub single-Pad : HasNoAlternatives Pad
-unfolding HasNoAlternatives
+pub single-Pad : HasNoChoice Pad
+unfolding HasNoChoice
 single-Pad = tt
 
-pub NoneAlternative-append : (ts ss : List Tree) → NoneAlternative ts → NoneAlternative ss → NoneAlternative (ts ++ ss)
-NoneAlternative-append [] ss h k = k
-NoneAlternative-append (t ∷ ts) ss h k = (h.0, NoneAlternative-append ts ss h.1 k)
+pub NoneHasChoice-append : (ts ss : List Tree) → NoneHasChoice ts → NoneHasChoice ss → NoneHasChoice (ts ++ ss)
+NoneHasChoice-append [] ss h k = k
+NoneHasChoice-append (t ∷ ts) ss h k = (h.0, NoneHasChoice-append ts ss h.1 k)
 
-sequence_of-single : (ts : List Tree) → NoneAlternative ts → HasNoAlternatives (sequence_of ts)
-sequence_of-single [] h = (HasNoAlternatives-Seq []).1 h
+sequence_of-single : (ts : List Tree) → NoneHasChoice ts → HasNoChoice (sequence_of ts)
+sequence_of-single [] h = (HasNoChoice-Seq []).1 h
 sequence_of-single (t ∷ []) h = h.0
-sequence_of-single (t ∷ s ∷ ts) h = (HasNoAlternatives-Seq (t ∷ s ∷ ts)).1 h
+sequence_of-single (t ∷ s ∷ ts) h = (HasNoChoice-Seq (t ∷ s ∷ ts)).1 h
 
-pub joined-single : (ts : List Tree) → NoneAlternative ts → HasNoAlternatives (joined ts)
+pub joined-single : (ts : List Tree) → NoneHasChoice ts → HasNoChoice (joined ts)
 unfolding joined
-joined-single ts h = elim (some_never ts) as (λ b. HasNoAlternatives (if b then Never else sequence_of ts)) [ true ↦ single-Never | false ↦ sequence_of-single ts h ]
+joined-single ts h = elim (some_never ts) as (λ b. HasNoChoice (if b then Never else sequence_of ts)) [ true ↦ single-Never | false ↦ sequence_of-single ts h ]
 
 -- an alternative of one tree at most is none
-pub one_of-single : (t : Tree) → HasNoAlternatives t → HasNoAlternatives (one_of (t ∷ []))
+pub one_of-single : (t : Tree) → HasNoChoice t → HasNoChoice (one_of (t ∷ []))
 unfolding one_of
-one_of-single t h = elim (is_never t) as (λ b. HasNoAlternatives (alternative_of (if b then [] else (t ∷ [])))) [ true ↦ single-Never | false ↦ h ]
+one_of-single t h = elim (is_never t) as (λ b. HasNoChoice (alternative_of (if b then [] else (t ∷ [])))) [ true ↦ single-Never | false ↦ h ]
 
-pub repeated-single : (n : ℕ) (t : Tree) → HasNoAlternatives t → NoneAlternative (repeated n t)
+pub repeated-single : (n : ℕ) (t : Tree) → HasNoChoice t → NoneHasChoice (repeated n t)
 repeated-single zero t h = tt
 repeated-single (suc n) t h =
-    (elim ((suc n == 1) || is_never t) as (λ b. HasNoAlternatives (if b then t else Repeat (suc n) t)) [ true ↦ h | false ↦ (HasNoAlternatives-Repeat (suc n) t).1 h ], tt)
+    (elim ((suc n == 1) || is_never t) as (λ b. HasNoChoice (if b then t else Repeat (suc n) t)) [ true ↦ h | false ↦ (HasNoChoice-Repeat (suc n) t).1 h ], tt)

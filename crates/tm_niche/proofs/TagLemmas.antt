@@ -11,7 +11,7 @@ use Rattle.tm_base.specs.declared.tree.Tree.{Tree, Range}
 use Rattle.tm_base.specs.Cells.{Word, little_endian}
 use Rattle.tm_base.specs.Integers.{fits_integer, fits_signed, fits_unsigned, is_signed}
 use Rattle.tm_base.specs.Layout.{prim_size}
-use Rattle.tm_base.specs.Shapes.{leaves_of, all_leaves, HasNoPrivate, NonePrivate, HasNoAlternatives, NoneAlternative}
+use Rattle.tm_base.specs.Shapes.{leaves_of, all_leaves, HasNoPrivate, NonePrivate, HasNoChoice, NoneHasChoice}
 use Rattle.tm_base.specs.Trees.{TreeWord, InTurn}
 use Rattle.tm_base.specs.Valid.{AreBytes, IsTag, twos_complement}
 use Rattle.tm_niche.specs.Forms.{in_order, some_never, turned, byte_forms, is_negative, magnitude, tag_form}
@@ -53,7 +53,7 @@ private-exact : (bs : List ℕ) → NonePrivate (map exact bs)
 private-exact [] = tt
 private-exact (b ∷ bs) = (private-Range b b, private-exact bs)
 
-single-exact : (bs : List ℕ) → NoneAlternative (map exact bs)
+single-exact : (bs : List ℕ) → NoneHasChoice (map exact bs)
 single-exact [] = tt
 single-exact (b ∷ bs) = (single-Range b b, single-exact bs)
 
@@ -80,11 +80,11 @@ tag-private profile size value =
     joined-private (in_order profile (byte_forms (is_negative value) size (magnitude value)))
     (subst NonePrivate (sym (tag-bytes profile size value)) (private-exact (ordered profile (bytes_of (is_negative value) size (magnitude value)))))
 
-pub tag-single : (profile : Profile) (size : ℕ) (value : ℤ) → HasNoAlternatives (tag_form profile size value)
+pub tag-single : (profile : Profile) (size : ℕ) (value : ℤ) → HasNoChoice (tag_form profile size value)
 unfolding tag_form
 tag-single profile size value =
     joined-single (in_order profile (byte_forms (is_negative value) size (magnitude value)))
-    (subst NoneAlternative (sym (tag-bytes profile size value)) (single-exact (ordered profile (bytes_of (is_negative value) size (magnitude value)))))
+    (subst NoneHasChoice (sym (tag-bytes profile size value)) (single-exact (ordered profile (bytes_of (is_negative value) size (magnitude value)))))
 
 -- the low bytes of a number that they hold hold its two's complement
 value-number : (size : ℕ) (value : ℤ) → magnitude value < 256 ^ size → little_endian (map Byte (bytes_of (is_negative value) size (magnitude value))) ≡ twos_complement size value

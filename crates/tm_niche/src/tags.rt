@@ -2,7 +2,7 @@ ghost use Rattle.std.specs.Prelude.{◌≡◌, ◌↔◌, ◌≤◌, ◌%◌, �
 ghost use Rattle.tm_base.specs.Cells.{Word};
 ghost use Rattle.tm_base.specs.Integers.{fits_integer, is_integer};
 ghost use Rattle.tm_base.specs.Layout.{prim_size};
-ghost use Rattle.tm_base.specs.Shapes.{leaves_of, HasNoAlternatives, HasNoPrivate};
+ghost use Rattle.tm_base.specs.Shapes.{leaves_of, HasNoChoice, HasNoPrivate};
 ghost use Rattle.tm_base.specs.Transmutes.{holds};
 ghost use Rattle.tm_base.specs.Trees.{TreeWord};
 ghost use Rattle.tm_base.specs.Valid.{IsTag};
@@ -84,7 +84,7 @@ pub fn tag_tree(
         → TreeWord pointer (holds A) keep tree w ↔ IsTag profile (prim_size profile prim) value w) }
     ensures leaves { IfOk result (λ tree. (pointer : ℕ) → leaves_of pointer tree ≡ prim_size profile prim) }
     ensures public { IfOk result (λ tree. HasNoPrivate tree) }
-    ensures single { IfOk result (λ tree. HasNoAlternatives tree) }
+    ensures single { IfOk result (λ tree. HasNoChoice tree) }
 {
     let size = size_of(profile, prim);
     let mut bytes = low_bytes(alloc, size, is_negative(value), magnitude(value))?;

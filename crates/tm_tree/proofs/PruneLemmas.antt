@@ -4,7 +4,7 @@ use Rattle.std.proofs.Math.Nat.{mul-le-mul_right}
 use Rattle.tm_base.specs.declared.tree.Tree.{Tree, Row_of-Tree, end_of-Tree, more_of-Tree, items-the_row-Tree, items_hidden-the_row-Tree-0, Never, Range, Pad, Ref, Seq, Alt, Repeat, Private, Seq', Alt', Repeat', Private'}
 use Rattle.tm_base.specs.declared.tree.Tree.TheBlock.{hidden-the_row-Tree-0, shape-the_row-Tree-1, hidden-the_row-Tree-1}
 use Rattle.tm_base.specs.Cells.{Word}
-use Rattle.tm_base.specs.Shapes.{leaves_of, row_leaves, all_leaves, row_length, HasNoPrivate, NonePrivate, HasNoAlternatives, RowHasNoAlternatives, NoneAlternative}
+use Rattle.tm_base.specs.Shapes.{leaves_of, row_leaves, all_leaves, row_length, HasNoPrivate, NonePrivate, HasNoChoice, RowHasNoChoice, NoneHasChoice}
 use Rattle.tm_base.specs.Trees.{TreeWord, RowInTurn, RowOneOf, InTurn, OneOf}
 use Rattle.tm_base.proofs.ValidLemmas.{Times-grows}
 use Rattle.tm_niche.specs.Forms.{joined, one_of, repeated}
@@ -158,9 +158,9 @@ module _ (keep : Bool) where
   -- ---- alternatives
 
   mutual
-    unfolding pruned HasNoAlternatives
+    unfolding pruned HasNoChoice
 
-    pub pruned-single : (t : Tree) → HasNoAlternatives t → HasNoAlternatives (pruned keep t)
+    pub pruned-single : (t : Tree) → HasNoChoice t → HasNoChoice (pruned keep t)
     pruned-single Never h = tt
     pruned-single (Range low high) h = tt
     pruned-single Pad h = tt
@@ -168,9 +168,9 @@ module _ (keep : Bool) where
     pruned-single (Seq' shape row) h = joined-single (row_pruned keep row) (row-single row h)
     pruned-single (Alt' shape row) (n, h) = let count = row-count row in one_way (row_pruned keep row) (omega arith) (row-single row h)
     pruned-single (Repeat' n shape (more_of-Tree t end_of-Tree)) (h, end) = joined-single (repeated n (pruned keep t)) (repeated-single n (pruned keep t) (pruned-single t h))
-    pruned-single (Private' shape (more_of-Tree t end_of-Tree)) (h, end) = let inside = pruned-single t h in elim keep as (λ b. HasNoAlternatives (if b then pruned keep t else Never)) [ true ↦ inside | false ↦ tt ]
+    pruned-single (Private' shape (more_of-Tree t end_of-Tree)) (h, end) = let inside = pruned-single t h in elim keep as (λ b. HasNoChoice (if b then pruned keep t else Never)) [ true ↦ inside | false ↦ tt ]
 
-    row-single : {m : _} (row : Row_of-Tree m) → RowHasNoAlternatives row → NoneAlternative (row_pruned keep row)
+    row-single : {m : _} (row : Row_of-Tree m) → RowHasNoChoice row → NoneHasChoice (row_pruned keep row)
     row-single end_of-Tree h = tt
     row-single (more_of-Tree t ts) (h, others) = (pruned-single t h, row-single ts others)
 

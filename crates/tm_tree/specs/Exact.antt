@@ -4,9 +4,9 @@ use Rattle.tm_base.specs.declared.ground.Ground.{Ground}
 use Rattle.tm_base.specs.declared.tree.Tree.{Tree}
 use Rattle.tm_base.specs.Cells.{Word}
 use Rattle.tm_base.specs.Layout.{size_of}
-use Rattle.tm_base.specs.Parts.{HasNoAlternatives as HasOneForm}
+use Rattle.tm_base.specs.Parts.{HasNoAlternatives}
 use Rattle.tm_base.specs.Profiles.{pointer_size}
-use Rattle.tm_base.specs.Shapes.{leaves_of, HasNoAlternatives, HasSize}
+use Rattle.tm_base.specs.Shapes.{leaves_of, HasNoChoice, HasSize}
 use Rattle.tm_base.specs.Tables.{Tables, expanded_in}
 use Rattle.tm_base.specs.Transmutes.{holds}
 use Rattle.tm_base.specs.Trees.{TreeWord}
@@ -18,6 +18,6 @@ pub record IsTreeOf (tables : Tables) (g : Ground) (tree : Tree) : Type 0 where
   -- its leaves are few enough to be numbered
   pub leaves : leaves_of (pointer_size tables.profile) tree < 2 ^ 31
   -- it has no alternatives where the type has none
-  pub single : HasOneForm (expanded_in tables g) → HasNoAlternatives tree
+  pub single : HasNoAlternatives (expanded_in tables g) → HasNoChoice tree
   -- each of its words has the type's size
   pub sized : HasSize (pointer_size tables.profile) (size_of (expanded_in tables g)) tree

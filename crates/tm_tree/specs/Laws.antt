@@ -7,9 +7,9 @@ use Rattle.tm_base.specs.declared.profile.Profile.{Profile}
 use Rattle.tm_base.specs.Cells.{Word}
 use Rattle.tm_base.specs.Expanded.{Expanded}
 use Rattle.tm_base.specs.Faults.{has_no_layout}
-use Rattle.tm_base.specs.Parts.{HasNoAlternatives as HasOneForm}
+use Rattle.tm_base.specs.Parts.{HasNoAlternatives}
 use Rattle.tm_base.specs.Profiles.{pointer_size}
-use Rattle.tm_base.specs.Shapes.{leaves_of, HasNoAlternatives}
+use Rattle.tm_base.specs.Shapes.{leaves_of, HasNoChoice}
 use Rattle.tm_base.specs.Tables.{Tables, expanded_in}
 use Rattle.tm_base.specs.Transmutes.{holds}
 use Rattle.tm_base.specs.Trees.{TreeWord}
@@ -33,4 +33,4 @@ LeavesAreFew =
     → leaves_of (pointer_size tables.profile) (tree_for (expanded_in tables g)) ≤ weight_of (expanded_in tables g) * 80
 
 abbrev pub AlternativesAreKept : Type 0
-AlternativesAreKept = (t : Expanded) → HasOneForm t → HasNoAlternatives (tree_for t)
+AlternativesAreKept = (t : Expanded) → HasNoAlternatives t → HasNoChoice (tree_for t)

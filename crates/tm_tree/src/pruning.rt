@@ -1,6 +1,6 @@
 ghost use Rattle.std.specs.Prelude.{◌≡◌, ◌↔◌, ◌≤◌, ℕ, Bool, IfOk};
 ghost use Rattle.tm_base.specs.Cells.{Word};
-ghost use Rattle.tm_base.specs.Shapes.{leaves_of, HasNoAlternatives, HasNoPrivate};
+ghost use Rattle.tm_base.specs.Shapes.{leaves_of, HasNoChoice, HasNoPrivate};
 ghost use Rattle.tm_base.specs.Transmutes.{holds};
 ghost use Rattle.tm_base.specs.Trees.{TreeWord};
 ghost use Rattle.tm_tree.specs.Pruned.{all_pruned, pruned};
@@ -17,7 +17,7 @@ pub fn prune(alloc: Global, tree: Tree, keep_private: bool) -> Result<Tree, Memo
     ensures words { IfOk result (λ made. (pointer : ℕ) (A : ℕ → ℕ → Bool) (keep : Bool) (w : Word)
         → TreeWord pointer (holds A) keep made w ↔ TreeWord pointer (holds A) keep_private tree w) }
     ensures leaves { IfOk result (λ made. (pointer : ℕ) → leaves_of pointer made ≤ leaves_of pointer tree) }
-    ensures single { HasNoAlternatives tree → IfOk result (λ made. HasNoAlternatives made) }
+    ensures single { HasNoChoice tree → IfOk result (λ made. HasNoChoice made) }
 {
     pruned(alloc, &tree, keep_private)
 }

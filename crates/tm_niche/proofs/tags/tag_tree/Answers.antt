@@ -1,7 +1,7 @@
 use Rattle.std.proofs.Common.{rules, ℕ, Bool, ◌≡◌, ◌↔◌}
 use Rattle.tm_base.specs.Cells.{Word}
 use Rattle.tm_base.specs.Layout.{prim_size}
-use Rattle.tm_base.specs.Shapes.{leaves_of, HasNoAlternatives, HasNoPrivate}
+use Rattle.tm_base.specs.Shapes.{leaves_of, HasNoChoice, HasNoPrivate}
 use Rattle.tm_base.specs.Transmutes.{holds}
 use Rattle.tm_base.specs.Trees.{TreeWord}
 use Rattle.tm_base.specs.Valid.{IsTag}
@@ -33,5 +33,5 @@ returns-clause-public c =
 
 pub returns-clause-single : goal.returns-clause-single
 returns-clause-single c =
-    of-form c.in_turn.result (tag_form c.args.profile (prim_size c.args.profile c.args.prim) c.args.value) HasNoAlternatives
+    of-form c.in_turn.result (tag_form c.args.profile (prim_size c.args.profile c.args.prim) c.args.value) HasNoChoice
     (returns-clause-form c) (tag-single c.args.profile (prim_size c.args.profile c.args.prim) c.args.value)

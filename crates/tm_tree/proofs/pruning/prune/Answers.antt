@@ -1,6 +1,6 @@
 use Rattle.std.proofs.Common.{ℕ, Bool, ◌≤◌, ◌↔◌}
 use Rattle.tm_base.specs.Cells.{Word}
-use Rattle.tm_base.specs.Shapes.{leaves_of, HasNoAlternatives, HasNoPrivate}
+use Rattle.tm_base.specs.Shapes.{leaves_of, HasNoChoice, HasNoPrivate}
 use Rattle.tm_base.specs.Transmutes.{holds}
 use Rattle.tm_base.specs.Trees.{TreeWord}
 use Rattle.tm_niche.proofs.FormLemmas.{of-form}
@@ -23,4 +23,4 @@ returns-clause-leaves c =
     c.pruned.ensures (λ pointer. pruned-leaves c.args.keep_private pointer c.args.tree)
 
 pub returns-clause-single : goal.returns-clause-single
-returns-clause-single c = λ h. of-form c.pruned.result (pruned c.args.keep_private c.args.tree) HasNoAlternatives c.pruned.ensures (pruned-single c.args.keep_private c.args.tree h)
+returns-clause-single c = λ h. of-form c.pruned.result (pruned c.args.keep_private c.args.tree) HasNoChoice c.pruned.ensures (pruned-single c.args.keep_private c.args.tree h)
