@@ -97,3 +97,17 @@ module _ (tables : Tables) where
   -- where none is at fault, the type is judged
   pub none-judged : (g : Ground) (types : List Ground) → AreReached tables g types → AreSound tables types → IsJudged tables g
   none-judged g types reached sound = λ h way. sound h (reached.all h way)
+
+  -- a type that stands among them already
+  pub least-again : (types : List Ground) (g : Ground) (least : Option Refused) → Contains types g → IsLeastAnswer tables types least → IsLeastAnswer tables (types ++ g ∷ []) least
+  least-again types g least before old = by least old where
+    again : (h : Ground) → Contains (types ++ g ∷ []) h → Contains types h
+    again h at = ⊎_elim (λ in_it. in_it) (λ (same : g ≡ h). subst (Contains types) same before) (last-cases types g h at)
+
+    by : (least : Option Refused) → IsLeastAnswer tables types least → IsLeastAnswer tables (types ++ g ∷ []) least
+    by None sound = λ h at. sound h (again h at)
+    by (Some refused) old = record {
+      is = old.is;
+      listed = Contains-append_left types (g ∷ []) refused.found old.listed;
+      least = λ h why at. old.least h why (again h at);
+    }

@@ -21,3 +21,4 @@ pub mod EndLemmas
 pub mod LaidOutLemmas
 pub mod VariantLemmas
 pub mod EnumFieldLemmas
+pub mod SeenLemmas

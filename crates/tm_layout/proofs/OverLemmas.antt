@@ -1,11 +1,12 @@
 -- What a type over a world reaches is over the world too.
-use Rattle.std.proofs.Common.{◌≡◌, ℕ, zero, suc, refl, sym, ◌∙◌, ap, subst, ⊎_elim, Bool, true, false, ◌&&◌, ◌||◌, not, List, [], ◌∷◌, ◌++◌, map, length, Some, None, slice_get, Contains, arith}
+use Rattle.std.proofs.Common.{◌≡◌, ℕ, zero, suc, ◌<◌, ltb-true, refl, sym, ◌∙◌, ap, subst, ⊎_elim, Bool, true, false, ◌&&◌, ◌||◌, not, List, [], ◌∷◌, ◌++◌, map, length, Some, None, slice_get, Contains, arith}
 use Rattle.std.specs.List.{list_all, flat_map, range_with_len}
 use Rattle.std.proofs.lemmas.List.Elements.{Contains-append_cases}
 use Rattle.std.proofs.lemmas.List.Folds.{list_all-append, list_all-map}
 use Rattle.tm_base.specs.declared.ground.Ground.{Ground, out-Ground, roll-Ground, roll-out-Ground, Prim, Never, Unit as the_unit, Tuple, Array, Wrap, Tuple', Array', Named, NonZero, Wrap', Ref}
 use Rattle.tm_base.specs.declared.ground.Ground.TheOpen.{Ground-F}
 use Rattle.tm_base.specs.declared.ground.Ground.TheVariants.{rolls-Tuple, rolls-Array, rolls-Wrap}
+use Rattle.tm_base.specs.declared.ground.NamedId.{NamedId}
 use Rattle.tm_base.specs.declared.ground.Wrapper.{Wrapper}
 use Rattle.tm_base.specs.declared.ground.Wrapper.TheVariants as wrapper
 use Rattle.tm_base.specs.declared.world.World.{World}
@@ -242,3 +243,9 @@ module _ (world : World) where
   pub reached-over : (g h : Ground) → IsTypeOver (tables_of world) g → Reaches (tables_of world) g h → IsTypeOver (tables_of world) h
   reached-over g h o (n, way) =
       ChainIn-keeps (Enters (tables_of world)) (λ k. over k ≡ true) (λ a b p step. step-over a b (out-Ground a) refl p step) n g h o way
+
+  -- the number of a named type over the world is one of its named types'
+  pub named-within : (g : Ground) (id : NamedId) → out-Ground g ≡ Ground-F.Named id → IsTypeOver (tables_of world) g → id.0 < length world.named
+  named-within g id e o =
+      let first = list_all-in head (written_types g) g (over-parts g o).0 (written-first g) in
+      ltb-true id.0 (length world.named) (sym (ap (is_head_in_form (length world.named) (length world.refs)) e) ∙ first)

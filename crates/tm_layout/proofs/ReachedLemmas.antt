@@ -60,12 +60,12 @@ read-same types more place h d below is =
     cc
 
 -- places that are marked after one was: that one, and those that were marked before
-marked-set : (marks : List Bool) (place k : ℕ) → is_marked (set marks place true) k ≡ true → (k ≡ place) ⊎ (is_marked marks k ≡ true)
+pub marked-set : (marks : List Bool) (place k : ℕ) → is_marked (set marks place true) k ≡ true → (k ≡ place) ⊎ (is_marked marks k ≡ true)
 marked-set marks place k h =
     ⊎_elim (λ (e : k ≡ place). inl e) (λ (ne : k ≡ place → ⊥). inr (sym (get_or-set_other marks place k true true ne) ∙ h)) (cases_eq k place)
 
 -- where no place is marked, what is past the marks counts as marked
-unmarked-past : (count k : ℕ) → is_marked (replicate count false) k ≡ true → count ≤ k
+pub unmarked-past : (count k : ℕ) → is_marked (replicate count false) k ≡ true → count ≤ k
 unmarked-past count k h =
     ⊎_elim (λ (l : k < count). absurd (true≢false (sym h ∙ get_or-replicate count k false true l))) (λ (l : count ≤ k). l) (cases_lt k count)
 

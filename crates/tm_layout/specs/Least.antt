@@ -1,13 +1,20 @@
 -- Which of some types at fault is named: one whose canonical text is least. This project's.
-use Rattle.std.specs.Prelude.{◌≡◌, false, Option, None, Some, List, Contains}
+use Rattle.std.specs.Prelude.{◌≡◌, Bool, false, Option, None, Some, List, Contains}
 use Rattle.tm_base.specs.declared.answer.Why.{Why}
 use Rattle.tm_base.specs.declared.ground.Ground.{Ground}
+use Rattle.tm_base.specs.declared.ground.Ground.TheOpen.{Ground-F}
 use Rattle.tm_base.specs.Faults.{fault_of}
 use Rattle.tm_base.specs.Orders.{text_less}
 use Rattle.tm_base.specs.Reaches.{IsAtFault}
 use Rattle.tm_base.specs.Tables.{Tables, expanded_in}
 use Rattle.tm_base.specs.Texts.{text_of}
 use Rattle.tm_layout.specs.declared.refused.Refused.{Refused}
+use Rattle.tm_layout.specs.Reached.{is_marked}
+
+-- a named type that is marked as seen
+abbrev pub is_seen : List Bool → Ground-F Ground → Bool
+is_seen seen (Ground-F.Named id) = is_marked seen id.0
+is_seen seen _ = false
 
 module _ (tables : Tables) where
   -- a type with its cause and its text

@@ -9,7 +9,7 @@ use std::alloc::Global;
 use tm_base::{Ground, Memory, NamedId, NamedRow, RefId, World, Wrapper};
 
 /// Marks a place, and says whether it was marked. What is past the marks counts as marked.
-fn mark(marks: &mut Vec<bool>, place: usize) -> bool
+pub(crate) fn mark(marks: &mut Vec<bool>, place: usize) -> bool
     ensures was { result ≡ is_marked marks.old.items place }
     ensures now { marks.new.items ≡ slice_set marks.old.items place true }
 {
@@ -113,7 +113,7 @@ fn add_entered<'a>(
 }
 
 /// So many marks, none set.
-fn no_marks(alloc: Global, count: usize) -> Result<Vec<bool>, Memory>
+pub(crate) fn no_marks(alloc: Global, count: usize) -> Result<Vec<bool>, Memory>
     ensures { IfOk result (λ marks. marks.items ≡ replicate count false) }
 {
     Ok(vec![in alloc; false; count]?)

@@ -1,15 +1,15 @@
 ghost use Rattle.std.specs.Prelude.{◌≡◌, ◌++◌, ◌∷◌, [], All, List, if◌then◌else◌, IfOk};
-ghost use Rattle.tm_base.specs.declared.ground.Ground.{Ground};
+ghost use Rattle.tm_base.specs.declared.ground.Ground.{Ground, out-Ground};
 ghost use Rattle.tm_base.specs.Orders.{text_less};
 ghost use Rattle.tm_base.specs.Reaches.{IsAtFault};
 ghost use Rattle.tm_base.specs.Worlds.{IsTypeOver, tables_of};
-ghost use Rattle.tm_layout.specs.Least.{IsLeastAnswer, IsRefused};
+ghost use Rattle.tm_layout.specs.Least.{IsLeastAnswer, IsRefused, is_seen};
 ghost use Rattle.tm_layout.specs.Made.{IsMadeFor};
 ghost use Rattle.tm_layout.specs.Named.{IsRefusedAnswer};
-ghost use Rattle.tm_layout.specs.Reached.{types_at};
+ghost use Rattle.tm_layout.specs.Reached.{named_after, types_at};
 
 use crate::layouts::Layouts;
-use crate::reached::reached_types;
+use crate::reached::{mark, no_marks, reached_types};
 use std::alloc::Global;
 use std::cmp::Ordering;
 use tm_base::{Ground, Memory, Text, Why, World, text_of};
@@ -74,7 +74,18 @@ fn least_with(
     }
 }
 
-/// The least of some types at fault.
+/// Whether a type is a named one that was seen before. From now on it was.
+fn was_seen(seen: &mut Vec<bool>, g: &Ground) -> bool
+    ensures was { result ≡ is_seen seen.old.items (out-Ground g.now) }
+    ensures now { seen.new.items ≡ named_after seen.old.items (out-Ground g.now) }
+{
+    match g {
+        Ground::Named(id) => mark(seen, id.0 as usize),
+        _ => false,
+    }
+}
+
+/// The least of some types at fault. However often a named type stands among them, it is looked at once.
 fn least_of(
     alloc: Global,
     world: &World,
@@ -85,9 +96,12 @@ fn least_of(
     requires types_are { All (IsTypeOver (tables_of world.now)) (types_at types.now) }
     ensures { IfOk result (IsLeastAnswer (tables_of world.now) (types_at types.now)) }
 {
+    let mut seen = no_marks(alloc, world.named.len())?;
     let mut least = None;
     for g in types {
-        least = least_with(alloc, world, layouts, least, g)?;
+        if !was_seen(&mut seen, g) {
+            least = least_with(alloc, world, layouts, least, g)?;
+        }
     }
     Ok(least)
 }
