@@ -18,3 +18,4 @@ pub mod AddedLemmas
 pub mod PartLemmas
 pub mod FirstRowLemmas
 pub mod LossLemmas
+pub mod ServesLemmas

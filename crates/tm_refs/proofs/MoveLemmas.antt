@@ -1,11 +1,12 @@
 -- Whether a value of one type may be taken as one of another rests on the leaves of the two types alone: on
 -- which leaf of the source may be taken as which leaf of the target.
-use Rattle.std.proofs.Common.{◌≡◌, ℕ, zero, suc, ◌-◌, subst, Bool, true, ◌++◌, length, take, inl, inr, arith, Option, None}
+use Rattle.std.proofs.Common.{◌≡◌, ℕ, zero, suc, ◌-◌, subst, Bool, true, ◌++◌, length, take, get_or, inl, inr, arith, Option, None}
 use Rattle.std.specs.Prelude.{replicate}
 use Rattle.std.proofs.lemmas.Bool.{or_left, or_right}
 use Rattle.std.proofs.lemmas.List.Elements.{All-append, All-replicate, All-take}
 use Rattle.tm_base.specs.declared.assume.Assume.{Assume}
-use Rattle.tm_base.specs.declared.cell.Cell.TheVariants.{Uninit}
+use Rattle.tm_base.specs.declared.cell.Cell.{Cell}
+use Rattle.tm_base.specs.declared.cell.Cell.TheVariants.{Byte, Uninit, Ptr}
 use Rattle.tm_base.specs.declared.definition.Kind.TheVariants.{Struct, Union, Enum}
 use Rattle.tm_base.specs.declared.ground.Primitive.{Primitive}
 use Rattle.tm_base.specs.declared.ground.Wrapper.{Wrapper}
@@ -99,6 +100,15 @@ module _ (A B : ℕ → ℕ → Type 0) (W L : ℕ → Type 0) (keep : Bool) (ov
         inl (front, gap, others, e, is_tag, place, free, FieldsValid-moves None first members (λ x at. among x (or_left _ (some_variant (is_reference x) rest) at)) others inside behind)
     SomeVariantValid-moves profile tag begin first (variant value members rest) among w of (inr h) =
         inr (SomeVariantValid-moves profile tag begin first rest (λ x at. among x (or_right (some_field (is_reference x) members) _ at)) w of h)
+
+any_cell : (c : Cell) → IsCellOf (λ x. Unit {0}) c
+any_cell (Byte b) = tt
+any_cell Uninit = tt
+any_cell (Ptr x k) = tt
+
+-- Whether a word is a value rests on what the references that the type is or holds by value may hold.
+pub Valid-leaves : (A B : ℕ → ℕ → Type 0) (keep : Bool) (t : Expanded) → ((x u : ℕ) → has_leaf t u ≡ true → A x u → B x u) → (w : Word) → Valid A keep t w → Valid B keep t w
+Valid-leaves A B keep t over w h = Valid-moves A B (λ x. Unit {0}) (λ u. has_leaf t u ≡ true) keep (λ x u any leaf a. over x u leaf a) t (λ u at. at) w (λ k d below. any_cell (get_or w k d)) h
 
 -- a value that is cut or filled up holds none but its references
 fit-of : (W : ℕ → Type 0) (w : Word) (m : ℕ) → AreOf W w → AreOf W (fit w m)

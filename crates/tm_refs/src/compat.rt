@@ -1,9 +1,11 @@
 ghost use Rattle.std.specs.Prelude.{◌≡◌, ℕ, ◌≤◌, ◌+◌, Bool, IfOk};
 ghost use Rattle.tm_base.specs.declared.assume.Assume.{Assume};
+ghost use Rattle.tm_base.specs.declared.ground.Ground.{Ground};
 ghost use Rattle.tm_base.specs.Tables.{Tables};
 ghost use Rattle.tm_base.specs.Worlds.{tables_of};
 ghost use Rattle.tm_layout.specs.Made.{IsMadeFor};
 ghost use Rattle.tm_refs.specs.Looks.{IsCompatibility, most_looks};
+ghost use Rattle.tm_refs.specs.Serves.{HoldsReference, ServesFor};
 ghost use Rattle.tm_refs.specs.Solved.{IsDepthAnswer, IsSolvedFor, IsWhyAnswer, compatible_in, depth_in, why_in};
 ghost use Rattle.tm_region.specs.Order.{IsOrderOf};
 
@@ -52,6 +54,8 @@ impl Compat {
         requires made { IsMadeFor (tables_of world.now) layouts.now }
         requires order { IsOrderOf world.now.bounds order.now }
         ensures solved { IfOk result (IsSolvedFor (tables_of world.now) assume) }
+        ensures serves { IfOk result (λ compat. (g : Ground)
+            → ServesFor (tables_of world.now) assume g compat) }
         ensures looks { (compatible : ℕ → ℕ → Bool)
             → IsCompatibility (tables_of world.now) assume compatible
             → looks.new ≤ looks.old + most_looks (tables_of world.now) compatible }
@@ -68,6 +72,19 @@ impl Compat {
         };
         let table = rounds.solve(first, looks)?;
         Ok(Compat { assume, table })
+    }
+
+    /// The table of no references, for some assumptions. It serves for each type that holds no
+    /// reference by value.
+    pub fn empty(alloc: Global, assume: Assume) -> Compat
+        ensures { (tables : Tables) (g : Ground) → ¬ HoldsReference tables g
+            → ServesFor tables assume g result }
+    {
+        let table = Table {
+            rows: Vec::new(alloc),
+            depth: 0,
+        };
+        Compat { assume, table }
     }
 
     /// How many levels of pointees it takes to see that the source reference may not be taken as

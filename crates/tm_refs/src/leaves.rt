@@ -1,10 +1,11 @@
 //! The leaves of the pointees: the references that they are or hold by value.
-ghost use Rattle.std.specs.Prelude.{◌≡◌, ℕ, ◌&&◌, ◌||◌, false, IfOk, length, slice_get, slice_index_or};
+ghost use Rattle.std.specs.Prelude.{◌≡◌, ℕ, ◌&&◌, ◌||◌, ◌↔◌, false, IfOk, IsTrue, length, slice_get, slice_index_or};
 ghost use Rattle.tm_base.specs.declared.ground.Ground.{Named};
 ghost use Rattle.tm_base.specs.Worlds.{IsTypeOver, tables_of};
 ghost use Rattle.tm_layout.specs.Made.{EachIs};
 ghost use Rattle.tm_refs.specs.Leaves.{AreAdded, AreLeavesOf, leads_in, leaf_of, some_leaf, variant_leaf};
 ghost use Rattle.tm_refs.specs.Looks.{depends_on, depends_on_some, row_is_mutable};
+ghost use Rattle.tm_refs.specs.Serves.{HoldsReference};
 
 use crate::pair::Pair;
 use crate::table::MOST;
@@ -79,6 +80,14 @@ pub fn leaves_of(world: &World, g: &Ground) -> Row
     let mut leaves = [false; MOST];
     add_type(world, g, &mut leaves);
     leaves
+}
+
+/// Whether a type is a reference of the world or holds one by value.
+pub fn holds_reference(world: &World, g: &Ground) -> bool
+    requires over { IsTypeOver (tables_of world.now) g.now }
+    ensures { IsTrue result ↔ HoldsReference (tables_of world.now) g.now }
+{
+    leaves_of(world, g).contains(&true)
 }
 
 /// Adds the leaves of a type.

@@ -27,5 +27,5 @@ mod table;
 
 pub use automaton::automaton_of;
 pub use compat::Compat;
-pub use leaves::leaves_of;
+pub use leaves::{holds_reference, leaves_of};
 pub use rules::local;
