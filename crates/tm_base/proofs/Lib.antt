@@ -6,6 +6,7 @@ pub mod CompatibleLemmas
 pub mod OrderLemmas
 pub mod ValidTestLemmas
 pub mod JudgedLemmas
+pub mod HeldLemmas
 pub mod LayoutLemmas
 pub mod AssumeLemmas
 pub mod AnswerLemmas

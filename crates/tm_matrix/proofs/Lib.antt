@@ -1,3 +1,2 @@
-mod HeldLemmas
 mod MarkLemmas
 mod ZipLemmas

@@ -20,7 +20,7 @@ use Rattle.tm_matrix.specs.declared.known.Known.{Known}
 use Rattle.tm_matrix.specs.declared.marks.Mark.TheVariants.{Refused}
 use Rattle.tm_matrix.specs.Known.{IsKnown}
 use Rattle.tm_matrix.specs.Matrix.{AreEnds, bytes}
-use Rattle.tm_matrix.proofs.HeldLemmas.{judged-has_layout}
+use Rattle.tm_base.proofs.HeldLemmas.{judged-laid_out}
 
 module _ (tables : Tables) where
   -- a type is judged where none at fault is found
@@ -34,7 +34,7 @@ module _ (tables : Tables) where
   pub no_layout-ends : (known : Known) → IsKnown tables known → has_no_layout (expanded_in tables known.ground) ≡ true → AreEnds tables known.ground (Refused, Refused)
   no_layout-ends known is h = (λ judged. unjudged judged.target_judged, λ judged. unjudged judged.source_judged) where
     unjudged : IsJudged tables known.ground → ⊥
-    unjudged judged = both_ways _ (judged-has_layout tables known.ground is.over judged) h
+    unjudged judged = both_ways _ (judged-laid_out tables known.ground is.over judged) h
 
   byte-written : written_types (Prim U8) ≡ Prim U8 ∷ []
   unfolding written_types

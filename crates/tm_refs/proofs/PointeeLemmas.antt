@@ -17,7 +17,7 @@ use Rattle.tm_base.specs.Tables.{Tables, OnRows, expanded_in}
 use Rattle.tm_base.specs.Whole.{is_head_in_form, is_type_over, written_types}
 use Rattle.tm_base.specs.Worlds.{IsTypeOver, tables_of}
 use Rattle.tm_layout.proofs.OverLemmas.{reached-over}
-use Rattle.tm_tree.proofs.JudgedLemmas.{judged-laid_out}
+use Rattle.tm_base.proofs.HeldLemmas.{judged-laid_out}
 use Rattle.tm_layout.specs.LaidOut.{IsLaidOut}
 
 module _ (world : World) (r : RefId) (row : RefRow) (at : slice_get world.refs r.0 ≡ Some row) where
@@ -55,7 +55,7 @@ module _ (world : World) (r : RefId) (row : RefRow) (at : slice_get world.refs r
 
   -- a judged one has a layout
   pub pointee-laid_out : IsJudged tables row.pointee → IsLaidOut tables row.pointee
-  pointee-laid_out judged = record { over = pointee-over; sound = judged-laid_out world row.pointee pointee-over judged }
+  pointee-laid_out judged = record { over = pointee-over; sound = judged-laid_out (tables_of world) row.pointee pointee-over judged }
 
 -- a fact of two rows is one of what the numbers name
 pub OnRows-gives : (r t : Option RefRow) (source target : RefRow) (P : RefRow → RefRow → Type 0) → r ≡ Some source → t ≡ Some target → OnRows r t P → P source target

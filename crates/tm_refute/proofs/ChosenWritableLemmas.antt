@@ -31,7 +31,7 @@ use Rattle.tm_layout.proofs.FactLemmas.{light-from}
 use Rattle.tm_refs.specs.Local.{AreJudged}
 use Rattle.tm_refs.proofs.PointeeLemmas.{OnRows-gives, OnRows-rows, pointee-over}
 use Rattle.tm_tree.proofs.FitLemmas.{none-second}
-use Rattle.tm_tree.proofs.JudgedLemmas.{judged-laid_out}
+use Rattle.tm_base.proofs.HeldLemmas.{judged-laid_out}
 use Rattle.tm_refute.specs.Chosen.{IsChosenEntry, IsChosenProof, IsRefutationOf}
 use Rattle.tm_refute.specs.TextForms.{IsWithin}
 use Rattle.tm_refute.specs.Written.{IsWritable, IsWritableEntry, IsWritableProof, IsWritableWord}
@@ -93,7 +93,7 @@ module _ (world : World) where
   unfolding ChainIn
   word-writable g over judged w value =
       let t = expanded_in (tables_of world) g in
-      let below = none-second (has_cause t) (some_part has_cause t) (judged-laid_out world g over judged) in
+      let below = none-second (has_cause t) (some_part has_cause t) (judged-laid_out (tables_of world) g over judged) in
       let light = light-from t below (judged g (zero, refl)) in
       let few = Valid-light Same true t w value in record {
         whole = whole-references world.profile Same true t (expanded_in-for (tables_of world) g) w value;

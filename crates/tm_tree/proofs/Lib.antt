@@ -5,7 +5,6 @@ pub mod DefinedLemmas
 pub mod EnumLemmas
 pub mod StepLemmas
 pub mod TypeLemmas
-pub mod JudgedLemmas
 pub mod PartLemmas
 pub mod LeafLemmas
 pub mod SingleLemmas

@@ -8,14 +8,14 @@ use Rattle.tm_base.specs.Worlds.{tables_of}
 use Rattle.tm_auto.specs.Automata.{AutoWord, Automaton}
 use Rattle.tm_refs.specs.Pointees.{IsAutomatonOf}
 use Rattle.tm_refs.proofs.CastLemmas.{IfOk-three, automaton-of, pruned-sized}
-use Rattle.tm_tree.proofs.JudgedLemmas.{judged-laid_out}
+use Rattle.tm_base.proofs.HeldLemmas.{judged-laid_out}
 use Rattle.tm_refs.proofs.automaton.automaton_of.Goals as goal
 
 pub layout-size-requires-clause-has : goal.layout-size-requires-clause-has
-layout-size-requires-clause-has c = record { over = c.requires.over; sound = judged-laid_out c.args.world.now c.args.g.now c.requires.over c.requires.judged }
+layout-size-requires-clause-has c = record { over = c.requires.over; sound = judged-laid_out (tables_of c.args.world.now) c.args.g.now c.requires.over c.requires.judged }
 
 pub tree_of-requires-clause-judged : goal.tree_of-requires-clause-judged
-tree_of-requires-clause-judged c = judged-laid_out c.args.world.now c.args.g.now c.requires.over c.requires.judged
+tree_of-requires-clause-judged c = judged-laid_out (tables_of c.args.world.now) c.args.g.now c.requires.over c.requires.judged
 
 pub build-requires-clause-sized : goal.build-requires-clause-sized
 build-requires-clause-sized c =

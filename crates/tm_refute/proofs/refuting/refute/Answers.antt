@@ -8,7 +8,7 @@ use Rattle.tm_refute.specs.Chosen.{HoldsBelow, IsRefutationOf}
 use Rattle.tm_refute.specs.Making.{IsPieceAnswer}
 use Rattle.tm_refute.specs.TextForms.{most_cells_together}
 use Rattle.tm_refute.specs.declared.refutation.Entry.{Entry}
-use Rattle.tm_tree.proofs.JudgedLemmas.{judged-laid_out}
+use Rattle.tm_base.proofs.HeldLemmas.{judged-laid_out}
 use Rattle.tm_refute.proofs.refuting.refute.Goals as goal
 
 pub returns-in_default-clause-none : goal.returns-in_default-clause-none
@@ -24,7 +24,7 @@ returns-in_default-clause-none c = λ refutable.
 pub ask-requires-clause-has : goal.ask-requires-clause-has
 ask-requires-clause-has c =
     let judged : IsJudged (tables_of c.args.world.now) c.args.ask.now.dst = search rules in
-    record { over = c.requires.target; sound = judged-laid_out c.args.world.now c.args.ask.now.dst c.requires.target judged }
+    record { over = c.requires.target; sound = judged-laid_out (tables_of c.args.world.now) c.args.ask.now.dst c.requires.target judged }
 
 pub returns-clause-some : goal.returns-clause-some
 returns-clause-some c =

@@ -1,19 +1,19 @@
 use Rattle.std.proofs.lemmas.Result.{IfOk-weaker}
 use Rattle.tm_base.specs.Worlds.{tables_of}
-use Rattle.tm_tree.proofs.JudgedLemmas.{judged-laid_out}
+use Rattle.tm_base.proofs.HeldLemmas.{judged-laid_out}
 use Rattle.tm_refute.proofs.ShownLemmas.{refutes-from}
 use Rattle.tm_refute.proofs.verifying.verify.Goals as goal
 
 pub breaks-requires-clause-source : goal.breaks-requires-clause-source
 breaks-requires-clause-source c = record {
   over = c.requires.source;
-  sound = judged-laid_out c.args.world.now c.args.ask.now.src c.requires.source (c.in_ok-is_judged.ensures.0 c.if-not-branch.false);
+  sound = judged-laid_out (tables_of c.args.world.now) c.args.ask.now.src c.requires.source (c.in_ok-is_judged.ensures.0 c.if-not-branch.false);
 }
 
 pub breaks-requires-clause-target : goal.breaks-requires-clause-target
 breaks-requires-clause-target c = record {
   over = c.requires.target;
-  sound = judged-laid_out c.args.world.now c.args.ask.now.dst c.requires.target (c.in_ok-is_judged-2.ensures.0 c.if-not-branch-2.false);
+  sound = judged-laid_out (tables_of c.args.world.now) c.args.ask.now.dst c.requires.target (c.in_ok-is_judged-2.ensures.0 c.if-not-branch-2.false);
 }
 
 pub returns : goal.returns

@@ -3,7 +3,7 @@ use Rattle.tm_base.specs.Worlds.{tables_of}
 use Rattle.tm_refs.specs.Local.{AreJudged}
 use Rattle.tm_refs.proofs.PointeeLemmas.{OnRows-gives, pointee-over}
 use Rattle.tm_refute.proofs.EntriesLemmas.{entry-asks}
-use Rattle.tm_tree.proofs.JudgedLemmas.{judged-laid_out}
+use Rattle.tm_base.proofs.HeldLemmas.{judged-laid_out}
 use Rattle.tm_refute.proofs.maker.Maker.entry.Goals as goal
 
 pub ask_proof-requires-clause-source : goal.ask_proof-requires-clause-source
@@ -15,7 +15,7 @@ ask_proof-requires-clause-source c =
     let at_t : slice_get world.refs c.args.pair.now.target.0 ≡ Some t = search rules in
     let both = OnRows-gives (slice_get world.refs c.args.pair.now.source.0) (slice_get world.refs c.args.pair.now.target.0) s t (AreJudged (tables_of world)) at_s at_t c.requires.judged in
     let over = pointee-over world c.args.pair.now.source s at_s in
-    record { over = over; sound = judged-laid_out world s.pointee over both.source }
+    record { over = over; sound = judged-laid_out (tables_of world) s.pointee over both.source }
 
 pub ask_proof-requires-clause-target : goal.ask_proof-requires-clause-target
 ask_proof-requires-clause-target c =
@@ -26,7 +26,7 @@ ask_proof-requires-clause-target c =
     let at_t : slice_get world.refs c.args.pair.now.target.0 ≡ Some t = search rules in
     let both = OnRows-gives (slice_get world.refs c.args.pair.now.source.0) (slice_get world.refs c.args.pair.now.target.0) s t (AreJudged (tables_of world)) at_s at_t c.requires.judged in
     let over = pointee-over world c.args.pair.now.target t at_t in
-    record { over = over; sound = judged-laid_out world t.pointee over both.target }
+    record { over = over; sound = judged-laid_out (tables_of world) t.pointee over both.target }
 
 pub returns-clause-asks : goal.returns-clause-asks
 returns-clause-asks c = λ ask same.

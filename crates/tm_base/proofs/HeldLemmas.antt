@@ -1,4 +1,4 @@
--- A judged type over a world has a layout, since it reaches all that it holds by value.
+-- What a judged type holds by value is judged: it reaches all of that. So it has a layout.
 use Rattle.std.proofs.Common.{◌≡◌, zero, suc, refl, sym, ◌∙◌, ap, subst, Bool, true, false, ◌||◌, not, IsTrue, List, [], ◌∷◌, Option, Some, None, slice_get, arith}
 use Rattle.std.specs.List.{Contains, flat_map}
 use Rattle.std.specs.Option.{is_some}
@@ -29,15 +29,15 @@ both_false true b h k = cc
 
 module _ (Q : Expanded → Type 0) where
   -- it holds of each type right inside this one
-  abbrev FieldsPass : Fields → Type 0
+  abbrev pub FieldsPass : Fields → Type 0
   FieldsPass no_fields = Unit {0}
   FieldsPass (field public t rest) = Q t × FieldsPass rest
 
-  abbrev VariantsPass : Variants → Type 0
+  abbrev pub VariantsPass : Variants → Type 0
   VariantsPass no_variants = Unit {0}
   VariantsPass (variant value members rest) = FieldsPass members × VariantsPass rest
 
-  abbrev PartsPass : Expanded → Type 0
+  abbrev pub PartsPass : Expanded → Type 0
   PartsPass (tuple members) = FieldsPass members
   PartsPass (array t n) = Q t
   PartsPass (wrap w t) = Q t
@@ -77,7 +77,7 @@ module _ (tables : Tables) where
   part g = expanded_in tables g
 
   -- a judged type, written out whole
-  abbrev IsOfJudged : Expanded → Type 0
+  abbrev pub IsOfJudged : Expanded → Type 0
   IsOfJudged t = (g : Ground) × IsJudged tables g × IsDeepEnough t × (part g ≡ t)
 
   abbrev AllJudged : List Ground → Type 0
@@ -147,7 +147,8 @@ module _ (tables : Tables) where
   parts-judged g judged h at = λ k (n, way).
       judged k (suc n, (h, Contains-append_left (parts_of tables g) (pointees_of tables g) h at, way))
 
-  inside-judged : (t : Expanded) → IsOfJudged t → PartsPass IsOfJudged t
+  -- what is right inside a judged type is judged
+  pub inside-judged : (t : Expanded) → IsOfJudged t → PartsPass IsOfJudged t
   inside-judged t (g, judged, deep, e) =
       let whole : IsTrue (is_whole (part g)) = ap not (subst IsDeepEnough (sym e) deep) in
       let same : level part tables.profile tables.defs tables.named (out-Ground g) ≡ t = sym (expanded-level tables.profile tables.defs tables.named g whole) ∙ e in
@@ -158,9 +159,9 @@ module _ (tables : Tables) where
   judged-faultless t (g, judged, deep, e) = subst (λ u. is_some (fault_of u) ≡ false) e (ap is_some (judged g (0, refl)))
 
   -- a judged type over the tables has a layout
-  pub judged-has_layout : (g : Ground) → IsTypeOver tables g → IsJudged tables g → has_no_layout (part g) ≡ false
+  pub judged-laid_out : (g : Ground) → IsTypeOver tables g → IsJudged tables g → has_no_layout (part g) ≡ false
   unfolding is_type_over
-  judged-has_layout g over judged =
+  judged-laid_out g over judged =
       let whole = (and_parts _ (is_whole (part g)) over).1 in
       let this : IsOfJudged (part g) = (g, judged, not-true (some_within is_too_deep (part g)) whole, refl) in
       no_layout-faulty (part g)
