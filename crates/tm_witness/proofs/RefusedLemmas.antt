@@ -15,19 +15,20 @@ use Rattle.tm_base.specs.declared.cell.RefId.{RefId}
 use Rattle.tm_base.specs.declared.definition.RefRow.{RefRow}
 use Rattle.tm_base.specs.declared.world.World.{World}
 use Rattle.tm_base.specs.Answers.{IsLeastFault}
-use Rattle.tm_base.specs.Cells.{Word, fit, own}
+use Rattle.tm_base.specs.Cells.{Word, fit, own, OrOwn}
 use Rattle.tm_base.specs.Expanded.{Expanded}
 use Rattle.tm_base.specs.Layout.{size_of}
 use Rattle.tm_base.specs.Reaches.{IsJudged}
 use Rattle.tm_base.specs.Rules.{source, target, Taken, IsOpen, IsCellRule}
 use Rattle.tm_base.specs.Tables.{Tables}
 use Rattle.tm_base.specs.Transmutes.{Same, holds}
-use Rattle.tm_base.specs.Viable.{Viable}
+use Rattle.tm_base.specs.Viable.{StandsOpen, Viable}
 use Rattle.tm_base.specs.Worlds.{tables_of}
 use Rattle.tm_base.proofs.ValidLemmas.{Valid-length}
 use Rattle.tm_laws.specs.WordLaws.{IsClosed, IsOfSources}
 use Rattle.tm_laws.proofs.CellRuleLemmas.{value-closed}
 use Rattle.tm_laws.proofs.RefusalLemmas.{fit-all, fit-length, refused-inside, refused-pointer-is-first, open-is-leaf, open-is-not-taken}
+use Rattle.tm_laws.proofs.RefusalMoves.{All-middle}
 use Rattle.tm_laws.proofs.RefusalRows.{pointer-known, open-known}
 use Rattle.tm_laws.proofs.RefusalWorlds.{leaves-known, compatible-of_sources}
 use Rattle.tm_laws.proofs.WholeLeaves.{Leaf, leaves}
@@ -38,7 +39,10 @@ use Rattle.tm_auto.specs.Joined.{IsJoined, HasNoOwn}
 use Rattle.tm_auto.proofs.JoinedLemmas.{joined_left}
 use Rattle.tm_refs.specs.declared.compat.Compat.{Compat}
 use Rattle.tm_refs.specs.Local.{AreJudged}
+use Rattle.tm_refs.specs.Looks.{has_leaf}
 use Rattle.tm_refs.specs.Solved.{compatible_in}
+use Rattle.tm_refs.proofs.MoveLemmas.{Valid-leaves}
+use Rattle.tm_refs.proofs.ServesLemmas.{served-exact}
 use Rattle.tm_witness.specs.GoingOn.{IsByteRule, IsLeastOpen, reference_answer, table_rule, table_fault}
 use Rattle.tm_witness.specs.Refused.{IsRefused, IsRuleAt}
 use Rattle.tm_witness.proofs.GoingOnLemmas.{byte-goes_on}
@@ -72,6 +76,19 @@ row_at [] k h = absurd (omega arith)
 row_at (x ∷ xs) zero h = (x, refl)
 row_at (x ∷ xs) (suc k) h = row_at xs k (omega arith)
 
+-- a reference that may stand somewhere in a value of a type is a leaf of it
+open-leaf : (A : ℕ → ℕ → Type 0) → IsOfSources A → (keep : Bool) (t : Expanded) (p : Word) (u : ℕ) → StandsOpen A keep t p u → has_leaf t u ≡ true
+open-leaf A sources keep t p u (rest, valid) =
+    let W : ℕ → ℕ → Type 0 = λ x v. (has_leaf t v ≡ true) × OrOwn A x v in
+    let open_cell : Cell = Ptr (record { 0 = own u }) 0 in
+    let w : Word = (p ++ open_cell ∷ []) ++ rest in
+    let cells = pointers-related W keep t w (Valid-leaves (OrOwn A) W keep t (λ x v leaf a. (leaf, a)) w valid) in
+    let held : IsHeldBy W t (own u) = (All-middle (IsCellOf (IsHeldBy W t)) p open_cell rest cells).0 in
+    by held.0.number held.2.0 held.2.1 where
+      by : (v : ℕ) → has_leaf t v ≡ true → OrOwn A (own u) v → has_leaf t u ≡ true
+      by v leaf (inl a) = let below = sources (own u) v a in absurd (omega arith)
+      by v leaf (inr e) = let same : v ≡ u = omega arith in subst (λ (n : ℕ). has_leaf t n ≡ true) same leaf
+
 module _ (world : World) (ask : Ask) (dst : Automaton) (compat : Compat) (size : ℕ) (w : Word) (o : ℕ) (h : IsRefused world ask dst compat size w o) where
   abbrev tables : Tables
   tables = tables_of world
@@ -98,7 +115,7 @@ module _ (world : World) (ask : Ask) (dst : Automaton) (compat : Compat) (size :
   before = take o fitted
 
   viable : (p : Word) → IsViable (holds test) dst p ↔ Viable A keep t p
-  viable p = viable-same tables keep ask.dst dst h.automaton test A h.solved.exact p
+  viable p = viable-same tables keep ask.dst dst h.automaton test A (served-exact tables ask.assume ask.dst compat h.serves) p
 
   long : length w ≡ size
   long = Valid-length Same true s w h.value ∙ sym h.sized
@@ -161,7 +178,7 @@ module _ (world : World) (ask : Ask) (dst : Automaton) (compat : Compat) (size :
 
       opens-same : (u : RefId) → BeginsReference dst (reached test dst before) u ↔ IsOpen tables ask before u.0
       opens-same u =
-          let begins = reads.opens test before u (λ x v below a. sources x v ((h.solved.exact x v).0 a)) joined closed in
+          let begins = reads.opens test before u (λ x v below a. sources x v (h.serves.sound x v a)) joined closed in
           let same = viable (before ++ Ptr (record { 0 = own u.0 }) 0 ∷ []) in
           (λ b. same.0 (begins.0 b), λ v. begins.1 (same.1 v))
 
@@ -195,7 +212,7 @@ module _ (world : World) (ask : Ask) (dst : Automaton) (compat : Compat) (size :
               let (b, at_u) = row_at world.refs u.0 (open-known world A sources keep t (leaves-known world ask.dst h.target_over) before u.0 opens) in
               let judged : AreJudged tables a b = record { source = source-judged a at_r; target = target-judged b at_u } in
               let apart = open-is-not-taken A sources keep t w o r u.0 word-closed h.refused at_first opens in
-              let (rule, depth) = table_answer tables ask r u a b at_r at_u judged apart compat h.solved in
+              let (rule, depth) = table_answer tables ask r u a b at_r at_u judged apart compat h.serves (open-leaf A sources keep t before u.0 opens) in
               by_cell (Ptr r k) at (table_rule compat r u) (Some (table_fault compat r u)) (inr (table_fault compat r u, refl, refl, first, opens, rule))
               (λ v v_opens. least (record { 0 = v }) ((opens-same (record { 0 = v })).1 v_opens), depth)
 

@@ -1,5 +1,5 @@
 -- The rule of the cell at which a word is refused, by what the target's automaton and the table of references say.
-use Rattle.std.proofs.Common.{◌≡◌, ℕ, zero, suc, ◌<◌, ◌≤◌, ◌⊎◌, inl, inr, refl, Option, Some, None, slice_get, arith}
+use Rattle.std.proofs.Common.{◌≡◌, ℕ, zero, suc, ◌<◌, ◌≤◌, ◌⊎◌, inl, inr, refl, IsTrue, Option, Some, None, slice_get, arith}
 use Rattle.std.specs.Option.{unwrap_or}
 use Rattle.std.proofs.lemmas.Bool.{cases_lt}
 use Rattle.tm_base.specs.declared.answer.LocalRule.{LocalRule}
@@ -15,7 +15,9 @@ use Rattle.tm_base.specs.Rules.{IsRefRule, BreaksLocally, BreaksBelow}
 use Rattle.tm_base.specs.Tables.{Tables}
 use Rattle.tm_refs.specs.declared.compat.Compat.{Compat}
 use Rattle.tm_refs.specs.Local.{AreJudged}
-use Rattle.tm_refs.specs.Solved.{FailsFirstAt, IsDepthAnswer, IsWhyAnswer, IsSolvedFor, BreaksFirst, depth_in, why_in}
+use Rattle.tm_refs.specs.Leaves.{leaf_of}
+use Rattle.tm_refs.specs.Serves.{ServesFor}
+use Rattle.tm_refs.specs.Solved.{FailsFirstAt, IsDepthAnswer, IsWhyAnswer, BreaksFirst, depth_in, why_in}
 use Rattle.tm_refs.proofs.PointeeLemmas.{OnRows-gives, OnRows-of}
 use Rattle.tm_witness.specs.GoingOn.{rule_by, table_rule, table_fault}
 
@@ -67,5 +69,5 @@ module _ (tables : Tables) (ask : Ask) (r t : RefId) (a b : RefRow) (at_r : slic
         )
 
     -- the table's answer for two references that aren't compatible
-    pub table_answer : (compat : Compat) → IsSolvedFor tables ask.assume compat → IsPairAnswer (table_rule compat r t) (table_fault compat r t).depth
-    table_answer compat solved = pair_answer (why_in compat r.0 t.0) (depth_in compat r.0 t.0) (solved.why r.0 t.0) (solved.depth r.0 t.0)
+    pub table_answer : (compat : Compat) → ServesFor tables ask.assume ask.dst compat → IsTrue (leaf_of tables ask.dst t.0) → IsPairAnswer (table_rule compat r t) (table_fault compat r t).depth
+    table_answer compat serves leaf = pair_answer (why_in compat r.0 t.0) (depth_in compat r.0 t.0) (serves.why r.0 t.0 leaf) (serves.depth r.0 t.0 leaf)

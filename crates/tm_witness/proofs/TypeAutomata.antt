@@ -1,6 +1,6 @@
 -- What the automaton of a type reads: the type's words, and what begins them, for every relation of references
--- that is a test.
-use Rattle.std.proofs.Common.{ℕ, inl, inr, ◌↔◌, Bool, ◌++◌}
+-- that a test tells of the type's leaves.
+use Rattle.std.proofs.Common.{◌≡◌, ℕ, inl, inr, ◌↔◌, Bool, true, ◌++◌}
 use Rattle.tm_base.specs.declared.ground.Ground.{Ground}
 use Rattle.tm_base.specs.Cells.{Word, OrOwn, or_own}
 use Rattle.tm_base.specs.Expanded.{Expanded}
@@ -9,10 +9,11 @@ use Rattle.tm_base.specs.Transmutes.{holds}
 use Rattle.tm_base.specs.Valid.{Valid}
 use Rattle.tm_base.specs.Viable.{Viable}
 use Rattle.tm_base.proofs.CellLemmas.{or_own-exact}
-use Rattle.tm_base.proofs.ValidLemmas.{Valid-grows}
 use Rattle.tm_auto.specs.Automata.{Automaton, AutoWord, IsViable}
 use Rattle.tm_auto.proofs.AutomatonLemmas.{leads_wider}
+use Rattle.tm_refs.specs.Looks.{has_leaf}
 use Rattle.tm_refs.specs.Pointees.{IsAutomatonOf}
+use Rattle.tm_refs.proofs.MoveLemmas.{Valid-leaves}
 
 -- more lists are words where references may hold more
 pub AutoWord-grows : (A B : ℕ → ℕ → Type 0) → ((x t : ℕ) → A x t → B x t) → (auto : Automaton) (w : Word) → AutoWord A auto w → AutoWord B auto w
@@ -21,26 +22,30 @@ AutoWord-grows A B grows auto w h = record {
   reaches = record { state = h.reaches.state; among = h.reaches.among; spells = leads_wider A B grows auto.edges w h.reaches.state 0 h.reaches.spells };
 }
 
+-- the test says of what may be taken as a leaf of the type the same as the relation
+abbrev pub Agree : Expanded → (ℕ → ℕ → Bool) → (ℕ → ℕ → Type 0) → Type 0
+Agree t test A = (x u : ℕ) → has_leaf t u ≡ true → holds test x u ↔ A x u
+
 module _ (tables : Tables) (keep : Bool) (g : Ground) (auto : Automaton) (is : IsAutomatonOf tables keep g auto) where
   abbrev t : Expanded
   t = expanded_in tables g
 
   -- its words are the type's
-  pub word-valid : (test : ℕ → ℕ → Bool) (A : ℕ → ℕ → Type 0) → ((x u : ℕ) → holds test x u ↔ A x u) → (w : Word) → AutoWord (holds test) auto w ↔ Valid A keep t w
+  pub word-valid : (test : ℕ → ℕ → Bool) (A : ℕ → ℕ → Type 0) → Agree t test A → (w : Word) → AutoWord (holds test) auto w ↔ Valid A keep t w
   word-valid test A same w = (
-    λ h. Valid-grows (holds test) A keep keep (λ x u a. (same x u).0 a) (λ k. k) t w ((is.words test w).0 h),
-    λ h. (is.words test w).1 (Valid-grows A (holds test) keep keep (λ x u a. (same x u).1 a) (λ k. k) t w h),
+    λ h. Valid-leaves (holds test) A keep t (λ x u leaf a. (same x u leaf).0 a) w ((is.words test w).0 h),
+    λ h. (is.words test w).1 (Valid-leaves A (holds test) keep t (λ x u leaf a. (same x u leaf).1 a) w h),
   )
 
-  module _ (test : ℕ → ℕ → Bool) (A : ℕ → ℕ → Type 0) (same : (x u : ℕ) → holds test x u ↔ A x u) where
-    own-same : (x u : ℕ) → holds (or_own test) x u ↔ OrOwn A x u
-    own-same x u = (λ h. to ((or_own-exact test x u).0 h), λ h. (or_own-exact test x u).1 (from h)) where
+  module _ (test : ℕ → ℕ → Bool) (A : ℕ → ℕ → Type 0) (same : Agree t test A) where
+    own-same : Agree t (or_own test) (OrOwn A)
+    own-same x u leaf = (λ h. to ((or_own-exact test x u).0 h), λ h. (or_own-exact test x u).1 (from h)) where
       to : OrOwn (holds test) x u → OrOwn A x u
-      to (inl a) = inl ((same x u).0 a)
+      to (inl a) = inl ((same x u leaf).0 a)
       to (inr e) = inr e
 
       from : OrOwn A x u → OrOwn (holds test) x u
-      from (inl a) = inl ((same x u).1 a)
+      from (inl a) = inl ((same x u leaf).1 a)
       from (inr e) = inr e
 
     -- where references may hold themselves

@@ -13,17 +13,17 @@ use Rattle.tm_base.specs.Worlds.{tables_of, IsTypeOver}
 use Rattle.tm_auto.specs.Automata.{Automaton}
 use Rattle.tm_refs.specs.declared.compat.Compat.{Compat}
 use Rattle.tm_refs.specs.Pointees.{IsAutomatonOf}
-use Rattle.tm_refs.specs.Solved.{IsSolvedFor}
+use Rattle.tm_refs.specs.Serves.{ServesFor}
 
 -- In a question over a world, whose types are judged, the target goes along with the first cells of a value of
--- the source, and not with the next; and these are the target's automaton, the table of the references and the
--- number of the source's bytes.
+-- the source, and not with the next; and these are the target's automaton, a table of references that serves for the
+-- target, and the number of the source's bytes.
 pub record IsRefused (world : World) (ask : Ask) (dst : Automaton) (compat : Compat) (size : ℕ) (w : Word) (offset : ℕ) : Type 0 where
   pub source_over : IsTypeOver (tables_of world) ask.src
   pub target_over : IsTypeOver (tables_of world) ask.dst
   pub judged : AreJudged (tables_of world) ask
   pub automaton : IsAutomatonOf (tables_of world) ask.assume.safety ask.dst dst
-  pub solved : IsSolvedFor (tables_of world) ask.assume compat
+  pub serves : ServesFor (tables_of world) ask.assume ask.dst compat
   pub sized : size ≡ size_of (source (tables_of world) ask)
   pub value : IsValue (tables_of world) ask w
   pub refused : IsRefusedAt (tables_of world) ask w offset
