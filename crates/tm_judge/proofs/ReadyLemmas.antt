@@ -20,12 +20,13 @@ use Rattle.tm_refs.specs.Solved.{compatible_in}
 use Rattle.tm_walk.specs.Sought.{IsSourceWord, IsViableTo}
 use Rattle.tm_walk.specs.Meanings as walk
 use Rattle.tm_refs.specs.Pointees.{IsAutomatonOf}
-use Rattle.tm_witness.proofs.TypeAutomata.{word-valid, viable-same}
+use Rattle.tm_refs.proofs.ServesLemmas.{served-exact}
+use Rattle.tm_witness.proofs.TypeAutomata.{Agree, word-valid, viable-same}
 use Rattle.tm_judge.specs.Ready.{IsReady, HasStart}
 
 -- words begin in the automaton of a type exactly where the type has a word
 pub start-word : (tables : Tables) (keep : Bool) (g : Ground) (auto : Automaton) → IsAutomatonOf tables keep g auto → ReadsWords auto
-    → (test : ℕ → ℕ → Bool) (A : ℕ → ℕ → Type 0) → ((x u : ℕ) → holds test x u ↔ A x u)
+    → (test : ℕ → ℕ → Bool) (A : ℕ → ℕ → Type 0) → Agree (expanded_in tables g) test A
     → HasStart auto ↔ HasWord A keep (expanded_in tables g)
 start-word tables keep g auto is reads test A same =
     let both = viable-same tables keep g auto is test A same [] in
@@ -51,9 +52,13 @@ module _ (world : World) (ask : Ask) (compat : Compat) (src dst : Automaton) (h 
   abbrev test : ℕ → ℕ → Bool
   test = compatible_in compat
 
+  -- the table tells what may be taken as the target's leaves
+  exact : Agree t test A
+  exact = served-exact tables ask.assume ask.dst compat h.serves
+
   -- the source's words are its values
   pub value-same : (w : Word) → IsSourceWord src w ↔ IsValue tables ask w
-  value-same w = word-valid tables true ask.src src h.source equal Same (λ x u. (λ e. (Decides-eqb x u).0 e, λ e. (Decides-eqb x u).1 e)) w
+  value-same w = word-valid tables true ask.src src h.source equal Same (λ x u leaf. (λ e. (Decides-eqb x u).0 e, λ e. (Decides-eqb x u).1 e)) w
 
   pub value-start : ReadsWords src → HasStart src ↔ ((w : Word) × IsValue tables ask w)
   value-start reads =
@@ -62,18 +67,18 @@ module _ (world : World) (ask : Ask) (compat : Compat) (src dst : Automaton) (h 
 
   -- the target's words are those that may be made
   pub target-start : ReadsWords dst → HasStart dst ↔ HasTargetWord tables ask keep
-  target-start reads = start-word tables keep ask.dst dst h.target reads test A h.solved.exact
+  target-start reads = start-word tables keep ask.dst dst h.target reads test A exact
 
   -- what fits is accepted
   pub accepted-same : (w : Word) → walk.Fits test src dst w ↔ IsAccepted tables ask w
   accepted-same w =
       subst (λ (n : ℕ). AutoWord (holds test) dst (fit w n) ↔ Valid A keep t (fit w (size_of t))) (sym h.target.size)
-      (word-valid tables keep ask.dst dst h.target test A h.solved.exact (fit w (size_of t)))
+      (word-valid tables keep ask.dst dst h.target test A exact (fit w (size_of t)))
 
   viable_to-same : (w : Word) (place : ℕ) → IsViableTo test dst w place ↔ Viable A keep t (take place (fit w (size_of t)))
   viable_to-same w place =
       subst (λ (n : ℕ). IsViable (holds test) dst (take place (fit w n)) ↔ Viable A keep t (take place (fit w (size_of t)))) (sym h.target.size)
-      (viable-same tables keep ask.dst dst h.target test A h.solved.exact (take place (fit w (size_of t))))
+      (viable-same tables keep ask.dst dst h.target test A exact (take place (fit w (size_of t))))
 
   -- and is refused where it is refused
   pub refused-same : (w : Word) (o : ℕ) → walk.IsRefusedAt test src dst w o ↔ IsRefusedAt tables ask w o

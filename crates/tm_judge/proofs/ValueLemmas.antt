@@ -81,7 +81,7 @@ module _ (world : World) (ask : Ask) (compat : Compat) (src dst : Automaton) (h 
       target_over = h.target_over;
       judged = h.judged;
       automaton = h.target;
-      solved = h.solved;
+      serves = h.serves;
       sized = sized ∙ h.source.size;
       value = (value-same world ask compat src dst h w).0 found.word;
       refused = (refused-same world ask compat src dst h w offset).0 (found.refused inhabited);

@@ -7,16 +7,16 @@ use Rattle.tm_base.specs.Answers.{AreJudged, IsAnswer}
 use Rattle.tm_base.specs.Worlds.{tables_of, IsTypeOver}
 use Rattle.tm_auto.specs.Automata.{Automaton}
 use Rattle.tm_refs.specs.declared.compat.Compat.{Compat}
-use Rattle.tm_refs.specs.Solved.{IsSolvedFor}
 use Rattle.tm_refs.specs.Pointees.{IsAutomatonOf}
+use Rattle.tm_refs.specs.Serves.{ServesFor}
 
 -- A question between judged types of a world, the automata of the values that the source has and of those that
--- may be made of the target, and the table of the references.
+-- may be made of the target, and a table of the references that serves for the target.
 pub record IsReady (world : World) (ask : Ask) (compat : Compat) (src dst : Automaton) : Type 0 where
   pub source_over : IsTypeOver (tables_of world) ask.src
   pub target_over : IsTypeOver (tables_of world) ask.dst
   pub judged : AreJudged (tables_of world) ask
-  pub solved : IsSolvedFor (tables_of world) ask.assume compat
+  pub serves : ServesFor (tables_of world) ask.assume ask.dst compat
   pub source : IsAutomatonOf (tables_of world) true ask.src src
   pub target : IsAutomatonOf (tables_of world) ask.assume.safety ask.dst dst
 

@@ -6,4 +6,5 @@ mod question;
 mod values;
 mod walks;
 
-pub use question::judge;
+pub use question::{judge, refusal};
+pub use values::judge_values;

@@ -5,7 +5,7 @@ ghost use Rattle.tm_base.specs.Parts.{HasNoAlternatives};
 ghost use Rattle.tm_base.specs.Rules.{source, target};
 ghost use Rattle.tm_base.specs.Worlds.{IsTypeOver, tables_of};
 ghost use Rattle.tm_layout.specs.Made.{IsMadeFor};
-ghost use Rattle.tm_refs.specs.Solved.{IsSolvedFor};
+ghost use Rattle.tm_refs.specs.Serves.{ServesFor};
 
 use crate::values::judge_values;
 use std::alloc::Global;
@@ -15,11 +15,8 @@ use tm_layout::{Layouts, first_refused};
 use tm_refs::Compat;
 use tm_region::Order;
 
-/// The answer to a question about types of the world. The table is the one for what the question assumes.
-///
-/// `steps` counts how often a walk asks two sets of states what may come next, which costs the most: where no
-/// type has alternatives, at most once for each byte of the target and once at its end. Where one has, a yes
-/// is told by inclusion, which isn't counted. `Memory`: there wasn't enough memory.
+/// The answer to a question about types of the world: its refusal, or else what `judge_values` answers, which also
+/// tells of the table and the steps. `Memory`: there wasn't enough memory.
 pub fn judge<L: Ledger>(
     alloc: Global,
     world: &World,
@@ -30,7 +27,7 @@ pub fn judge<L: Ledger>(
     steps: &mut Steps<L>,
 ) -> Result<Answer, Memory>
     requires made { IsMadeFor (tables_of world.now) layouts.now }
-    requires solved { IsSolvedFor (tables_of world.now) ask.now.assume compat.now }
+    requires serves { ServesFor (tables_of world.now) ask.now.assume ask.now.dst compat.now }
     requires source { IsTypeOver (tables_of world.now) ask.now.src }
     requires target { IsTypeOver (tables_of world.now) ask.now.dst }
     ensures answer { IfOk result (IsAnswer (tables_of world.now) ask.now) }
@@ -44,9 +41,10 @@ pub fn judge<L: Ledger>(
     }
 }
 
-/// The refusal of a question one of whose types isn't judged: of the source, or else of the target, the type at
-/// fault with the least text. `None` where both are judged.
-fn refusal(
+/// The answer to a question one of whose types isn't judged, for which no table is needed: of the source, or else of
+/// the target, it names the type at fault with the least text. `None` where both are judged. `Memory`: there wasn't
+/// enough memory.
+pub fn refusal(
     alloc: Global,
     world: &World,
     layouts: &Layouts,
@@ -56,6 +54,8 @@ fn refusal(
     requires source { IsTypeOver (tables_of world.now) ask.now.src }
     requires target { IsTypeOver (tables_of world.now) ask.now.dst }
     ensures some { IfOk result (λ found. IfSome found (IsAnswer (tables_of world.now) ask.now)) }
+    ensures refused { IfOk result (λ found.
+        IfSome found (λ answer. ¬ AreJudged (tables_of world.now) ask.now)) }
     ensures none { IfOk result (λ found. IfNone found (AreJudged (tables_of world.now) ask.now)) }
 {
     match first_refused(alloc, world, layouts, &ask.src)? {

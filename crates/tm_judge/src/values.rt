@@ -9,7 +9,7 @@ ghost use Rattle.tm_base.specs.Rules.{HasTargetWord, IsWholeRule, source, target
 ghost use Rattle.tm_base.specs.Worlds.{IsTypeOver, tables_of};
 ghost use Rattle.tm_judge.specs.Ready.{AnswersEach, HasStart};
 ghost use Rattle.tm_layout.specs.Made.{IsMadeFor};
-ghost use Rattle.tm_refs.specs.Solved.{IsSolvedFor};
+ghost use Rattle.tm_refs.specs.Serves.{ServesFor};
 
 use crate::automaton::has_start;
 use crate::walks::least_example;
@@ -22,8 +22,13 @@ use tm_refs::{Compat, automaton_of};
 use tm_walk::first_refusal;
 use tm_witness::rule_at;
 
-/// The answer to a question between judged types.
-pub(crate) fn judge_values<L: Ledger>(
+/// The answer to a question between judged types of the world. The table is one that serves for what the question
+/// assumes and its target: any of the world's references, or the empty one where the target holds no reference.
+///
+/// `steps` counts how often a walk asks two sets of states what may come next, which costs the most: where no
+/// type has alternatives, at most once for each byte of the target and once at its end. Where one has, a yes
+/// is told by inclusion, which isn't counted. `Memory`: there wasn't enough memory.
+pub fn judge_values<L: Ledger>(
     alloc: Global,
     world: &World,
     layouts: &Layouts,
@@ -32,7 +37,7 @@ pub(crate) fn judge_values<L: Ledger>(
     steps: &mut Steps<L>,
 ) -> Result<Answer, Memory>
     requires made { IsMadeFor (tables_of world.now) layouts.now }
-    requires solved { IsSolvedFor (tables_of world.now) ask.now.assume compat.now }
+    requires serves { ServesFor (tables_of world.now) ask.now.assume ask.now.dst compat.now }
     requires source { IsTypeOver (tables_of world.now) ask.now.src }
     requires target { IsTypeOver (tables_of world.now) ask.now.dst }
     requires judged { AreJudged (tables_of world.now) ask.now }

@@ -11,7 +11,7 @@ returns-then-not-branch-clause-answer g c =
       source_over = c.requires.source;
       target_over = c.requires.target;
       judged = c.requires.judged;
-      solved = c.requires.solved;
+      serves = c.requires.serves;
       source = c.in_ok-src.ensures.automaton;
       target = c.in_ok-dst.ensures.automaton;
     } in
@@ -24,7 +24,7 @@ returns-then-not-branch-2-clause-answer g c =
       source_over = c.requires.source;
       target_over = c.requires.target;
       judged = c.requires.judged;
-      solved = c.requires.solved;
+      serves = c.requires.serves;
       source = c.in_ok-src.ensures.automaton;
       target = c.in_ok-dst.ensures.automaton;
     } in

@@ -14,7 +14,7 @@ use Rattle.tm_judge.proofs.values.rule_without_values.Goals as goal
 kept-word : (tables : Tables) (ask : Ask) (auto : Automaton) → IsAutomatonOf tables true ask.dst auto → ReadsWords auto → HasStart auto ↔ HasTargetWord tables ask true
 kept-word tables ask auto is reads =
     start-word tables true ask.dst auto is reads (λ x u. test_of (Compatible-known tables ask.assume x u)) (Taken tables ask)
-    (λ x u. (λ h. test_of-to (Compatible-known tables ask.assume x u) h, λ h. test_of-from (Compatible-known tables ask.assume x u) h))
+    (λ x u leaf. (λ h. test_of-to (Compatible-known tables ask.assume x u) h, λ h. test_of-from (Compatible-known tables ask.assume x u) h))
 
 pub returns-then-branch : goal.returns-then-branch
 returns-then-branch c = λ none.
