@@ -7,6 +7,7 @@ use Rattle.tm_parse.specs.Counting.{none_yet}
 use Rattle.tm_parse.specs.Limits.{IsFirstPassed, IsWithin}
 use Rattle.tm_parse.specs.Parts.{Outcome, Done, Stuck, Passed}
 use Rattle.tm_base.specs.declared.limit.LimitKind.{LimitKind}
+use Rattle.tm_parse.specs.declared.counts.Counts.{Counts}
 use Rattle.tm_parse.specs.declared.parsed.Parsed.{Parsed}
 use Rattle.tm_parse.specs.declared.terminal.Terminal.{Terminal}
 
@@ -75,3 +76,19 @@ abbrev pub IsAnswer : List Terminal → Outcome Parsed → Type 0
 IsAnswer ts (Done v after rest) = IsFile v ts × (rest ≡ [])
 IsAnswer ts (Stuck rest) = (p : List Terminal) × (ts ≡ p ++ rest) × IsFaultAt p rest
 IsAnswer ts (Passed kind rest) = (p : List Terminal) × (t : Terminal) × (others : List Terminal) × (rest ≡ t ∷ others) × (ts ≡ p ++ rest) × PassesAt kind p t
+
+-- the list is answered with the file
+abbrev pub IsReadAs : Parsed → List Terminal → Type 0
+IsReadAs v ts = (after : Counts) × (answer_of ts ≡ Done v after [])
+
+-- the list is answered by stopping before the rest
+abbrev pub StopsBefore : List Terminal → List Terminal → Type 0
+StopsBefore p rest = answer_of (p ++ rest) ≡ Stuck rest
+
+-- it is answered by a limit of this kind, at the terminal
+abbrev pub StopsAtLimit : LimitKind → List Terminal → Terminal → List Terminal → Type 0
+StopsAtLimit kind p t rest = answer_of (p ++ t ∷ rest) ≡ Passed kind (t ∷ rest)
+
+-- whatever file the terminals spell, it is this one
+abbrev pub IsOnlyFile : Parsed → List Terminal → Type 0
+IsOnlyFile v ts = (w : Parsed) (e : List Event) → SpelledBy w e → terminals e ≡ ts → v ≡ w

@@ -1,5 +1,5 @@
 -- The places of tokens that a file has: where a name, a lifetime or a `repr` is written.
-use Rattle.std.specs.Prelude.{ℕ, IfSome, List, [], ◌∷◌, All}
+use Rattle.std.specs.Prelude.{ℕ, ◌<◌, IfSome, List, [], ◌∷◌, All}
 use Rattle.tm_parse.specs.Bounds.{EachWritten}
 use Rattle.tm_parse.specs.declared.parsed.Decl.{Decl}
 use Rattle.tm_parse.specs.declared.parsed.DeclAsk.{DeclAsk}
@@ -8,6 +8,7 @@ use Rattle.tm_parse.specs.declared.parsed.DeclField.{DeclField}
 use Rattle.tm_parse.specs.declared.parsed.DeclVariant.{DeclVariant}
 use Rattle.tm_parse.specs.declared.parsed.Expr.{Expr, Named', Ref'}
 use Rattle.tm_parse.specs.declared.parsed.Parsed.{Parsed}
+use Rattle.tm_parse.specs.declared.terminal.Terminal.{Terminal}
 
 -- those of a type, without the types in it
 abbrev pub own_places : Expr → List ℕ
@@ -48,3 +49,10 @@ module _ (IsPlace : ℕ → Type 0) where
     pub bounds : All PlacesOfBound file.bounds
     pub definitions : All PlacesOfDefinition file.decls
     pub questions : All PlacesOfQuestion file.questions
+
+-- each place of a file is below a number, and so are those of terminals
+abbrev pub HasPlacesBelow : ℕ → Parsed → Type 0
+HasPlacesBelow n file = EachPlace (λ place. place < n) file
+
+abbrev pub StandBelow : ℕ → List Terminal → Type 0
+StandBelow n ts = All (λ t. t.place < n) ts

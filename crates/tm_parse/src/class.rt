@@ -1,4 +1,4 @@
-ghost use Rattle.std.specs.Prelude.{◌≡◌, not};
+ghost use Rattle.std.specs.Prelude.{◌≡◌, ◌<◌, not};
 ghost use Rattle.tm_parse.specs.Classes.{alike, among, code};
 ghost use Rattle.tm_parse.specs.Limits.{is_number_or_sign};
 
@@ -135,6 +135,15 @@ impl Class {
             Class::Generic(_) => 22,
             Class::NonZero => 23,
             Class::Foreign => 24,
+            _ => self.word_code(),
+        }
+    }
+
+    /// The number of a class of one word, and of `Keyword`; of any other that of `Name`.
+    fn word_code(self) -> u8
+        ensures { 24 < code self → result ≡ code self }
+    {
+        match self {
             Class::Crate => 25,
             Class::Enum => 26,
             Class::Mut => 27,
@@ -158,7 +167,7 @@ impl Class {
             Class::Transparent => 45,
             Class::Union => 46,
             Class::Validity => 47,
-            Class::Name => 48,
+            _ => 48,
         }
     }
 

@@ -29,7 +29,7 @@ mod vocabulary;
 pub use class::Class;
 pub use classify::terminals;
 pub use counts::Counts;
-pub use laws::{files_keep_limits, grammar_is_exact};
+pub use laws::{files_declare_names, files_keep_limits, grammar_is_exact};
 pub use parsed::{
     Decl, DeclAsk, DeclBound, DeclField, DeclRepr, DeclVariant, Expr, Parsed, ReprItem,
 };

@@ -5,7 +5,7 @@ pub returns-clause-file : goal.returns-clause-file
 returns-clause-file c = file_said
 
 pub returns-clause-one_file : goal.returns-clause-one_file
-returns-clause-one_file c = one_said
+returns-clause-one_file c v ts f w e spelled same = one_said v w ts e f spelled same
 
 pub returns-clause-fault : goal.returns-clause-fault
 returns-clause-fault c = fault_said
