@@ -1,6 +1,6 @@
 -- What a text's terminals are parsed to: the file that they spell, or the place of the terminal at which
 -- they stop. Places count terminals, from 0.
-use Rattle.std.specs.Prelude.{◌≡◌, ◌⊎◌, ℕ, ◌-◌, List, ◌∷◌, ◌++◌, length, Result, Ok, Err, ⊤}
+use Rattle.std.specs.Prelude.{◌≡◌, ◌⊎◌, ℕ, ◌-◌, List, ◌∷◌, ◌++◌, length, MatchResult, Result, Ok, Err, ⊤}
 use Rattle.tm_parse.specs.Accepted.{IsFile, IsFaultAt, PassesAt, answer_of}
 use Rattle.tm_parse.specs.Parts.{Outcome, Done, Stuck, Passed}
 use Rattle.tm_base.specs.declared.limit.LimitKind.{LimitKind}
@@ -46,3 +46,10 @@ returned ts (Passed kind rest) = Err (Limit kind (length ts - length rest))
 -- the terminals' answer is returned, unless memory ran out
 abbrev pub IsAnswered : List Terminal → Result Parsed ParseErr → Type 0
 IsAnswered ts result = (result ≡ returned ts (answer_of ts)) ⊎ (result ≡ Err Memory)
+
+-- the file is answered, unless memory ran out; and so is the error
+abbrev pub AnswersFile : Parsed → Result Parsed ParseErr → Type 0
+AnswersFile v result = MatchResult result (λ found. found ≡ v) (λ err. err ≡ Memory)
+
+abbrev pub AnswersErr : ParseErr → Result Parsed ParseErr → Type 0
+AnswersErr e result = MatchResult result (λ _. ⊥) (λ err. (err ≡ e) ⊎ (err ≡ Memory))

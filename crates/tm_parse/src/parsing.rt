@@ -1,7 +1,7 @@
-ghost use Rattle.std.specs.Prelude.{◌≡◌, ◌<◌, ◌≤◌, ℕ, ◌-◌, ◌⊎◌, length, List, IfOk, IfErr, MatchResult};
+ghost use Rattle.std.specs.Prelude.{◌≡◌, ◌<◌, ◌≤◌, ℕ, ◌-◌, length, List, IfOk, IfErr};
 ghost use Rattle.tm_lex.specs.Lexes.{Tokenizes};
 ghost use Rattle.tm_parse.specs.Bounds.{IsWithinLimits};
-ghost use Rattle.tm_parse.specs.Parsing.{HasCause, IsAnswered, PassesLimitAt, SpellsFile, StopsAt};
+ghost use Rattle.tm_parse.specs.Parsing.{AnswersErr, AnswersFile, HasCause, IsAnswered, PassesLimitAt, SpellsFile, StopsAt};
 ghost use Rattle.tm_parse.specs.Places.{EachPlace};
 ghost use Rattle.tm_parse.specs.Spelling.{terminals_of};
 ghost use Rattle.tm_base.specs.declared.limit.LimitKind.{LimitKind as Kind};
@@ -89,9 +89,14 @@ pub fn parse(alloc: Global, text: &str, tokens: &[Token]) -> Result<Parsed, Pars
 
     // Tokens spell one file, stop at one place or pass a limit at one, which is answered where memory
     // isn't wanting.
-    ensures files { (v : File) → SpellsFile (terminals_of text.now tokens.now) v → MatchResult result (λ found. found ≡ v) (λ err. err ≡ ParseErr.Memory) }
-    ensures faults { (place : ℕ) → StopsAt (terminals_of text.now tokens.now) place → MatchResult result (λ _. ⊥) (λ err. (err ≡ ParseErr.At place) ⊎ (err ≡ ParseErr.Memory)) }
-    ensures limits { (kind : Kind) (place : ℕ) → PassesLimitAt (terminals_of text.now tokens.now) kind place → MatchResult result (λ _. ⊥) (λ err. (err ≡ ParseErr.Limit kind place) ⊎ (err ≡ ParseErr.Memory)) }
+    ensures files { (v : File)
+        → SpellsFile (terminals_of text.now tokens.now) v → AnswersFile v result }
+    ensures faults { (place : ℕ)
+        → StopsAt (terminals_of text.now tokens.now) place
+        → AnswersErr (ParseErr.At place) result }
+    ensures limits { (kind : Kind) (place : ℕ)
+        → PassesLimitAt (terminals_of text.now tokens.now) kind place
+        → AnswersErr (ParseErr.Limit kind place) result }
 {
     let terminals = match terminals(alloc, text, tokens) {
         Ok(terminals) => terminals,
