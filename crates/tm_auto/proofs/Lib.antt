@@ -20,3 +20,4 @@ pub mod BuiltLemmas
 pub mod ClassLemmas
 pub mod ClassedLemmas
 pub mod OnlyLemmas
+pub mod LeastLemmas

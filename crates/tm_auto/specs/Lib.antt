@@ -5,6 +5,7 @@ pub mod Sets
 pub mod Automata
 pub mod Firsts
 pub mod Classes
+pub mod Least
 pub mod Loose
 pub mod Shapes
 pub mod Builds

@@ -1,7 +1,8 @@
 ghost use Rattle.std.specs.Prelude.{◌≡◌};
-ghost use Rattle.tm_auto.specs.Sets.{passes};
+ghost use Rattle.tm_auto.specs.Least.{first_cell, least_of};
+ghost use Rattle.tm_auto.specs.Sets.{passes, symbol_of};
 
-use tm_base::{RefId, RefTest};
+use tm_base::{Cell, RefId, RefTest};
 
 /// What an edge takes: a byte of a range, both of its ends taken in; a byte that nothing is asked of
 /// and that may be uninitialised, which is the default; or the byte of a place of a reference.
@@ -29,6 +30,17 @@ impl Label {
             _ => false,
         }
     }
+
+    /// The least cell that an edge with the label takes, where each reference holds itself alone.
+    pub(crate) fn least(self) -> Cell
+        ensures { result ≡ least_of self }
+    {
+        match self {
+            Label::Bytes(low, _) => Cell::Byte(low),
+            Label::Free => Cell::Byte(0),
+            Label::Leaf(reference, place) => Cell::Ptr(reference, place),
+        }
+    }
 }
 
 /// An edge from one state to another.
@@ -46,4 +58,28 @@ pub enum Symbol {
     Bytes(u8, u8),
     Uninit,
     Ptr(RefId, u8),
+}
+
+impl Symbol {
+    /// The symbol of one cell.
+    pub fn of(cell: Cell) -> Symbol
+        ensures { result ≡ symbol_of cell }
+    {
+        match cell {
+            Cell::Byte(byte) => Symbol::Bytes(byte, byte),
+            Cell::Uninit => Symbol::Uninit,
+            Cell::Ptr(reference, place) => Symbol::Ptr(reference, place),
+        }
+    }
+
+    /// The least cell of a symbol.
+    pub fn least(self) -> Cell
+        ensures { result ≡ first_cell self }
+    {
+        match self {
+            Symbol::Bytes(first, _) => Cell::Byte(first),
+            Symbol::Uninit => Cell::Uninit,
+            Symbol::Ptr(reference, place) => Cell::Ptr(reference, place),
+        }
+    }
 }

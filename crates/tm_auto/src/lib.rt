@@ -23,6 +23,7 @@
 //! that the source's set can take in exactly one, and each passing the same edges of both sets as any of
 //! its cells. A byte begins a class where a label of either set begins or has ended. Most sets are left by
 //! one edge, and most pairs of such have one class: `only_step` answers it at once with both steps.
+//! `least_step` answers the least cell on from a set of a source's, with the step by it.
 //!
 //! Crates above prove from `Auto::law`, which promises what holds of every automaton.
 //!
@@ -41,11 +42,13 @@ mod class;
 mod edge;
 mod edges;
 mod extent;
+mod least;
 mod only;
 mod set;
 
 pub use auto::Auto;
 pub use class::classes;
 pub use edge::{Edge, Label, Symbol};
+pub use least::{LeastStep, least_step};
 pub use only::{OnlyStep, only_step};
 pub use set::StateSet;

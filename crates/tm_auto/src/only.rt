@@ -47,8 +47,8 @@ pub fn only_step<M: RefTest>(
     })
 }
 
-// The edge that leaves these states, where there is one state and one edge.
-fn only_edge(auto: &Auto, states: &StateSet) -> Option<Edge>
+/// The edge that leaves these states, where there is one state and one edge.
+pub(crate) fn only_edge(auto: &Auto, states: &StateSet) -> Option<Edge>
     requires { AreStates auto.now states.now }
     ensures { IfSome result (λ edge. IsOnlyEdge auto.now states.now edge) }
 {
@@ -78,8 +78,8 @@ fn only_class(source: Label, target: Label) -> Option<Symbol>
     }
 }
 
-// The set of the end of an edge, where it passes the symbol.
-fn ends<M: RefTest>(alloc: Global, refs: &M, edge: Edge, symbol: Symbol) -> StateSet
+/// The set of the end of an edge, where it passes the symbol.
+pub(crate) fn ends<M: RefTest>(alloc: Global, refs: &M, edge: Edge, symbol: Symbol) -> StateSet
     ensures { result ≡ ends_of (M.test refs.now) edge symbol }
 {
     if edge.label.takes(refs, symbol) {

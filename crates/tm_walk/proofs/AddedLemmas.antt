@@ -68,6 +68,10 @@ module _ {X : Type 0} (P : X → Obligation → Type 0) where
   pub added_end : (xs : List X) (i : ℕ) → length xs ≤ i → (os : List Obligation) → AreAdded (OfSome (drop i xs)) os os
   added_end xs i l os = subst (λ (z : List X). AreAdded (OfSome z) os os) (sym (drop_all i xs l)) (added_none (OfSome []) os (λ o (x, m, p). none_among m))
 
+  -- those of a list of one
+  pub added_one : (x : X) (before after : List Obligation) → AreAdded (P x) before after → AreAdded (OfSome (x ∷ [])) before after
+  added_one x before after a = added_turn (x ∷ []) 0 x (omega arith) before after after a (added_end (x ∷ []) 1 (omega arith) after)
+
 -- ---- one obligation
 
 module _ (os : List Obligation) (o : Obligation) where

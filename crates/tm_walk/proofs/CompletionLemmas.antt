@@ -9,13 +9,14 @@ use Rattle.tm_base.specs.Transmutes.{holds}
 use Rattle.tm_base.proofs.OrderLemmas.{cell_less-total, word_less-asym}
 use Rattle.tm_auto.specs.Automata.{Automaton, AutoWord, IsAutomaton, ReadsWords, reached, equal}
 use Rattle.tm_auto.specs.Classes.{TakesFrom}
+use Rattle.tm_auto.specs.Least.{IsLeastCell}
 use Rattle.tm_auto.specs.Paths.{Among}
 use Rattle.tm_auto.specs.Sets.{next, symbol_of}
 use Rattle.tm_auto.proofs.AmongLemmas.{some_among, none_among}
 use Rattle.tm_auto.proofs.SetLemmas.{bool_cases}
 use Rattle.tm_auto.proofs.StepLemmas.{passes_takes, next_to, to_next}
 use Rattle.tm_walk.specs.Sought.{IsSourceWord}
-use Rattle.tm_walk.specs.Words.{IsFront, IsLeastWord, IsLeastCell}
+use Rattle.tm_walk.specs.Words.{IsFront, IsLeastWord}
 use Rattle.tm_walk.proofs.ChainLemmas.{reached_more, alike_earlier}
 use Rattle.tm_walk.proofs.LessLemmas.{less_begins, less_behind, less_cell, word_less-irreflexive}
 use Rattle.tm_walk.proofs.PaddedLemmas.{padded, cell_at, fit-padded, padded_more, padded_front, padded_self, padded_within, length-padded, take-padded}

@@ -1,25 +1,25 @@
 -- The symbols by which a pair is expanded give all its steps.
-use Rattle.std.proofs.Common.{◌≡◌, ◌≢◌, ℕ, ◌+◌, ◌<◌, ◌≤◌, inl, inr, Bool, false, nat_lt, List, [], ◌∷◌, length, drop, get_or, refl, sym, ap, subst, arith}
+use Rattle.std.proofs.Common.{◌≡◌, ◌≢◌, ℕ, ◌+◌, ◌<◌, ◌≤◌, inl, inr, Bool, false, List, [], ◌∷◌, length, drop, get_or, refl, sym, ap, subst, arith}
 use Rattle.std.proofs.lemmas.Bool.{cases_lt}
 use Rattle.std.proofs.lemmas.List.{drop_more, drop_all}
 use Rattle.tm_base.specs.declared.cell.Cell.{Cell}
 use Rattle.tm_base.specs.declared.cell.Cell.TheVariants as cell
 use Rattle.tm_base.specs.Orders.{cell_less}
-use Rattle.tm_base.proofs.OrderLemmas.{cell_less-asym}
 use Rattle.tm_auto.specs.declared.edge.Edge.{Edge}
 use Rattle.tm_auto.specs.declared.edge.Symbol.{Symbol}
 use Rattle.tm_auto.specs.declared.edge.Symbol.TheVariants as symbol
 use Rattle.tm_auto.specs.Automata.{Automaton, IsStep, equal}
 use Rattle.tm_auto.specs.Classes.{HasCell, IsFormed, AreInOrder, TakesFrom, AreClasses}
+use Rattle.tm_auto.specs.Least.{first_cell}
 use Rattle.tm_auto.specs.Paths.{Among, here, there}
 use Rattle.tm_auto.specs.Sets.{has_state, passes, next, symbol_of}
 use Rattle.tm_auto.proofs.AmongLemmas.{none_among, some_among}
+use Rattle.tm_auto.proofs.LeastLemmas.{first_in, first_least}
 use Rattle.tm_auto.proofs.SetLemmas.{bool_cases, has_to, rises_same, increasing_rises}
 use Rattle.tm_auto.proofs.StepLemmas.{passes_takes, next_to, to_next, next-IsStrictlyIncreasing}
-use Rattle.tm_walk.specs.Layers.{Entry, Precedes, AreRising, IsOffered, AreOffered, first_cell, source_step, target_step, offers, AreSymbols, IsStepFrom, AreStepsFrom}
+use Rattle.tm_walk.specs.Layers.{Entry, Precedes, AreRising, IsOffered, AreOffered, source_step, target_step, offers, AreSymbols, IsStepFrom, AreStepsFrom}
 use Rattle.tm_walk.proofs.NumberLemmas.{among_map, among_unmap}
-use Rattle.tm_walk.specs.Words.{IsLeastCell}
-use Rattle.tm_walk.proofs.OfferLemmas.{among_one, among_cases}
+use Rattle.tm_walk.proofs.OfferLemmas.{among_one}
 
 -- two symbols that the same edges pass lead to the same set
 pub next_same : (A : ℕ → ℕ → Bool) (es : List Edge) (from : List ℕ) (x y : Symbol) → ((e : Edge) → Among e es → Among e.from from → passes A e.label x ≡ passes A e.label y) → next A es from x ≡ next A es from y
@@ -36,25 +36,6 @@ pub step_is : (A : ℕ → ℕ → Bool) (auto : Automaton) (from : List ℕ) (x
 step_is A auto from x set s = rises_same set (next A auto.edges from x) (increasing_rises set s.rising) (increasing_rises _ (next-IsStrictlyIncreasing A auto.edges from x))
     (λ t a. let (e, ea, ef, ep, eq) = (s.states t).0 a in subst (λ (z : ℕ). Among z (next A auto.edges from x)) eq (to_next A auto.edges from x e ea ef ep))
     (λ t a. (s.states t).1 (next_to A auto.edges from x t a))
-
-first_in : (x : Symbol) → IsFormed x → HasCell x (first_cell x)
-first_in (symbol.Bytes first last) f = (omega arith, f.0)
-first_in symbol.Uninit f = refl
-first_in (symbol.Ptr r k) f = refl
-
-pub cell_less-irreflexive : (c : Cell) → cell_less c c ≡ false
-cell_less-irreflexive c = elim (bool_cases (cell_less c c)) [ inl a ↦ (let b = cell_less-asym c c a in cc) | inr a ↦ a ]
-
--- no cell of a symbol is less than its first
-first_least : (x : Symbol) (c : Cell) → HasCell x c → cell_less c (first_cell x) ≡ false
-first_least (symbol.Bytes first last) (cell.Byte b) h = less b first (h.0)
-  where
-    less : (b a : ℕ) → a ≤ b → nat_lt b a ≡ false
-    less b a l = grind arith
-first_least (symbol.Bytes first last) cell.Uninit h = absurd h
-first_least (symbol.Bytes first last) (cell.Ptr r k) h = absurd h
-first_least symbol.Uninit c h = subst (λ (z : Cell). cell_less z cell.Uninit ≡ false) (sym h) refl
-first_least (symbol.Ptr r k) c h = subst (λ (z : Cell). cell_less z (cell.Ptr r k) ≡ false) (sym h) (cell_less-irreflexive (cell.Ptr r k))
 
 module _ (A : ℕ → ℕ → Bool) (src dst : Automaton) (from to : List ℕ) (k : ℕ) where
   abbrev offer : Symbol → Entry
@@ -154,16 +135,3 @@ module _ (A : ℕ → ℕ → Bool) (src dst : Automaton) (from to : List ℕ) (
   ]
 
 -- the first cell of the first class is the least that the source's states take
-pub some_class : (src dst : Automaton) (from to : List ℕ) (xs : List Symbol) → AreClasses src from dst to xs → (c : Cell) × TakesFrom src from c → 0 < length xs
-some_class src dst from to [] a (c, t) = let (x, m, h) = (a.covers c).0 t in absurd (none_among m)
-some_class src dst from to (x ∷ xs) a t = omega arith
-
-pub first_class : (src dst : Automaton) (from to : List ℕ) (xs : List Symbol) (d : Symbol) → AreClasses src from dst to xs → 0 < length xs → IsLeastCell src from (first_cell (get_or xs 0 d))
-first_class src dst from to [] d a l = absurd (omega arith)
-first_class src dst from to (x ∷ xs) d a l = record {
-  taken = (a.covers (first_cell x)).1 (x, here, first_in x (a.formed x here));
-  least = λ c t. let (y, m, h) = (a.covers c).0 t in elim (among_cases x y m) [
-    | inl e ↦ first_least x c (subst (λ (z : Symbol). HasCell z c) e h)
-    | inr n ↦ cell_less-asym (first_cell x) c (a.ordered.0 y (first_cell x) c n (first_in x (a.formed x here)) h)
-  ];
-}

@@ -5,7 +5,7 @@ use Rattle.tm_base.specs.Cells.{Word}
 use Rattle.tm_base.specs.Orders.{list_less, cell_less, word_less}
 use Rattle.tm_base.proofs.OrderLemmas.{word_less-total, word_less-asym, word_less-trans}
 use Rattle.tm_auto.proofs.SetLemmas.{bool_cases}
-use Rattle.tm_walk.proofs.ExpandLemmas.{cell_less-irreflexive}
+use Rattle.tm_auto.proofs.LeastLemmas.{cell_less-irreflexive}
 
 parts : (b c rest : Bool) → (b || (not c && rest)) ≡ true → (b ≡ true) ⊎ ((c ≡ false) × (rest ≡ true))
 parts true c rest h = inl refl

@@ -8,6 +8,7 @@ use Rattle.tm_auto.specs.declared.edge.Symbol.{Symbol}
 use Rattle.tm_auto.specs.declared.edge.Symbol.TheVariants as symbol
 use Rattle.tm_auto.specs.Automata.{Automaton, AreStates, equal}
 use Rattle.tm_auto.specs.Classes.{AreClasses}
+use Rattle.tm_auto.specs.Least.{first_cell}
 use Rattle.tm_auto.specs.Paths.{Among}
 use Rattle.tm_auto.specs.Sets.{next, symbol_of}
 
@@ -51,12 +52,6 @@ IsOffered e before after = (IsHeld e before × (after ≡ before)) ⊎ ((after �
 abbrev pub AreOffered : List Entry → List Entry → List Entry → Type 0
 AreOffered [] before after = after ≡ before
 AreOffered (e ∷ es) before after = (between : List Entry) × IsOffered e before between × AreOffered es between after
-
--- the least cell of a symbol
-abbrev pub first_cell : Symbol → Cell
-first_cell (symbol.Bytes first last) = cell.Byte first
-first_cell symbol.Uninit = cell.Uninit
-first_cell (symbol.Ptr r k) = cell.Ptr r k
 
 -- one for each pair that is expanded
 abbrev pub weight : (Bool → Bool) → Entry → ℕ

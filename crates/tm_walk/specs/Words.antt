@@ -1,10 +1,10 @@
 -- What is made of the cells that a walk leads to.
-use Rattle.std.specs.Prelude.{◌≡◌, ℕ, suc, Bool, false, if◌then◌else◌, List, [], ◌∷◌, length}
+use Rattle.std.specs.Prelude.{◌≡◌, ℕ, suc, Bool, false, if◌then◌else◌, List, [], ◌∷◌, ◌++◌, length}
 use Rattle.tm_base.specs.declared.cell.Cell.{Cell}
 use Rattle.tm_base.specs.Cells.{Word, fit}
-use Rattle.tm_base.specs.Orders.{cell_less, word_less}
+use Rattle.tm_base.specs.Orders.{word_less}
 use Rattle.tm_auto.specs.Automata.{Automaton}
-use Rattle.tm_auto.specs.Classes.{TakesFrom}
+use Rattle.tm_auto.specs.Least.{IsLeastCell}
 use Rattle.tm_auto.specs.Sets.{next, symbol_of}
 use Rattle.tm_walk.specs.Layers.{is_live}
 use Rattle.tm_walk.specs.Sought.{IsSourceWord}
@@ -19,10 +19,11 @@ pub record IsLeastWord (src : Automaton) (cells w : Word) : Type 0 where
   pub begins : fit w (length cells) ≡ cells
   pub least : (v : Word) → IsSourceWord src v → fit v (length cells) ≡ cells → word_less v w ≡ false
 
--- the least cell that an edge from the states takes, as the source's does
-pub record IsLeastCell (src : Automaton) (from : List ℕ) (c : Cell) : Type 0 where
-  pub taken : TakesFrom src from c
-  pub least : (d : Cell) → TakesFrom src from d → cell_less d c ≡ false
+-- one cell more: the least that an edge from the states takes
+pub record IsWithLeast (src : Automaton) (from : List ℕ) (before after : Word) : Type 0 where
+  pub cell : Cell
+  pub least : IsLeastCell src from cell
+  pub longer : after ≡ before ++ cell ∷ []
 
 -- how many of the cells lead from the states to some state
 abbrev pub live_length : (ℕ → ℕ → Bool) → Automaton → List ℕ → Word → ℕ

@@ -7,7 +7,6 @@ ghost use Rattle.tm_walk.specs.Layers.{Entry, HasStates, AreSymbols, AreOffered,
 use crate::layer::Layer;
 use crate::live::is_live;
 use crate::quantifier::Quantifier;
-use crate::symbol::least;
 use crate::way::Way;
 use std::alloc::Global;
 use std::sync::ledger::Ledger;
@@ -94,7 +93,7 @@ impl<'a, Q: Quantifier, M: RefTest> Walk<'a, Q, M> {
             let dst = self.dst.step(self.alloc, self.refs, to, *symbol)?;
             let way = Way {
                 parent: k,
-                cell: least(*symbol),
+                cell: symbol.least(),
             };
             next.offer(self.alloc, src, dst, way)?;
         }
@@ -128,7 +127,7 @@ impl<'a, Q: Quantifier, M: RefTest> Walk<'a, Q, M> {
         if let Some(step) = self.only_step(place, from, to) {
             let way = Way {
                 parent: k,
-                cell: least(step.symbol),
+                cell: step.symbol.least(),
             };
             return next.offer(self.alloc, step.src, step.dst, way);
         }

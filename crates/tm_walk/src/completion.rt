@@ -4,9 +4,8 @@ ghost use Rattle.tm_walk.specs.Words.{IsFront, IsLeastWord, live_length};
 
 use crate::live::is_live;
 use crate::reading::Reading;
-use crate::symbol::symbol_of;
 use std::alloc::Global;
-use tm_auto::Auto;
+use tm_auto::{Auto, Symbol};
 use tm_base::{Cell, Memory, RefTest, Word};
 
 /// The least source word of which as many bytes, fitted, hold these cells.
@@ -21,8 +20,7 @@ pub fn least_word(alloc: Global, src: &Auto, cells: &[Cell]) -> Result<Word, Mem
         reading.read(alloc, *cell)?;
     }
     'rest: while reading.word.len() < size {
-        let cell = reading.least_next(alloc)?;
-        reading.read(alloc, cell)?;
+        reading.read_least(alloc)?;
     }
     let Reading {
         src: _,
@@ -46,7 +44,7 @@ pub fn live_length<M: RefTest>(
     let mut set = dst.start(alloc)?;
     let mut count = 0;
     for cell in cells {
-        set = dst.step(alloc, refs, &set, symbol_of(*cell))?;
+        set = dst.step(alloc, refs, &set, Symbol::of(*cell))?;
         if !is_live(&set) {
             return Ok(count);
         }

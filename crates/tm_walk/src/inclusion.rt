@@ -9,7 +9,7 @@ use crate::antichain::Antichain;
 use crate::group::{group_length, states_of};
 use crate::obligation::Obligation;
 use std::alloc::Global;
-use tm_auto::{Auto, StateSet, Symbol, classes};
+use tm_auto::{Auto, StateSet, Symbol, classes, only_step};
 use tm_base::{Equal, Memory, RefTest};
 
 /// Whether each word of the source, fitted, is a word of the target. Alternatives that overlap are gone
@@ -112,6 +112,9 @@ impl<'a, M: RefTest> Inclusion<'a, M> {
             return self.stay(group, &behind, next);
         }
         let states = states_of(self.alloc, group)?;
+        if let Some(step) = only_step(self.alloc, self.refs, self.src, &states, self.dst, target) {
+            return self.follow(group, step.symbol, &step.dst, next);
+        }
         let symbols = classes(self.alloc, self.src, &states, self.dst, target)?;
         for symbol in symbols.as_slice() {
             let behind = self.dst.step(self.alloc, self.refs, target, *symbol)?;

@@ -41,7 +41,6 @@ mod quantifier;
 mod reading;
 mod refusal;
 mod sets;
-mod symbol;
 mod walking;
 mod way;
 

@@ -2,11 +2,10 @@ ghost use Rattle.std.specs.Prelude.{◌≡◌, [], ◌∷◌, ◌++◌, IfOk, On
 ghost use Rattle.tm_base.specs.declared.cell.Cell.{Cell};
 ghost use Rattle.tm_auto.specs.Automata.{AreStates, reached, equal};
 ghost use Rattle.tm_auto.specs.Classes.{TakesFrom};
-ghost use Rattle.tm_walk.specs.Words.{IsLeastCell};
+ghost use Rattle.tm_walk.specs.Words.{IsWithLeast};
 
-use crate::symbol::{least, symbol_of};
 use std::alloc::Global;
-use tm_auto::{Auto, StateSet, classes};
+use tm_auto::{Auto, StateSet, Symbol, least_step};
 use tm_base::{Cell, Equal, List, Memory, Word};
 
 /// A source word as far as it is read, with the states that it reaches.
@@ -38,18 +37,22 @@ impl<'a> Reading<'a> {
         ensures src { self.new.src.now ≡ self.old.src.now }
         ensures word { OnOk result (self.new.word ≡ self.old.word ++ cell ∷ []) }
     {
-        let set = self.src.step(alloc, &Equal, &self.set, symbol_of(cell))?;
+        let set = self.src.step(alloc, &Equal, &self.set, Symbol::of(cell))?;
         self.word.add(cell)?;
         self.set = set;
         Ok(())
     }
 
-    /// The least cell that may come next.
-    pub fn least_next(&self, alloc: Global) -> Result<Cell, Memory>
-        requires { ((c : Cell) × TakesFrom self.now.src.now self.now.set c) }
-        ensures { IfOk result (λ cell. IsLeastCell self.now.src.now self.now.set cell) }
+    /// Reads the least cell that may come next.
+    pub fn read_least(&mut self, alloc: Global) -> Result<(), Memory>
+        requires { ((c : Cell) × TakesFrom self.old.src.now self.old.set c) }
+        ensures src { self.new.src.now ≡ self.old.src.now }
+        ensures word { OnOk result (IsWithLeast
+            self.old.src.now self.old.set self.old.word self.new.word) }
     {
-        let symbols = classes(alloc, self.src, &self.set, self.src, &self.set)?;
-        Ok(least(symbols.as_slice()[0]))
+        let step = least_step(alloc, self.src, &self.set)?;
+        self.word.add(step.cell)?;
+        self.set = step.set;
+        Ok(())
     }
 }

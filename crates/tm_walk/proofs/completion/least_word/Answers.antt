@@ -3,7 +3,7 @@ use Rattle.std.proofs.lemmas.List.{take_all}
 use Rattle.tm_base.specs.declared.cell.Cell.{Cell}
 use Rattle.tm_auto.specs.Automata.{Automaton, reached, equal}
 use Rattle.tm_auto.specs.Classes.{TakesFrom}
-use Rattle.tm_walk.specs.Words.{IsLeastCell}
+use Rattle.tm_walk.specs.Words.{IsWithLeast}
 use Rattle.tm_walk.proofs.CompletionLemmas.{begin, go_on, next_some, finish}
 use Rattle.tm_walk.proofs.completion.least_word.Goals as goal
 
@@ -15,8 +15,8 @@ rest-init c = record {
       ∙ ap (λ (n : ℕ). take n c.args.cells.now) (c.min.ensures ∙ ap (min (length c.args.cells.now)) c.size-size.ensures));
 }
 
-pub least_next-requires : goal.least_next-requires
-least_next-requires c =
+pub read_least-requires : goal.read_least-requires
+read_least-requires c =
     let src = c.args.src.now in
     let l : length c.rest.reading.word < src.size = (let t = c.rest-test.true in let e = c.len.ensures in let z = c.size-size.ensures in omega arith) in
     let some = next_some src c.law.ensures.automaton c.law.ensures.reads c.args.cells.now c.rest.reading.word c.rest.invariant.begun l in
@@ -28,10 +28,12 @@ rest-preserved c =
     let src = c.args.src.now in
     let l : length c.rest.reading.word < src.size = (let t = c.rest-test.true in let e = c.len.ensures in let z = c.size-size.ensures in omega arith) in
     let at : c.rest.reading.set ≡ reached equal src c.rest.reading.word = c.rest.reading.reached ∙ ap (λ (a : Automaton). reached equal a c.rest.reading.word) c.rest.invariant.src in
-    let least = subst (λ (z : List ℕ). IsLeastCell src z c.in_ok-cell.cell) at (subst (λ (a : Automaton). IsLeastCell a c.rest.reading.set c.in_ok-cell.cell) c.rest.invariant.src c.in_ok-cell.ensures) in
+    let next : IsWithLeast src (reached equal src c.rest.reading.word) c.rest.reading.word c.read_least.new.self.word =
+    subst (λ (z : List ℕ). IsWithLeast src z c.rest.reading.word c.read_least.new.self.word) at
+    (subst (λ (a : Automaton). IsWithLeast a c.rest.reading.set c.rest.reading.word c.read_least.new.self.word) c.rest.invariant.src c.in_ok-read_least.ensures.word) in
     record {
-      src = c.in_ok-read-2.ensures.src ∙ c.rest.invariant.src;
-      begun = rw c.in_ok-read-2.ensures.word (go_on src c.law.ensures.automaton c.law.ensures.reads c.args.cells.now c.rest.reading.word c.in_ok-cell.cell c.rest.invariant.begun l least);
+      src = c.read_least.ensures.src ∙ c.rest.invariant.src;
+      begun = rw next.longer (go_on src c.law.ensures.automaton c.law.ensures.reads c.args.cells.now c.rest.reading.word next.cell c.rest.invariant.begun l next.least);
     }
 
 pub returns : goal.returns

@@ -11,8 +11,8 @@ invariant_of-self-2 c =
     let set = step_is equal src _ _ _ c.in_ok-set.ensures.step in
     record {
       reached = set
-          ∙ ap (λ (z : List ℕ). next equal src.edges z c.symbol_of.result) c.args.self.now.reached
-          ∙ ap (λ z. next equal src.edges (reached equal src c.args.self.now.word) z) c.symbol_of.ensures
+          ∙ ap (λ (z : List ℕ). next equal src.edges z c.of.result) c.args.self.now.reached
+          ∙ ap (λ z. next equal src.edges (reached equal src c.args.self.now.word) z) c.of.ensures
           ∙ sym (reached_more equal src c.args.self.now.word c.args.cell)
           ∙ ap (reached equal src) (sym c.in_ok-add.ensures.added);
       states = c.in_ok-set.ensures.states;
