@@ -17,7 +17,9 @@ use tm_base::{Cell, Equal, Memory};
 /// The least cell by which a word goes on, and what it leads to.
 #[derive(Drop)]
 pub struct LeastStep {
+    /// The least cell that an edge from the states takes.
     pub cell: Cell,
+    /// The states to which an edge leads that leaves them and takes the cell.
     pub set: StateSet,
 }
 
