@@ -33,7 +33,8 @@ impl<M: RefTest> Matcher<'_, M> {
         requires { IsLaidOut (tables_of self.now.world.now) g.now }
         ensures { let t = expanded_in (tables_of self.now.world.now) g.now in
             IsTrue result
-            ↔ Viable (holds (M.test self.now.refs.now)) self.now.keep_private t (word_of run.entry) }
+            ↔ Viable (holds (M.test self.now.refs.now)) self.now.keep_private t
+            (word_of run.entry) }
     {
         let matcher = Matcher {
             world: self.world,
@@ -48,7 +49,8 @@ impl<M: RefTest> Matcher<'_, M> {
     fn takes_fitted(&self, g: &Ground, word: &[Cell]) -> bool
         requires { IsLaidOut (tables_of self.now.world.now) g.now }
         ensures { let t = expanded_in (tables_of self.now.world.now) g.now in
-            IsTrue result ↔ Fits (holds (M.test self.now.refs.now)) self.now.keep_private t word.now }
+            IsTrue result ↔ Fits
+            (holds (M.test self.now.refs.now)) self.now.keep_private t word.now }
     {
         self.takes(g, Run::fit(word, self.size(g) as usize))
     }

@@ -83,12 +83,14 @@ impl Sink for FlakySink {
     fn write(&mut self, piece: &[u8]) -> Result<usize, Failed>
         ensures bound { WritesAtMost result piece.now }
         ensures some { 0 < length piece.now → IfOk result (λ count. 0 < count) }
-        ensures bytes { WriteAppends (Some self.old.written) (Some self.new.written) result piece.now }
+        ensures bytes { WriteAppends (Some self.old.written)
+            (Some self.new.written) result piece.now }
         ensures cause { HasCause self.old.faults self.new.faults result }
 
         // How much it takes, when it fails, and what that does to the counts.
         ensures taken { IfOk result (λ count.
-            count ≡ min (min (length piece.now) self.old.most) (self.old.room - length self.old.written)) }
+            count ≡ min (min (length piece.now) self.old.most)
+            (self.old.room - length self.old.written)) }
         ensures failing { IsErr result ↔ (IsNextFailing self.old.calls
             ⊎ ((0 < length piece.now) × (length self.old.written ≡ self.old.room))) }
         ensures counted { OnErr result (self.new.faults ≡ raised self.old.faults) }

@@ -28,7 +28,12 @@ impl Model for FlakySource {
     ghost Value = { Left };
 
     ghost view = { λ source.
-        record { left = source.inner; most = source.most; calls = source.calls; faults = source.faults } };
+        record {
+          left = source.inner;
+          most = source.most;
+          calls = source.calls;
+          faults = source.faults;
+        } };
 
     ghost invariant = { λ source. 0 < source.most };
 }

@@ -24,9 +24,11 @@ impl Model for MemSink {
 
     ghost Value = { Contents };
 
-    ghost view = { λ sink. record { written = sink.bytes.items; room = sink.room; faults = sink.faults } };
+    ghost view = { λ sink.
+        record { written = sink.bytes.items; room = sink.room; faults = sink.faults } };
 
-    ghost invariant = { λ sink. (vec_len sink.bytes ≤ sink.room) × (sink.room ≤ vec_capacity sink.bytes) };
+    ghost invariant = { λ sink. (vec_len sink.bytes ≤ sink.room)
+        × (sink.room ≤ vec_capacity sink.bytes) };
 }
 
 impl MemSink {
@@ -77,12 +79,15 @@ impl Sink for MemSink {
     fn write(&mut self, piece: &[u8]) -> Result<usize, Failed>
         ensures bound { WritesAtMost result piece.now }
         ensures some { 0 < length piece.now → IfOk result (λ count. 0 < count) }
-        ensures bytes { WriteAppends (Some self.old.written) (Some self.new.written) result piece.now }
+        ensures bytes { WriteAppends (Some self.old.written)
+            (Some self.new.written) result piece.now }
         ensures cause { HasCause self.old.faults self.new.faults result }
 
         // How much it takes, when it fails, and what that does to the count.
-        ensures taken { IfOk result (λ count. count ≡ min (length piece.now) (self.old.room - length self.old.written)) }
-        ensures full { IsErr result ↔ ((0 < length piece.now) × (length self.old.written ≡ self.old.room)) }
+        ensures taken { IfOk result
+            (λ count. count ≡ min (length piece.now) (self.old.room - length self.old.written)) }
+        ensures full { IsErr result
+            ↔ ((0 < length piece.now) × (length self.old.written ≡ self.old.room)) }
         ensures counted { OnErr result (self.new.faults ≡ raised self.old.faults) }
         ensures room { self.new.room ≡ self.old.room }
     {

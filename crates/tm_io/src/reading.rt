@@ -32,7 +32,8 @@ pub fn read_all<S: Source>(alloc: Global, src: &mut S, limit: u32) -> Result<Vec
     requires { limit < 2 ^ 31 }
     ensures all { IfOk result (λ bytes. TakesAll (S.left src.old) (S.left src.new) bytes.items) }
     ensures short { IfOk result (λ bytes. vec_len bytes ≤ limit) }
-    ensures long { result ≡ Err ReadErr.TooLong → TakesPast (S.left src.old) (S.left src.new) limit }
+    ensures long { result ≡ Err ReadErr.TooLong
+        → TakesPast (S.left src.old) (S.left src.new) limit }
     ensures taken { TakesAtMost (S.left src.old) (S.left src.new) (limit + 1) }
 
     // The count of faults.

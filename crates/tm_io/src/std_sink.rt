@@ -51,8 +51,10 @@ impl<W: Write> Sink for StdSink<W> {
 
         // Where the writer tells what it holds: it has taken these bytes, or a front of the piece.
         ensures passed { IfOk result (λ count.
-            Appends (W.contents self.old.inner) (W.contents self.new.inner) (take count piece.now)) }
-        ensures front { AddsPrefix (W.contents self.old.inner) (W.contents self.new.inner) piece.now }
+            Appends (W.contents self.old.inner) (W.contents self.new.inner)
+            (take count piece.now)) }
+        ensures front { AddsPrefix (W.contents self.old.inner)
+            (W.contents self.new.inner) piece.now }
     {
         match write_through(&mut self.inner, piece) {
             Ok(count) => Ok(count),

@@ -47,7 +47,8 @@ impl<R: Read> Source for StdSource<R> {
         ensures counted { OnErr result (self.new.faults ≡ raised self.old.faults) }
 
         // Where the reader tells its bytes, these are what it gives, and the end is its end.
-        ensures passed { ReadConsumes (R.remaining self.old.inner) (R.remaining self.new.inner) result buf.new }
+        ensures passed { ReadConsumes (R.remaining self.old.inner)
+            (R.remaining self.new.inner) result buf.new }
     {
         match self.inner.read(buf) {
             Ok(count) => Ok(count),

@@ -30,7 +30,8 @@ fn behind(front: Layout, fields: &[Facts]) -> Layout
 
 /// The layout of a `repr(C)` union of structs, one for the fields of each variant behind another field.
 fn variants_behind(front: Layout, variants: &[List<Facts>]) -> Layout
-    ensures { IsCapped (union_layout None None (structs (shape front ∷ []) (variant_layouts_in variants.now))) result }
+    ensures { IsCapped (union_layout None None
+        (structs (shape front ∷ []) (variant_layouts_in variants.now))) result }
 {
     let mut size = 0;
     let mut align = 1;

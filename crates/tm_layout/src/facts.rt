@@ -32,7 +32,16 @@ pub struct Facts {
 
 /// What is known of a type that is never at fault and has no parts.
 fn whole(nullable: bool, size: u32, align: u32, weight: u32) -> Facts
-    ensures { result ≡ record { fault = None; refusal = None; nullable = nullable; aligned = false; interior = false; size = size; align = align; weight = weight } }
+    ensures { result ≡ record {
+      fault = None;
+      refusal = None;
+      nullable = nullable;
+      aligned = false;
+      interior = false;
+      size = size;
+      align = align;
+      weight = weight;
+    } }
 {
     Facts {
         fault: None,
@@ -105,7 +114,8 @@ pub fn nonzero(profile: Profile, p: Primitive) -> Facts
 
 /// What is known of a tuple, by whether an element is or holds a type with `align`, or a cell.
 pub fn tuple(aligned: bool, interior: bool) -> Facts
-    ensures { (members : Fields) → aligned ≡ some_field has_align members → interior ≡ some_field is_cell members → IsFactsOf (tuple members) result }
+    ensures { (members : Fields) → aligned ≡ some_field has_align members → interior
+        ≡ some_field is_cell members → IsFactsOf (tuple members) result }
 {
     Facts {
         fault: Some(Why::Tuple),

@@ -20,7 +20,9 @@ fn facts_of_fields(
     rows: &[Option<RowFacts>],
     types: &[Ground],
 ) -> Result<List<Facts>, Memory>
-    ensures { IfOk result (λ facts. (tables : Tables) → profile ≡ tables.profile → AreRowsOf tables rows.now → EachIs (IsKnown tables rows.now) types.now → AreFactsFor tables types.now facts) }
+    ensures { IfOk result
+        (λ facts. (tables : Tables) → profile ≡ tables.profile → AreRowsOf tables rows.now
+        → EachIs (IsKnown tables rows.now) types.now → AreFactsFor tables types.now facts) }
 {
     let mut facts = List::new(alloc);
     for g in types {
@@ -36,7 +38,10 @@ fn facts_of_variants(
     rows: &[Option<RowFacts>],
     variants: &[List<Ground>],
 ) -> Result<List<List<Facts>>, Memory>
-    ensures { IfOk result (λ facts. (tables : Tables) → profile ≡ tables.profile → AreRowsOf tables rows.now → AreKnown tables rows.now variants.now → EachMatches (AreFactsFor tables) variants.now facts) }
+    ensures { IfOk result
+        (λ facts. (tables : Tables) → profile ≡ tables.profile → AreRowsOf tables rows.now
+        → AreKnown tables rows.now variants.now
+        → EachMatches (AreFactsFor tables) variants.now facts) }
 {
     let mut facts = List::new(alloc);
     for types in variants {

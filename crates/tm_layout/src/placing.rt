@@ -22,7 +22,9 @@ fn in_order(
     at: u32,
     fields: &[Facts],
 ) -> Result<List<u32>, Memory>
-    ensures { IfOk result (λ found. found ≡ map (λ place. capped (begin + place)) (places packed at (layouts_in fields.now))) }
+    ensures { IfOk result
+        (λ found. found ≡ map (λ place. capped (begin + place))
+        (places packed at (layouts_in fields.now))) }
 {
     let mut found = List::new(alloc);
     let mut end = at;
@@ -55,7 +57,9 @@ fn variant_places(
     begin: u32,
     fields: &[Facts],
 ) -> Result<List<u32>, Memory>
-    ensures { IfOk result (λ found. found ≡ map capped (variant_places_in profile kind repr begin (layouts_in fields.now))) }
+    ensures { IfOk result
+        (λ found. found ≡ map capped
+        (variant_places_in profile kind repr begin (layouts_in fields.now))) }
 {
     match kind {
         Kind::Struct if repr.transparent => at_front(alloc, fields),
@@ -75,7 +79,9 @@ fn all_places(
     begin: u32,
     parts: &[List<Facts>],
 ) -> Result<List<List<u32>>, Memory>
-    ensures { IfOk result (λ found. found ≡ map (λ ls. map capped (variant_places_in profile kind repr begin ls)) (variant_layouts_in parts.now)) }
+    ensures { IfOk result
+        (λ found. found ≡ map (λ ls. map capped (variant_places_in profile kind repr begin ls))
+        (variant_layouts_in parts.now)) }
 {
     let mut found = List::new(alloc);
     for fields in parts {
@@ -94,7 +100,9 @@ pub fn places(
     parts: &[List<Facts>],
 ) -> Result<List<List<u32>>, Memory>
     requires { IsTrue (is_def_in_form profile def.now) }
-    ensures { IfOk result (λ found. OfDefined profile def.now parts.now (λ t. refusal_of t ≡ None → found ≡ places_of t)) }
+    ensures { IfOk result
+        (λ found. OfDefined profile def.now parts.now
+        (λ t. refusal_of t ≡ None → found ≡ places_of t)) }
 {
     let begin = fields_begin(profile, def.kind, def.repr, parts);
     all_places(alloc, profile, def.kind, def.repr, begin, parts)

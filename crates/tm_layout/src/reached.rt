@@ -33,7 +33,8 @@ fn add_types<'a>(types: &mut Vec<&'a Ground>, more: &'a [Ground]) -> Result<(), 
 
 /// Adds the types of a named type's fields.
 fn add_fields<'a>(types: &mut Vec<&'a Ground>, row: &'a NamedRow) -> Result<(), Memory>
-    ensures { OnOk result (types_at types.new.items ≡ types_at types.old.items ++ row_parts (Some row.now)) }
+    ensures { OnOk result
+        (types_at types.new.items ≡ types_at types.old.items ++ row_parts (Some row.now)) }
 {
     for variant in row.types.as_slice() {
         add_types(types, variant.as_slice())?;
@@ -48,7 +49,10 @@ fn add_named<'a>(
     marks: &mut Vec<bool>,
     types: &mut Vec<&'a Ground>,
 ) -> Result<(), Memory>
-    ensures types { OnOk result (types_at types.new.items ≡ types_at types.old.items ++ unlisted (is_marked marks.old.items id.0) (row_parts (slice_get world.now.named id.0))) }
+    ensures types { OnOk result
+        (types_at types.new.items
+        ≡ types_at types.old.items ++ unlisted (is_marked marks.old.items id.0)
+        (row_parts (slice_get world.now.named id.0))) }
     ensures marks { marks.new.items ≡ slice_set marks.old.items id.0 true }
 {
     if mark(marks, id.0 as usize) {
@@ -67,7 +71,10 @@ fn add_pointee<'a>(
     marks: &mut Vec<bool>,
     types: &mut Vec<&'a Ground>,
 ) -> Result<(), Memory>
-    ensures types { OnOk result (types_at types.new.items ≡ types_at types.old.items ++ unlisted (is_marked marks.old.items id.0) (row_pointee (slice_get world.now.refs id.0))) }
+    ensures types { OnOk result
+        (types_at types.new.items
+        ≡ types_at types.old.items ++ unlisted (is_marked marks.old.items id.0)
+        (row_pointee (slice_get world.now.refs id.0))) }
     ensures marks { marks.new.items ≡ slice_set marks.old.items id.0 true }
 {
     if mark(marks, id.0 as usize) {
@@ -101,7 +108,10 @@ fn add_entered<'a>(
     refs: &mut Vec<bool>,
     types: &mut Vec<&'a Ground>,
 ) -> Result<(), Memory>
-    ensures types { OnOk result (types_at types.new.items ≡ types_at types.old.items ++ newly_entered (tables_of world.now) named.old.items refs.old.items (out-Ground g.now)) }
+    ensures types { OnOk result
+        (types_at types.new.items
+        ≡ types_at types.old.items ++ newly_entered
+        (tables_of world.now) named.old.items refs.old.items (out-Ground g.now)) }
     ensures named { named.new.items ≡ named_after named.old.items (out-Ground g.now) }
     ensures refs { refs.new.items ≡ refs_after refs.old.items (out-Ground g.now) }
 {

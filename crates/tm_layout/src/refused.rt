@@ -61,7 +61,9 @@ fn least_with(
 ) -> Result<Option<Refused>, Memory>
     requires layouts_are { IsMadeFor (tables_of world.now) layouts.now }
     requires type_is { IsTypeOver (tables_of world.now) g.now }
-    ensures { IfOk result (λ next. (types : List Ground) → IsLeastAnswer (tables_of world.now) types least → IsLeastAnswer (tables_of world.now) (types ++ g.now ∷ []) next) }
+    ensures { IfOk result
+        (λ next. (types : List Ground) → IsLeastAnswer (tables_of world.now) types least
+        → IsLeastAnswer (tables_of world.now) (types ++ g.now ∷ []) next) }
 {
     let why = match layouts.fault(g) {
         None => return Ok(least),

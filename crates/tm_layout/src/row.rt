@@ -26,7 +26,8 @@ pub fn row_at(rows: &[Option<RowFacts>], id: NamedId) -> Option<&RowFacts>
 impl RowFacts {
     /// Where a field of a variant stands; 0 where there is no such field.
     pub fn place(&self, variant: u32, field: u32) -> u32
-        ensures { (at : ℕ) → option_and_then (λ fields. slice_get fields field) (slice_get self.now.places variant) ≡ Some at → result ≡ at }
+        ensures { (at : ℕ) → option_and_then (λ fields. slice_get fields field)
+            (slice_get self.now.places variant) ≡ Some at → result ≡ at }
     {
         match self.places.get(variant as usize) {
             Some(fields) => place_in(fields.as_slice(), field),

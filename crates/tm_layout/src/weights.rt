@@ -39,7 +39,8 @@ pub fn weight_in(
     size: u32,
     variants: &[List<Facts>],
 ) -> u32
-    ensures { result ≡ capped (named_weight profile kind repr size (variant_weights_in variants.now)) }
+    ensures { result ≡ capped
+        (named_weight profile kind repr size (variant_weights_in variants.now)) }
 {
     let least = size.max(1);
     match kind {

@@ -12,7 +12,8 @@ use tm_base::{Ground, NamedId, Profile, Wrapper};
 
 /// The facts of a named type, from the table of those that are made.
 fn facts_of_named(rows: &[Option<RowFacts>], id: NamedId) -> Facts
-    ensures { (tables : Tables) → AreRowsOf tables rows.now → IsKnown tables rows.now (Named id) → IsFactsOf (expanded_in tables (Named id)) result }
+    ensures { (tables : Tables) → AreRowsOf tables rows.now → IsKnown tables rows.now (Named id)
+        → IsFactsOf (expanded_in tables (Named id)) result }
 {
     match row_at(rows, id) {
         Some(row) => row.facts,
@@ -44,7 +45,9 @@ pub fn facts_of(profile: Profile, rows: &[Option<RowFacts>], g: &Ground) -> Fact
 /// The facts of a tuple.
 #[cycle(written)]
 fn facts_of_tuple(profile: Profile, rows: &[Option<RowFacts>], members: &[Ground]) -> Facts
-    ensures { (tables : Tables) → profile ≡ tables.profile → AreRowsOf tables rows.now → EachIs (IsKnown tables rows.now) members.now → IsFactsOf (tuple (elements (expanded_in tables) members.now)) result }
+    ensures { (tables : Tables) → profile ≡ tables.profile → AreRowsOf tables rows.now
+        → EachIs (IsKnown tables rows.now) members.now
+        → IsFactsOf (tuple (elements (expanded_in tables) members.now)) result }
 {
     let mut aligned = false;
     let mut interior = false;

@@ -5,7 +5,8 @@ ghost use Rattle.tm_lex.specs.Lexes.{unmarked};
 
 /// The first character of a text, and what stands behind it.
 pub fn front(text: &str) -> Option<(char, &str)>
-    ensures { MatchOption result (chars text.now ≡ []) (λ found. chars text.now ≡ found.0 ∷ chars found.1.now) }
+    ensures { MatchOption result (chars text.now ≡ [])
+        (λ found. chars text.now ≡ found.0 ∷ chars found.1.now) }
 {
     let mut characters = text.chars();
     match characters.next() {

@@ -67,8 +67,10 @@ pub fn lex(alloc: Global, text: &str) -> Result<Vec<Token>, LexErr>
     ensures fault { IfErr result (HasCause text.now) }
 
     // A text has one list of tokens or one fault, which is answered where memory isn't wanting.
-    ensures tokenizes { (tokens : List Token) → Tokenizes text.now tokens → MatchResult result (λ found. found.items ≡ tokens) (λ err. err ≡ LexErr.Memory) }
-    ensures faults { (place : ℕ) (why : LexWhy) → IsFault text.now place why → MatchResult result (λ _. ⊥) (λ err. (err ≡ LexErr.At place why) ⊎ (err ≡ LexErr.Memory)) }
+    ensures tokenizes { (tokens : List Token) → Tokenizes text.now tokens
+        → MatchResult result (λ found. found.items ≡ tokens) (λ err. err ≡ LexErr.Memory) }
+    ensures faults { (place : ℕ) (why : LexWhy) → IsFault text.now place why
+        → MatchResult result (λ _. ⊥) (λ err. (err ≡ LexErr.At place why) ⊎ (err ≡ LexErr.Memory)) }
 
     // Each token is a piece of the text, and none begins before the end of the one before.
     ensures pieces { IfOk result (λ tokens. All (IsPieceOf text.now) tokens.items) }

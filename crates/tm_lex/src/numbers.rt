@@ -13,7 +13,8 @@ use unicode_ident::is_xid_continue;
 fn with_digit(base: u32, value: u128, c: char) -> Option<u128>
     requires least { 2 ≤ base }
     requires most { base ≤ 16 }
-    ensures { SomeIff result ((digit_value c < base) × (value * base + digit_value c < 2 ^ 128)) (value * base + digit_value c) }
+    ensures { SomeIff result ((digit_value c < base) × (value * base + digit_value c < 2 ^ 128))
+        (value * base + digit_value c) }
 {
     let digit = c.to_digit(base)?;
     let shifted = value.checked_mul(u128::from(base))?;

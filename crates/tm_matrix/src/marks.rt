@@ -42,7 +42,8 @@ fn mark_of<J: AskYes>(
 ) -> Result<Mark, Memory>
     requires source { IsKnown (J.told judge.old) src.now }
     requires target { IsKnown (J.told judge.old) dst.now }
-    ensures mark { IfOk result (IsMark (J.told judge.old) (question src.now.ground dst.now.ground)) }
+    ensures mark { IfOk result
+        (IsMark (J.told judge.old) (question src.now.ground dst.now.ground)) }
     ensures world { J.told judge.new ≡ J.told judge.old }
 {
     if !(src.judged && dst.judged) {

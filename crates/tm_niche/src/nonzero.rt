@@ -28,7 +28,8 @@ fn first_nonzero(alloc: Global, before: u32, behind: u32) -> Result<Tree, Memory
 pub fn nonzero_tree(alloc: Global, size: u32) -> Result<Tree, Memory>
     requires { IsIntegerSize size }
     ensures form { IfOk result (λ tree. tree ≡ nonzero_form size) }
-    ensures words { IfOk result (λ tree. (profile : Profile) (pointer : ℕ) (A : ℕ → ℕ → Bool) (keep : Bool) (w : Word)
+    ensures words { IfOk result
+        (λ tree. (profile : Profile) (pointer : ℕ) (A : ℕ → ℕ → Bool) (keep : Bool) (w : Word)
         → TreeWord pointer (holds A) keep tree w ↔ (AreBytes size w × (0 < number_of profile w))) }
     ensures leaves { IfOk result (λ tree. (pointer : ℕ) → leaves_of pointer tree ≤ 256) }
     ensures public { IfOk result (λ tree. HasNoPrivate tree) }

@@ -16,8 +16,10 @@ pub fn null_or(alloc: Global, tree: Tree, size: u32) -> Result<Tree, Memory>
     requires { (pointer : ℕ) × HasSize pointer size tree }
     ensures form { IfOk result (λ made. made ≡ null_form size tree) }
     ensures words { IfOk result (λ made. (pointer : ℕ) (A : ℕ → ℕ → Bool) (keep : Bool) (w : Word)
-        → TreeWord pointer (holds A) keep made w ↔ ((w ≡ replicate size (Byte 0)) ⊎ TreeWord pointer (holds A) keep tree w)) }
-    ensures leaves { IfOk result (λ made. (pointer : ℕ) → leaves_of pointer made ≤ leaves_of pointer tree + size) }
+        → TreeWord pointer (holds A) keep made w
+        ↔ ((w ≡ replicate size (Byte 0)) ⊎ TreeWord pointer (holds A) keep tree w)) }
+    ensures leaves { IfOk result
+        (λ made. (pointer : ℕ) → leaves_of pointer made ≤ leaves_of pointer tree + size) }
     ensures public { HasNoPrivate tree → IfOk result (λ made. HasNoPrivate made) }
 {
     let mut zeros = Members::new(alloc);

@@ -82,7 +82,8 @@ pub fn tag_tree(
     ensures form { IfOk result (λ tree. tree ≡ tag_form profile (prim_size profile prim) value) }
     ensures words { IfOk result (λ tree. (pointer : ℕ) (A : ℕ → ℕ → Bool) (keep : Bool) (w : Word)
         → TreeWord pointer (holds A) keep tree w ↔ IsTag profile (prim_size profile prim) value w) }
-    ensures leaves { IfOk result (λ tree. (pointer : ℕ) → leaves_of pointer tree ≡ prim_size profile prim) }
+    ensures leaves { IfOk result
+        (λ tree. (pointer : ℕ) → leaves_of pointer tree ≡ prim_size profile prim) }
     ensures public { IfOk result (λ tree. HasNoPrivate tree) }
     ensures single { IfOk result (λ tree. HasNoChoice tree) }
 {

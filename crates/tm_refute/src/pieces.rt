@@ -69,7 +69,8 @@ impl Verifier<'_> {
         requires target { IsLaidOut (tables_of self.now.world.now) t.now }
         ensures { let t = expanded_in (tables_of self.now.world.now) t.now in
             IfOk result (λ goes. IsTrue goes
-            ↔ Viable (Stands self.now.entries.now limit) self.now.assume.safety t (shown t piece.now)) }
+            ↔ Viable (Stands self.now.entries.now limit) self.now.assume.safety t
+            (shown t piece.now)) }
     {
         let shown = cells_shown(self.alloc, self.world, self.layouts, t, piece)?;
         let refs = Standing {

@@ -44,9 +44,11 @@ pub fn refute(
     requires solved { IsSolvedFor (tables_of world.now) ask.now.assume compat.now }
     requires source { IsTypeOver (tables_of world.now) ask.now.src }
     requires target { IsTypeOver (tables_of world.now) ask.now.dst }
-    ensures some { IfOk result (λ found. IfSome found (IsRefutationOf (tables_of world.now) ask.now)) }
+    ensures some { IfOk result
+        (λ found. IfSome found (IsRefutationOf (tables_of world.now) ask.now)) }
     ensures short { IfOk result (λ found. IfSome found (λ x. cells_of x ≤ most_cells_together)) }
-    ensures none { IfOk result (λ found. IfNone found (¬ IsRefutable (tables_of world.now) ask.now)) }
+    ensures none { IfOk result
+        (λ found. IfNone found (¬ IsRefutable (tables_of world.now) ask.now)) }
     ensures long { IfErr result (λ error. error ≡ TooLong
         → (x : Refutation) × IsRefutationOf (tables_of world.now) ask.now x
         × (most_cells_together < cells_of x)) }

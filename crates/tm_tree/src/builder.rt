@@ -43,7 +43,8 @@ impl Builder<'_> {
         requires fits { IsTrue (fits_integer self.now.world.now.profile (tag_type tag) value) }
         ensures { let profile = self.now.world.now.profile in
             let size = (tag_layout profile tag).size in
-            IfOk result (λ row. row ≡ record { parts = tag_form profile size value ∷ []; end = size }) }
+            IfOk result (λ row. row
+            ≡ record { parts = tag_form profile size value ∷ []; end = size }) }
     {
         let p = tag.unwrap_or(Primitive::I32);
         let tree = tag_tree(self.alloc, self.world.profile, p, value)?;

@@ -44,7 +44,8 @@ impl Builder<'_> {
         size: u32,
         types: &[Ground],
     ) -> Result<Members, Memory>
-        requires { AreFieldsWithin (tables_of self.now.world.now) id variant front.end size types.now }
+        requires { AreFieldsWithin
+            (tables_of self.now.world.now) id variant front.end size types.now }
         ensures { let part = expanded_in (tables_of self.now.world.now) in
             let places = places_at (part (Named id)) variant in
             IfOk result (λ parts. parts

@@ -16,7 +16,8 @@ pub fn prune(alloc: Global, tree: Tree, keep_private: bool) -> Result<Tree, Memo
     ensures public { IfOk result (λ made. HasNoPrivate made) }
     ensures words { IfOk result (λ made. (pointer : ℕ) (A : ℕ → ℕ → Bool) (keep : Bool) (w : Word)
         → TreeWord pointer (holds A) keep made w ↔ TreeWord pointer (holds A) keep_private tree w) }
-    ensures leaves { IfOk result (λ made. (pointer : ℕ) → leaves_of pointer made ≤ leaves_of pointer tree) }
+    ensures leaves { IfOk result
+        (λ made. (pointer : ℕ) → leaves_of pointer made ≤ leaves_of pointer tree) }
     ensures single { HasNoChoice tree → IfOk result (λ made. HasNoChoice made) }
 {
     pruned(alloc, &tree, keep_private)

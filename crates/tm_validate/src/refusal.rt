@@ -32,7 +32,8 @@ impl Target<'_> {
     /// What as many cells are to the type as it has bytes.
     pub fn match_cells(&self, cells: &[Cell], size: u32) -> Fits
         requires free { list_all is_free cells.now ≡ true }
-        requires sized { size ≡ size_of (expanded_in (tables_of self.now.world.now) self.now.g.now) }
+        requires sized { size
+            ≡ size_of (expanded_in (tables_of self.now.world.now) self.now.g.now) }
         requires long { length cells.now ≡ size }
         ensures { let t = expanded_in (tables_of self.now.world.now) self.now.g.now in
             IsMatch self.now.keep_private t cells.now result }

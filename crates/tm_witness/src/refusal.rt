@@ -52,7 +52,8 @@ pub fn rule_at(
 
 /// The rule of a byte with which no word goes on behind these cells.
 fn byte_rule(alloc: Global, dst: &Auto, compat: &Compat, before: &[Cell]) -> Result<Rule, Memory>
-    ensures { IfOk result (IsByteRule dst.now (reached (compatible_in compat.now) dst.now before.now)) }
+    ensures { IfOk result
+        (IsByteRule dst.now (reached (compatible_in compat.now) dst.now before.now)) }
 {
     let states = reached_by(alloc, dst, compat, before)?;
     if goes_on_by_byte(dst, &states) {
