@@ -14,7 +14,7 @@ use Rattle.tm_auto.specs.declared.edge.Symbol.{Symbol}
 use Rattle.tm_auto.specs.Automata.{Automaton, AutoWord, IsViable, IsInLayer, IsAutomaton, LiesOnWord, IsLayered, ReadsWords, IsStep, BeginsReference, IsOfReferences, reached, equal}
 use Rattle.tm_auto.specs.Joined.{Follows, JoinedAfter, IsJoined, IsNotOwn, HasNoOwn, IsWhole}
 use Rattle.tm_auto.specs.Labels.{Takes, CanTake, Begins, Joins}
-use Rattle.tm_auto.specs.Paths.{Among, Leads, IsPath}
+use Rattle.tm_auto.specs.Paths.{Among, SpellsTo, IsPath}
 use Rattle.tm_auto.specs.Sets.{next, reached_from, symbol_of}
 use Rattle.tm_auto.proofs.AmongLemmas.{some_among, none_among}
 use Rattle.tm_auto.proofs.SetLemmas.{same_at, rises_same, increasing_rises}
@@ -29,11 +29,11 @@ joined_on : (p : Cell) (w v : Word) → JoinedAfter p w → JoinedAfter (last_of
 joined_on p [] v j k = k
 joined_on p (c ∷ w) v (f, j) k = (f, joined_on c w v j k)
 
-leads_on : (A : ℕ → ℕ → Type 0) (es : List Edge) (w v : Word) (a s t : ℕ) → Leads A es w a s → Leads A es v s t → Leads A es (w ++ v) a t
-leads_on A es [] v a s t l k = subst (λ (z : ℕ). Leads A es v z t) (sym l) k
+leads_on : (A : ℕ → ℕ → Type 0) (es : List Edge) (w v : Word) (a s t : ℕ) → SpellsTo A es w a s → SpellsTo A es v s t → SpellsTo A es (w ++ v) a t
+leads_on A es [] v a s t l k = subst (λ (z : ℕ). SpellsTo A es v z t) (sym l) k
 leads_on A es (c ∷ w) v a s t (e, m, f, h, l) k = (e, m, f, h, leads_on A es w v e.to s t l k)
 
-leads_parts : (A : ℕ → ℕ → Type 0) (es : List Edge) (w v : Word) (a t : ℕ) → Leads A es (w ++ v) a t → (s : ℕ) × Leads A es w a s × Leads A es v s t
+leads_parts : (A : ℕ → ℕ → Type 0) (es : List Edge) (w v : Word) (a t : ℕ) → SpellsTo A es (w ++ v) a t → (s : ℕ) × SpellsTo A es w a s × SpellsTo A es v s t
 leads_parts A es [] v a t h = (a, refl, h)
 leads_parts A es (c ∷ w) v a t (e, m, f, h, r) = let (s, l, k) = leads_parts A es w v e.to t r in (s, (e, m, f, h, l), k)
 
@@ -43,7 +43,7 @@ takes_wider A B f (Bytes low high) c h = h
 takes_wider A B f Free c h = h
 takes_wider A B f (Leaf t k) c (x, a, e) = (x, f x t.0 a, e)
 
-pub leads_wider : (A B : ℕ → ℕ → Type 0) → ((x t : ℕ) → A x t → B x t) → (es : List Edge) (w : Word) (s t : ℕ) → Leads A es w s t → Leads B es w s t
+pub leads_wider : (A B : ℕ → ℕ → Type 0) → ((x t : ℕ) → A x t → B x t) → (es : List Edge) (w : Word) (s t : ℕ) → SpellsTo A es w s t → SpellsTo B es w s t
 leads_wider A B f es [] s t h = h
 leads_wider A B f es (c ∷ w) s t (e, m, q, h, r) = (e, m, q, takes_wider A B f e.label c h, leads_wider A B f es w e.to t r)
 
@@ -117,7 +117,7 @@ module _ (auto : Automaton) (h : IsAutomaton auto) where
   path_below zero s t l p = omega arith
   path_below (suc k) s t l (e, m, q, p) = let (x, y) = h.down e m in path_below k e.to t (omega arith) p
 
-  leads_below : (A : ℕ → ℕ → Type 0) (w : Word) (s t : ℕ) → s < auto.states → Leads A auto.edges w s t → t < auto.states
+  leads_below : (A : ℕ → ℕ → Type 0) (w : Word) (s t : ℕ) → s < auto.states → SpellsTo A auto.edges w s t → t < auto.states
   leads_below A [] s t l p = omega arith
   leads_below A (c ∷ w) s t l (e, m, q, k, p) = let (x, y) = h.down e m in leads_below A w e.to t (omega arith) p
 
@@ -157,12 +157,12 @@ module _ (auto : Automaton) (h : IsAutomaton auto) where
     fits_next : (e : Edge) (c : Cell) → Among e auto.edges → Takes B e.label c → Fits c e.to
     fits_next e c a k = record { each = λ f b q. follow e.label f.label c (h.joins e f a b (sym q)) (h.takes f b) k }
 
-    fits_after : (w : Word) (p : Cell) (a s : ℕ) → Fits p a → Leads B auto.edges w a s → Fits (last_of p w) s
+    fits_after : (w : Word) (p : Cell) (a s : ℕ) → Fits p a → SpellsTo B auto.edges w a s → Fits (last_of p w) s
     fits_after [] p a s g q = subst (λ (z : ℕ). Fits p z) q g
     fits_after (c ∷ w) p a s g (e, m, f, t, r) = fits_after w c e.to s (fits_next e c m t) r
 
     -- a joined list goes along each path
-    along : (k s t : ℕ) (p : Cell) → Fits p s → IsPath auto.edges k s t → (w : Word) × (length w ≡ k) × Leads B auto.edges w s t × JoinedAfter p w
+    along : (k s t : ℕ) (p : Cell) → Fits p s → IsPath auto.edges k s t → (w : Word) × (length w ≡ k) × SpellsTo B auto.edges w s t × JoinedAfter p w
     along zero s t p g q = ([], refl, q, tt)
     along (suc k) s t p g (e, m, f, q) =
         let (d, i, j) = g.each e m f in
@@ -170,13 +170,13 @@ module _ (auto : Automaton) (h : IsAutomaton auto) where
         (d ∷ w, omega arith, (e, m, f, i, l), (j, jw))
 
     -- a joined list that leads somewhere goes on to a word
-    goes_on : (w : Word) (a s : ℕ) → Among a auto.starts → IsJoined w → Leads B auto.edges w a s → (v : Word) × Leads B auto.edges v s 0 × IsJoined (w ++ v)
+    goes_on : (w : Word) (a s : ℕ) → Among a auto.starts → IsJoined w → SpellsTo B auto.edges w a s → (v : Word) × SpellsTo B auto.edges v s 0 × IsJoined (w ++ v)
     goes_on w a s m j q =
         let (k, p) = path_down (suc s) s (omega arith) (leads_below B w a s (h.below a m) q) in
         let (v, n, l, jv) = along k s 0 (last_of Uninit w) (fits_after w Uninit a s (fits_start a m) q) p in
         (v, l, joined_on Uninit w v j jv)
 
-    word_of : (w v : Word) (a s : ℕ) → Among a auto.starts → Leads B auto.edges w a s → Leads B auto.edges v s 0 → IsJoined (w ++ v) → AutoWord B auto (w ++ v)
+    word_of : (w v : Word) (a s : ℕ) → Among a auto.starts → SpellsTo B auto.edges w a s → SpellsTo B auto.edges v s 0 → IsJoined (w ++ v) → AutoWord B auto (w ++ v)
     word_of w v a s m l k j = record { joined = j; reaches = record { state = a; among = m; spells = leads_on B auto.edges w v a s 0 l k } }
 
     -- some joined list leads to each state
@@ -184,7 +184,7 @@ module _ (auto : Automaton) (h : IsAutomaton auto) where
       start : ℕ
       among : Among start auto.starts
       word : Word
-      leads : Leads B auto.edges word start s
+      leads : SpellsTo B auto.edges word start s
       joined : IsJoined word
 
     comes : (k s : ℕ) → auto.states ≤ s + k → s < auto.states → Comes s
@@ -248,11 +248,11 @@ module _ (auto : Automaton) (h : IsAutomaton auto) where
 
   -- ---- lists of cells
 
-  pub path_of : (A : ℕ → ℕ → Type 0) (w : Word) (s t : ℕ) → Leads A auto.edges w s t → IsPath auto.edges (length w) s t
+  pub path_of : (A : ℕ → ℕ → Type 0) (w : Word) (s t : ℕ) → SpellsTo A auto.edges w s t → IsPath auto.edges (length w) s t
   path_of A [] s t l = l
   path_of A (c ∷ w) s t (e, m, q, k, l) = (e, m, q, path_of A w e.to t l)
 
-  no_own : (A : ℕ → ℕ → Bool) (w : Word) (s t : ℕ) → HasNoOwn w → Leads (OrOwn (holds A)) auto.edges w s t → Leads (holds A) auto.edges w s t
+  no_own : (A : ℕ → ℕ → Bool) (w : Word) (s t : ℕ) → HasNoOwn w → SpellsTo (OrOwn (holds A)) auto.edges w s t → SpellsTo (holds A) auto.edges w s t
   no_own A [] s t n l = l
   no_own A (c ∷ w) s t (n, ns) (e, m, q, k, l) = (e, m, q, takes_no_own A e.label c n k, no_own A w e.to t ns l)
 
@@ -278,7 +278,7 @@ module _ (auto : Automaton) (h : IsAutomaton auto) where
         let (a, am, l) = reached_to A auto.edges auto.starts w e.from ef in
         let wide = leads_wider (holds A) (OrOwn (holds A)) (λ x t p. inl p) auto.edges w a e.from l in
         let takes : Takes (OrOwn (holds A)) e.label (own_byte t) = subst (λ (z : Label). Takes (OrOwn (holds A)) z (own_byte t)) (sym el) (own t.0, inr refl, refl) in
-        let more : Leads (OrOwn (holds A)) auto.edges (w ++ own_byte t ∷ []) a e.to = leads_on (OrOwn (holds A)) auto.edges w (own_byte t ∷ []) a e.from e.to wide (e, em, refl, takes, refl) in
+        let more : SpellsTo (OrOwn (holds A)) auto.edges (w ++ own_byte t ∷ []) a e.to = leads_on (OrOwn (holds A)) auto.edges w (own_byte t ∷ []) a e.from e.to wide (e, em, refl, takes, refl) in
         let joined : IsJoined (w ++ own_byte t ∷ []) = joined_on Uninit w (own_byte t ∷ []) j (tt, tt) in
         let full : (t : ℕ) → (x : ℕ) × OrOwn (holds A) x t = λ t. (own t, inr refl) in
         let (v, k, jv) = goes_on (OrOwn (holds A)) full (w ++ own_byte t ∷ []) a e.to am joined more in
@@ -293,11 +293,11 @@ module _ (auto : Automaton) (h : IsAutomaton auto) where
 
   -- ---- under the test of equal references
 
-  chained : (w : Word) (p : Cell) (a s : ℕ) → ((f : Edge) (d : Cell) → Among f auto.edges → f.from ≡ a → Takes (holds equal) f.label d → Follows p d) → Leads (holds equal) auto.edges w a s → JoinedAfter p w
+  chained : (w : Word) (p : Cell) (a s : ℕ) → ((f : Edge) (d : Cell) → Among f auto.edges → f.from ≡ a → Takes (holds equal) f.label d → Follows p d) → SpellsTo (holds equal) auto.edges w a s → JoinedAfter p w
   chained [] p a s g q = tt
   chained (c ∷ w) p a s g (e, m, f, t, r) = (g e c m f t, chained w c e.to s (λ f2 d m2 q2 t2. joins_cell e.label f2.label c d (h.joins e f2 m m2 (sym q2)) t t2) r)
 
-  source_joined : (w : Word) (a s : ℕ) → Among a auto.starts → Leads (holds equal) auto.edges w a s → IsJoined w
+  source_joined : (w : Word) (a s : ℕ) → Among a auto.starts → SpellsTo (holds equal) auto.edges w a s → IsJoined w
   source_joined w a s m q = chained w Uninit a s (λ f d fm ff t. begins_cell Uninit f.label d (h.begins f fm (subst (λ (z : ℕ). Among z auto.starts) (sym ff) m)) t) q
 
   reached_joined : (w : Word) → reached equal auto w ≢ [] → IsJoined w

@@ -14,7 +14,7 @@ use Rattle.tm_auto.specs.Automata.{Automaton, AutoWord, HasOneStateALayer, IsAut
 use Rattle.tm_auto.specs.Builds.{IsForward, IsReady, CanBegin, CanGrow, MakesTree, IsPlacedTree, IsSealed, HasNoLoose}
 use Rattle.tm_auto.specs.Labels.{Begins}
 use Rattle.tm_auto.specs.Loose.{LooseWord}
-use Rattle.tm_auto.specs.Paths.{here, Leads, Among, IsPath}
+use Rattle.tm_auto.specs.Paths.{here, SpellsTo, Among, IsPath}
 use Rattle.tm_auto.specs.Shapes.{extent_of}
 use Rattle.tm_auto.proofs.AmongLemmas.{none_among, only}
 use Rattle.tm_auto.proofs.EvenLemmas.{sized_even}
@@ -74,7 +74,7 @@ module _ (t : Tree) (b : Building) (can : CanBegin t b) where
 
 -- ---- the automaton
 
-end_only : (A : ℕ → ℕ → Type 0) (v : Word) (s : ℕ) → Leads A [] v s 0 → v ≡ []
+end_only : (A : ℕ → ℕ → Type 0) (v : Word) (s : ℕ) → SpellsTo A [] v s 0 → v ≡ []
 end_only A [] s h = refl
 end_only A (c ∷ v) s (e, a, f, t, r) = absurd (none_among a)
 
@@ -146,10 +146,10 @@ built_some t size b c state can sized h = record {
       λ x. (
           let (j, loose) = (words_are b.pointer (holds A) keep can.pointer.0 t can.public w).0 x in
           let r = h.back A w [] loose refl in
-          record { joined = j; reaches = record { state = state; among = here; spells = subst (λ (z : Word). Leads (holds A) c.edges.items z state 0) (append-nil w) r } }),
+          record { joined = j; reaches = record { state = state; among = here; spells = subst (λ (z : Word). SpellsTo (holds A) c.edges.items z state 0) (append-nil w) r } }),
       λ word. (
           let r = word.reaches in
-          let (u, v, e, x, k) = h.forth A w (subst (λ (z : ℕ). Leads (holds A) c.edges.items w z 0) (only r.state state r.among) r.spells) in
+          let (u, v, e, x, k) = h.forth A w (subst (λ (z : ℕ). SpellsTo (holds A) c.edges.items w z 0) (only r.state state r.among) r.spells) in
           let q : w ≡ u = e ∙ ap (λ z. u ++ z) (end_only (holds A) v 0 (rw can.edges at k)) ∙ append-nil u in
           (words_are b.pointer (holds A) keep can.pointer.0 t can.public w).1 (word.joined, subst (λ (z : Word). LooseWord b.pointer (holds A) t z) (sym q) x)),
     )

@@ -8,7 +8,7 @@ use Rattle.tm_auto.specs.declared.edge.Edge.{Edge}
 use Rattle.tm_auto.specs.declared.edge.Label.{Label}
 use Rattle.tm_auto.specs.Builds.{Words, edges_by, Opens, IsSound, Grows}
 use Rattle.tm_auto.specs.Labels.{Takes}
-use Rattle.tm_auto.specs.Paths.{Among, here, there, Leads, Spells}
+use Rattle.tm_auto.specs.Paths.{Among, here, there, SpellsTo, Spells}
 use Rattle.tm_auto.proofs.AmongLemmas.{among_left, among_right, among_either, among_edges, edges_among, none_among}
 
 -- the edges are kept
@@ -35,11 +35,11 @@ only_way way y here = refl
 only_way way y (there h) = absurd (none_among h)
 
 module _ (A : ℕ → ℕ → Type 0) where
-  pub leads_more : (es fs : List Edge) (w : Word) (s t : ℕ) → Kept es fs → Leads A es w s t → Leads A fs w s t
+  pub leads_more : (es fs : List Edge) (w : Word) (s t : ℕ) → Kept es fs → SpellsTo A es w s t → SpellsTo A fs w s t
   leads_more es fs [] s t kept h = h
   leads_more es fs (c ∷ w) s t kept (e, a, f, k, r) = (e, kept e a, f, k, leads_more es fs w e.to t kept r)
 
-  pub leads_less : {p : ℕ} (es fs : List Edge) (n : ℕ) → IsSound p es n → New n es fs → (w : Word) (s t : ℕ) → s < n → Leads A fs w s t → Leads A es w s t
+  pub leads_less : {p : ℕ} (es fs : List Edge) (n : ℕ) → IsSound p es n → New n es fs → (w : Word) (s t : ℕ) → s < n → SpellsTo A fs w s t → SpellsTo A es w s t
   leads_less es fs n sound new [] s t below h = h
   leads_less es fs n sound new (c ∷ w) s t below (e, a, f, k, r) =
       let old : Among e es = new e a (rw f below) in
@@ -106,7 +106,7 @@ module _ (A : ℕ → ℕ → Type 0) where
   sealed_new es n ways e a l = elim (among_either es (edges_by n ways) a) [ inl b ↦ b | inr b ↦ (let h = (among_edges n ways e b).1 in absurd (omega arith)) ]
 
   -- what is spelled from the state that the ways were given
-  pub sealed_forth : {p : ℕ} (es : List Edge) (n : ℕ) (ways : List Way) → IsSound p es n → ((way : Way) → Among way ways → way.to < n) → (w : Word) → Leads A (es ++ edges_by n ways) w n 0 → Opens A es ways w
+  pub sealed_forth : {p : ℕ} (es : List Edge) (n : ℕ) (ways : List Way) → IsSound p es n → ((way : Way) → Among way ways → way.to < n) → (w : Word) → SpellsTo A (es ++ edges_by n ways) w n 0 → Opens A es ways w
   sealed_forth es n ways sound below [] h = let z = sound.some in absurd (omega arith)
   sealed_forth es n ways sound below (c ∷ w) (e, a, f, t, r) = elim (among_either es (edges_by n ways) a) [
     | inl b ↦ (let h = sound.from e b in absurd (omega arith))
@@ -115,8 +115,8 @@ module _ (A : ℕ → ℕ → Type 0) where
         record { way = record { label = e.label; to = e.to }; among = m; cell = c; rest = w; is = refl; takes = t; spells = leads_less es (es ++ edges_by n ways) n sound (sealed_new es n ways) w e.to 0 (below _ m) r })
   ]
 
-  pub sealed_back : (es : List Edge) (n : ℕ) (ways : List Way) (w : Word) → Opens A es ways w → Leads A (es ++ edges_by n ways) w n 0
-  sealed_back es n ways w r = subst (λ (z : Word). Leads A (es ++ edges_by n ways) z n 0) (sym r.is) (
+  pub sealed_back : (es : List Edge) (n : ℕ) (ways : List Way) (w : Word) → Opens A es ways w → SpellsTo A (es ++ edges_by n ways) w n 0
+  sealed_back es n ways w r = subst (λ (z : Word). SpellsTo A (es ++ edges_by n ways) z n 0) (sym r.is) (
     record { from = n; to = r.way.to; label = r.way.label },
     among_right es (edges_among n r.way ways r.among),
     refl,

@@ -12,7 +12,7 @@ use Rattle.tm_auto.specs.declared.edge.Label.{Label}
 use Rattle.tm_auto.specs.declared.edge.Label.TheVariants.{Bytes, Free, Leaf}
 use Rattle.tm_auto.specs.declared.edge.Symbol.{Symbol}
 use Rattle.tm_auto.specs.Labels.{Takes}
-use Rattle.tm_auto.specs.Paths.{Among, here, there, Leads}
+use Rattle.tm_auto.specs.Paths.{Among, here, there, SpellsTo}
 use Rattle.tm_auto.specs.Sets.{has_state, with_state, passes, next, symbol_of, reached_from}
 use Rattle.tm_auto.proofs.SetLemmas.{bool_cases, same_at, has_to, to_has, with_state_to, with_state_has, with_state_keeps, with_state-IsStrictlyIncreasing}
 
@@ -95,13 +95,13 @@ module _ (A : ℕ → ℕ → Bool) where
     | inr a ↦ rw a (next-IsStrictlyIncreasing es from x)
   ]
 
-  pub reached_to : (es : List Edge) (states : List ℕ) (w : Word) (s : ℕ) → Among s (reached_from A es states w) → (a : ℕ) × Among a states × Leads (holds A) es w a s
+  pub reached_to : (es : List Edge) (states : List ℕ) (w : Word) (s : ℕ) → Among s (reached_from A es states w) → (a : ℕ) × Among a states × SpellsTo (holds A) es w a s
   reached_to es states [] s h = (s, h, refl)
   reached_to es states (c ∷ w) s h =
       let (b, m, r) = reached_to es (next A es states (symbol_of c)) w s h in
       let (e, ea, ef, et, eq) = next_to es states (symbol_of c) b m in
-      (e.from, ef, (e, ea, refl, (passes_takes A e.label c).0 et, subst (λ (z : ℕ). Leads (holds A) es w z s) (sym eq) r))
+      (e.from, ef, (e, ea, refl, (passes_takes A e.label c).0 et, subst (λ (z : ℕ). SpellsTo (holds A) es w z s) (sym eq) r))
 
-  pub to_reached : (es : List Edge) (states : List ℕ) (w : Word) (a s : ℕ) → Among a states → Leads (holds A) es w a s → Among s (reached_from A es states w)
+  pub to_reached : (es : List Edge) (states : List ℕ) (w : Word) (a s : ℕ) → Among a states → SpellsTo (holds A) es w a s → Among s (reached_from A es states w)
   to_reached es states [] a s m h = subst (λ (z : ℕ). Among z states) h m
   to_reached es states (c ∷ w) a s m (e, ea, ef, et, r) = to_reached es (next A es states (symbol_of c)) w e.to s (to_next es states (symbol_of c) e ea (subst (λ (z : ℕ). Among z states) (sym ef) m) ((passes_takes A e.label c).1 et)) r

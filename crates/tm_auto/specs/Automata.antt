@@ -11,7 +11,7 @@ use Rattle.tm_auto.specs.declared.edge.Label.TheVariants.{Leaf}
 use Rattle.tm_auto.specs.declared.edge.Symbol.{Symbol}
 use Rattle.tm_auto.specs.Joined.{IsJoined, IsWhole, HasNoOwn}
 use Rattle.tm_auto.specs.Labels.{CanTake, Begins, Joins}
-use Rattle.tm_auto.specs.Paths.{Among, Leads, Spells, Reaches, IsPath}
+use Rattle.tm_auto.specs.Paths.{Among, SpellsTo, Spells, SomeSpells, IsPath}
 use Rattle.tm_auto.specs.Sets.{passes, reached_from, symbol_of}
 
 -- States are the numbers below `states`, and 0 is the end. Each word has `size` cells, and a reference
@@ -26,7 +26,7 @@ pub record Automaton : Type 0 where
 -- a word: a joined list of cells that the labels of a path from a start to the end spell
 pub record AutoWord (A : ℕ → ℕ → Type 0) (auto : Automaton) (w : Word) : Type 0 where
   pub joined : IsJoined w
-  pub reaches : Reaches A auto.edges auto.starts w
+  pub reaches : SomeSpells A auto.edges auto.starts w
 
 -- Some word begins with the list, where a reference may also hold itself.
 abbrev pub IsViable : (ℕ → ℕ → Type 0) → Automaton → Word → Type 0
@@ -80,7 +80,7 @@ pub record LiesOnWord (A : ℕ → ℕ → Type 0) (auto : Automaton) (s : ℕ) 
   pub behind : Word
   pub start : ℕ
   pub among : Among start auto.starts
-  pub leads : Leads A auto.edges before start s
+  pub leads : SpellsTo A auto.edges before start s
   pub spells : Spells A auto.edges behind s
   pub word : AutoWord A auto (before ++ behind)
 
@@ -128,7 +128,7 @@ IsOfReferences A = (x t : ℕ) → t < 2 ^ 32 → IsTrue (A x t) → x < 2 ^ 32
 pub record ReadsWords (auto : Automaton) : Type 0 where
   pub begins : (A : ℕ → ℕ → Bool) → reached A auto [] ≡ auto.starts
   pub steps : (A : ℕ → ℕ → Bool) (w : Word) (c : Cell) (set : List ℕ) → IsStep A auto (reached A auto w) (symbol_of c) set → set ≡ reached A auto (w ++ c ∷ [])
-  pub states : (A : ℕ → ℕ → Bool) (w : Word) (s : ℕ) → Among s (reached A auto w) ↔ ((a : ℕ) × Among a auto.starts × Leads (holds A) auto.edges w a s)
+  pub states : (A : ℕ → ℕ → Bool) (w : Word) (s : ℕ) → Among s (reached A auto w) ↔ ((a : ℕ) × Among a auto.starts × SpellsTo (holds A) auto.edges w a s)
   pub layer : (A : ℕ → ℕ → Bool) (w : Word) → AreInLayer auto (length w) (reached A auto w)
   pub viable : (A : ℕ → ℕ → Bool) (w : Word) → IsJoined w → HasNoOwn w → (reached A auto w ≢ []) ↔ IsViable (holds A) auto w
   pub opens : (A : ℕ → ℕ → Bool) (w : Word) (t : RefId) → IsOfReferences A → IsJoined w → HasNoOwn w

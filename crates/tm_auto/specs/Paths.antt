@@ -10,16 +10,16 @@ pub data Among {X : Type 0} (x : X) : List X → Type 0 where
   there : {y : X} {xs : List X} → Among x xs → Among x (y ∷ xs)
 
 -- a path from one state to the other spells the word
-abbrev pub Leads : (ℕ → ℕ → Type 0) → List Edge → Word → ℕ → ℕ → Type 0
-Leads A es [] s t = s ≡ t
-Leads A es (c ∷ w) s t = (e : Edge) × Among e es × (e.from ≡ s) × Takes A e.label c × Leads A es w e.to t
+abbrev pub SpellsTo : (ℕ → ℕ → Type 0) → List Edge → Word → ℕ → ℕ → Type 0
+SpellsTo A es [] s t = s ≡ t
+SpellsTo A es (c ∷ w) s t = (e : Edge) × Among e es × (e.from ≡ s) × Takes A e.label c × SpellsTo A es w e.to t
 
 -- a path from the state to the end does
 abbrev pub Spells : (ℕ → ℕ → Type 0) → List Edge → Word → ℕ → Type 0
-Spells A es w s = Leads A es w s 0
+Spells A es w s = SpellsTo A es w s 0
 
 -- a path from one of the states to the end does
-pub record Reaches (A : ℕ → ℕ → Type 0) (es : List Edge) (states : List ℕ) (w : Word) : Type 0 where
+pub record SomeSpells (A : ℕ → ℕ → Type 0) (es : List Edge) (states : List ℕ) (w : Word) : Type 0 where
   pub state : ℕ
   pub among : Among state states
   pub spells : Spells A es w state

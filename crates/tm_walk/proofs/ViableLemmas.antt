@@ -13,7 +13,7 @@ use Rattle.tm_auto.specs.declared.edge.Label.TheVariants.{Bytes, Free, Leaf}
 use Rattle.tm_auto.specs.Automata.{Automaton, AutoWord, IsViable, IsAutomaton, ReadsWords, reached, equal}
 use Rattle.tm_auto.specs.Joined.{IsNotOwn, HasNoOwn}
 use Rattle.tm_auto.specs.Labels.{Takes, CanTake}
-use Rattle.tm_auto.specs.Paths.{Leads}
+use Rattle.tm_auto.specs.Paths.{SpellsTo}
 use Rattle.tm_auto.proofs.AutomatonLemmas.{leads_wider}
 use Rattle.tm_auto.proofs.SetLemmas.{same_at}
 use Rattle.tm_walk.specs.Layers.{is_live}
@@ -46,7 +46,7 @@ not_own p (Leaf t k) c can (x, a, e) =
     let small : x < 2 ^ 32 = let l = can.0 in omega arith in
     subst IsNotOwn (sym e) small
 
-own_free : (auto : Automaton) → IsAutomaton auto → (w : Word) (s t : ℕ) → Leads (holds equal) auto.edges w s t → HasNoOwn w
+own_free : (auto : Automaton) → IsAutomaton auto → (w : Word) (s t : ℕ) → SpellsTo (holds equal) auto.edges w s t → HasNoOwn w
 own_free auto h [] s t l = tt
 own_free auto h (c ∷ w) s t (e, m, f, k, l) = (not_own auto.pointer e.label c (h.takes e m) k, own_free auto h w e.to t l)
 
@@ -61,7 +61,7 @@ takes_own A Free c n h = h
 takes_own A (Leaf t k) c n (x, inl a, e) = (x, a, e)
 takes_own A (Leaf t k) c n (x, inr q, e) = let l : x < 2 ^ 32 = subst IsNotOwn e n in absurd (omega arith)
 
-leads_own : (A : ℕ → ℕ → Bool) (es : List Edge) (w : Word) (s t : ℕ) → HasNoOwn w → Leads (OrOwn (holds A)) es w s t → Leads (holds A) es w s t
+leads_own : (A : ℕ → ℕ → Bool) (es : List Edge) (w : Word) (s t : ℕ) → HasNoOwn w → SpellsTo (OrOwn (holds A)) es w s t → SpellsTo (holds A) es w s t
 leads_own A es [] s t n l = l
 leads_own A es (c ∷ w) s t (n, ns) (e, m, q, k, l) = (e, m, q, takes_own A e.label c n k, leads_own A es w e.to t ns l)
 
