@@ -2,7 +2,6 @@
 ghost use Rattle.std.specs.Prelude.{◌≡◌, ◌↔◌, IsTrue, IfOk};
 ghost use Rattle.std.specs.List.{list_any};
 ghost use Rattle.tm_auto.specs.Automata.{AreStates, reached};
-ghost use Rattle.tm_auto.specs.Sets.{symbol_of};
 ghost use Rattle.tm_witness.specs.GoingOn.{GoesOnByByte, IsLeastOpen};
 ghost use Rattle.tm_witness.specs.Search.{lesser_open, least_among, takes_bytes};
 
@@ -23,20 +22,9 @@ pub(crate) fn reached_by<M: RefTest>(
     auto.law();
     let mut states = auto.start(alloc)?;
     for cell in cells {
-        states = auto.step(alloc, refs, &states, symbol_of(*cell))?;
+        states = auto.step(alloc, refs, &states, Symbol::of(*cell))?;
     }
     Ok(states)
-}
-
-/// The symbol of one cell.
-fn symbol_of(cell: Cell) -> Symbol
-    ensures { result ≡ symbol_of cell }
-{
-    match cell {
-        Cell::Byte(byte) => Symbol::Bytes(byte, byte),
-        Cell::Uninit => Symbol::Uninit,
-        Cell::Ptr(reference, place) => Symbol::Ptr(reference, place),
-    }
 }
 
 /// Whether an initialised byte may be read at one of the states.

@@ -16,6 +16,6 @@ loop-cell-preserved g c =
     let before = take at cells in
     let cell = get_or cells at (Byte 0) in
     let set = c.in_ok-states-2.states in
-    let by_cell : IsStep A auto c.loop-cell.states (symbol_of cell) set = subst (λ (x : Symbol). IsStep A auto c.loop-cell.states x set) c.symbol_of.ensures c.in_ok-states-2.ensures.step in
+    let by_cell : IsStep A auto c.loop-cell.states (symbol_of cell) set = subst (λ (x : Symbol). IsStep A auto c.loop-cell.states x set) c.of.ensures c.in_ok-states-2.ensures.step in
     let from_word : IsStep A auto (reached A auto before) (symbol_of cell) set = subst (λ (states : List ℕ). IsStep A auto states (symbol_of cell) set) c.loop-cell.invariant.0 by_cell in
     (c.law.ensures.reads.steps A before cell set from_word ∙ ap (λ (w : Word). reached A auto w) (sym (take_more cells at (Byte 0) c.loop-cell-test.true)), c.in_ok-states-2.ensures.states)
