@@ -13,7 +13,7 @@ use Rattle.tm_ground.proofs.OpenLemmas.{put_in-Named, listed-as_elements}
 use Rattle.tm_ground.specs.Collecting.{AreSome, IsSound, IsSeen, Collecting, IsEmpty, IsClosed, Closing}
 use Rattle.tm_ground.specs.Limits.{is_named}
 use Rattle.tm_ground.specs.Occurs.{parts_in, parts_of, inside_of, fields_of, asked_types, is_small, Occurs, is_asked, is_part}
-use Rattle.tm_ground.specs.Sets.{closed_types, types_in}
+use Rattle.tm_ground.specs.Sets.{closed_types}
 use Rattle.tm_ground.specs.Limits.{is_ref}
 use Rattle.tm_ground.proofs.ContainsLemmas.{contains-nothing, contains-at}
 use Rattle.tm_ground.proofs.FindingLemmas.{not-both, part-small}
@@ -72,7 +72,7 @@ module _ (resolved : Resolved) where
   pub record IsClosing (done : ℕ) (s : Collector) : Type 0 where
     pub sound : IsSound resolved s
     pub asked : (c : Closed) → Contains (asked_types resolved) c → IsSeen c s
-    pub inside : (k : ℕ) (c : Closed) → k < done → slice_get (types_in s.found.named) k ≡ Some c → (d : Closed) → Contains (inside_of resolved c) d → IsSeen d s
+    pub inside : (k : ℕ) (c : Closed) → k < done → slice_get (closed_types s.found.named) k ≡ Some c → (d : Closed) → Contains (inside_of resolved c) d → IsSeen d s
 
   pub closing-begins : (old new : Collector) → IsEmpty old → Collecting (asked_types resolved) old new (Ok tt) → IsClosing 0 new
   closing-begins old new empty a =
@@ -83,39 +83,39 @@ module _ (resolved : Resolved) where
   closing-fails old new stop.Full empty a = a resolved (empty-sound resolved old empty) (λ c h. is_asked c h)
   closing-fails old new stop.Memory empty a = tt
 
-  named-small : (s : Collector) → IsSound resolved s → (c : Closed) → Contains (types_in s.found.named) c → (is_named c ≡ true) × (is_small c ≡ true) × Occurs resolved c
+  named-small : (s : Collector) → IsSound resolved s → (c : Closed) → Contains (closed_types s.found.named) c → (is_named c ≡ true) × (is_small c ≡ true) × Occurs resolved c
   named-small s sound c h =
       let o = sound.named.each c h in
       let both = and_parts (is_named c) (is_small c) o.of_kind in
       (both.0, both.1, o.occurs)
 
-  pub closing-named : (done : ℕ) (s : Collector) (c : Closed) → IsClosing done s → slice_get (types_in s.found.named) done ≡ Some c → is_named c ≡ true
+  pub closing-named : (done : ℕ) (s : Collector) (c : Closed) → IsClosing done s → slice_get (closed_types s.found.named) done ≡ Some c → is_named c ≡ true
   closing-named done s c i at = (named-small s i.sound c (contains-from_get _ done c at)).0
 
-  inside-occur : (s : Collector) → IsSound resolved s → (done : ℕ) (c : Closed) → slice_get (types_in s.found.named) done ≡ Some c → (d : Closed) → Contains (inside_of resolved c) d → Occurs resolved d
+  inside-occur : (s : Collector) → IsSound resolved s → (done : ℕ) (c : Closed) → slice_get (closed_types s.found.named) done ≡ Some c → (d : Closed) → Contains (inside_of resolved c) d → Occurs resolved d
   inside-occur s sound done c at d h =
       let o = named-small s sound c (contains-from_get _ done c at) in
       is_part c d o.2 o.1 (inside-part resolved c d h)
 
-  pub closing-step : (done : ℕ) (s new : Collector) (c : Closed) → IsClosing done s → slice_get (types_in s.found.named) done ≡ Some c → Collecting (inside_of resolved c) s new (Ok tt) → IsClosing (done + 1) new
+  pub closing-step : (done : ℕ) (s new : Collector) (c : Closed) → IsClosing done s → slice_get (closed_types s.found.named) done ≡ Some c → Collecting (inside_of resolved c) s new (Ok tt) → IsClosing (done + 1) new
   closing-step done s new c i at a =
       let all = a resolved i.sound (inside-occur s i.sound done c at) in
-      let within = some-within (types_in s.found.named) done c at in
+      let within = some-within (closed_types s.found.named) done c at in
       record {
         sound = all.sound;
         asked = λ d h. seen-kept d s new all.keeps (i.asked d h);
         inside = λ k x l e.
-            let here = slice_get-append (types_in s.found.named) all.keeps.extra k x x (subst (λ ys. slice_get ys k ≡ Some x) all.keeps.named e) (omega (arith, l, within)) in
+            let here = slice_get-append (closed_types s.found.named) all.keeps.extra k x x (subst (λ ys. slice_get ys k ≡ Some x) all.keeps.named e) (omega (arith, l, within)) in
             ⊎_elim
             (λ (below : k < done). (λ d h. seen-kept d s new all.keeps (i.inside k x below here d h)))
             (λ (same : k ≡ done).
-            let one : Some x ≡ Some c = sym here ∙ ap (λ j. slice_get (types_in s.found.named) j) same ∙ at in
+            let one : Some x ≡ Some c = sym here ∙ ap (λ j. slice_get (closed_types s.found.named) j) same ∙ at in
             let equal : x ≡ c = cc in
             (λ d h. all.seen d (subst (λ y. Contains (inside_of resolved y) d) equal h)))
             (below-or-last k done l);
       }
 
-  pub closing-stops : (done : ℕ) (s new : Collector) (c : Closed) (why : Stop) → IsClosing done s → slice_get (types_in s.found.named) done ≡ Some c → Collecting (inside_of resolved c) s new (Err why) → Closing resolved new (Err why)
+  pub closing-stops : (done : ℕ) (s new : Collector) (c : Closed) (why : Stop) → IsClosing done s → slice_get (closed_types s.found.named) done ≡ Some c → Collecting (inside_of resolved c) s new (Err why) → Closing resolved new (Err why)
   closing-stops done s new c stop.Full i at a = a resolved i.sound (inside-occur s i.sound done c at)
   closing-stops done s new c stop.Memory i at a = tt
 
@@ -127,7 +127,7 @@ module _ (resolved : Resolved) where
     big = λ f. not-both (part-small whole c small h) f;
   }
 
-  pub closing-ends : (done : ℕ) (s : Collector) → IsClosing done s → length (types_in s.found.named) ≤ done → IsClosed resolved s
+  pub closing-ends : (done : ℕ) (s : Collector) → IsClosing done s → length (closed_types s.found.named) ≤ done → IsClosed resolved s
   closing-ends done s i over = record { sound = i.sound; seen = all }
     where
       all : (c : Closed) → Occurs resolved c → IsSeen c s
@@ -136,7 +136,7 @@ module _ (resolved : Resolved) where
           let seen = all whole o in
           ⊎_elim
           (λ (t, inside).
-          let (k, l, e) = contains-at (types_in s.found.named) whole ((seen.named small).within whole (kept-itself is_named whole t)) in
+          let (k, l, e) = contains-at (closed_types s.found.named) whole ((seen.named small).within whole (kept-itself is_named whole t)) in
           i.inside k whole (omega (arith, l, over)) e c inside)
           (λ part. part-seen s whole c small seen part)
           (part-or-inside resolved whole c h)

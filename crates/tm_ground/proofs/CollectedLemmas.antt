@@ -9,7 +9,7 @@ use Rattle.tm_ground.specs.Closing.{IsWhole, AreWhole}
 use Rattle.tm_ground.specs.Collecting.{AreSome, IsClosed}
 use Rattle.tm_ground.specs.Limits.{is_named, is_ref, is_small_named, OccursAs, PassesNodes, PassesRefs, PassesTypes, type_limit, ref_limit}
 use Rattle.tm_ground.specs.Occurs.{Occurs, is_small}
-use Rattle.tm_ground.specs.Sets.{types_in}
+use Rattle.tm_ground.specs.Sets.{closed_types}
 use Rattle.tm_ground.proofs.FindingLemmas.{not-both}
 use Rattle.tm_ground.proofs.OccursLemmas.{kept-itself}
 use Rattle.tm_ground.proofs.PigeonLemmas.{whole-fits}
@@ -28,7 +28,7 @@ module _ (resolved : Resolved) (s : Collector) (closed : IsClosed resolved s) wh
   -- there are no more named types than may be
   pub few-types : ¬ PassesTypes resolved
   few-types =
-      whole-fits type_limit (OccursAs is_small_named resolved) (types_in s.found.named)
+      whole-fits type_limit (OccursAs is_small_named resolved) (closed_types s.found.named)
       (whole type_limit _ _ _ closed.sound.named (λ c p. p) (λ c o.
       let both = and_parts (is_named c) (is_small c) o.of_kind in
       ((closed.seen c o.occurs).named both.1).within c (kept-itself is_named c both.0)))
@@ -44,7 +44,7 @@ module _ (resolved : Resolved) (s : Collector) (closed : IsClosed resolved s) wh
     pub few-nodes : ¬ PassesNodes resolved
     few-nodes = λ p. not-both (each-small p.greatest p.occurs) p.passes
 
-    pub are-whole : s.many_refs ≡ false → AreWhole resolved (types_in s.found.named) (types_in s.found.refs)
+    pub are-whole : s.many_refs ≡ false → AreWhole resolved (closed_types s.found.named) (closed_types s.found.refs)
     are-whole few = record {
       rows = whole type_limit _ _ _ closed.sound.named (λ c p. record { of_kind = (and_parts (is_named c) (is_small c) p.of_kind).0; occurs = p.occurs }) (λ c o. ((closed.seen c o.occurs).named (each-small c o.occurs)).within c (kept-itself is_named c o.of_kind));
       refs = whole ref_limit _ _ _ (closed.sound.refs few) (λ c p. p) (λ c o. ((closed.seen c o.occurs).refs (each-small c o.occurs) few).within c (kept-itself is_ref c o.of_kind));

@@ -12,7 +12,7 @@ use Rattle.tm_ground.specs.Collecting.{AreSome, AreSmall, IsSound, IsSeen, Sees,
 use Rattle.tm_ground.specs.Growing.{IsWithin, Grows, Adds, Overflows, Adding}
 use Rattle.tm_ground.specs.Limits.{is_named, is_ref, is_small_named, OccursAs, AreMoreThan, type_limit, ref_limit}
 use Rattle.tm_ground.specs.Occurs.{Occurs, is_part, is_small, node_limit, parts_in}
-use Rattle.tm_ground.specs.Sets.{types_in}
+use Rattle.tm_ground.specs.Sets.{closed_types}
 use Rattle.tm_ground.specs.Written.{written_in}
 use Rattle.tm_ground.proofs.ContainsLemmas.{contains-nothing, contains-cons, contains-first, contains-filter, filter-contains, contains-flat_map}
 use Rattle.tm_ground.proofs.GrowLemmas.{within-self, grows-old}
@@ -61,7 +61,7 @@ module _ (resolved : Resolved) (old : Collector) (c : Closed) (sound : IsSound r
   one-kind : (kind : Closed → Bool) → kind c ≡ true → (x : Closed) → Contains (c ∷ []) x → OccursAs kind resolved x
   one-kind kind t x h = subst (OccursAs kind resolved) (only-one c x h) (record { of_kind = t; occurs = o })
 
-  pub finds-named : (n : List Open) (r : Result Unit Stop) → is_named c ≡ true → is_ref c ≡ false → is_small c ≡ true → Adding type_limit (types_in old.found.named) (c ∷ []) (types_in n) r → FindingIn resolved c old (with-named n) r
+  pub finds-named : (n : List Open) (r : Result Unit Stop) → is_named c ≡ true → is_ref c ≡ false → is_small c ≡ true → Adding type_limit (closed_types old.found.named) (c ∷ []) (closed_types n) r → FindingIn resolved c old (with-named n) r
   finds-named n (Ok u) t not_ref small a = record {
     sound = record {
       named = some-more type_limit (OccursAs is_small_named resolved) _ (c ∷ []) _ sound.named (one-kind is_small_named (rw (t, small) refl)) a;
@@ -69,7 +69,7 @@ module _ (resolved : Resolved) (old : Collector) (c : Closed) (sound : IsSound r
       big = sound.big;
       many_refs = sound.many_refs;
     };
-    keeps = record { extra = a.grows.extra; named = a.grows.grown; refs = λ e. (e, within-self (types_in old.found.refs)); big = λ e. e };
+    keeps = record { extra = a.grows.extra; named = a.grows.grown; refs = λ e. (e, within-self (closed_types old.found.refs)); big = λ e. e };
     named = λ s. a.has.within c (contains-first c []);
     refs = λ s e. not-both s not_ref;
   }
@@ -77,7 +77,7 @@ module _ (resolved : Resolved) (old : Collector) (c : Closed) (sound : IsSound r
       too-many type_limit (OccursAs is_small_named resolved) _ (c ∷ []) sound.named (one-kind is_small_named (rw (t, small) refl)) a
   finds-named n (Err stop.Memory) t not_ref small a = tt
 
-  pub finds-ref : (n : List Open) → is_ref c ≡ true → old.many_refs ≡ false → Adds ref_limit (types_in old.found.refs) (c ∷ []) (types_in n) → Finds resolved c old (with-refs n old.many_refs)
+  pub finds-ref : (n : List Open) → is_ref c ≡ true → old.many_refs ≡ false → Adds ref_limit (closed_types old.found.refs) (c ∷ []) (closed_types n) → Finds resolved c old (with-refs n old.many_refs)
   finds-ref n t few a = record {
     sound = record {
       named = sound.named;
@@ -85,12 +85,12 @@ module _ (resolved : Resolved) (old : Collector) (c : Closed) (sound : IsSound r
       big = sound.big;
       many_refs = sound.many_refs;
     };
-    keeps = record { extra = []; named = sym (append-nil (types_in old.found.named)); refs = λ e. (e, grows-old _ (c ∷ []) _ a.grows); big = λ e. e };
+    keeps = record { extra = []; named = sym (append-nil (closed_types old.found.named)); refs = λ e. (e, grows-old _ (c ∷ []) _ a.grows); big = λ e. e };
     named = λ s. not-both s (ref-not-named c t);
     refs = λ s e. a.has.within c (contains-first c []);
   }
 
-  pub finds-many : (n : List Open) → is_ref c ≡ true → old.many_refs ≡ false → Overflows ref_limit (types_in old.found.refs) (c ∷ []) → Finds resolved c old (with-refs n true)
+  pub finds-many : (n : List Open) → is_ref c ≡ true → old.many_refs ≡ false → Overflows ref_limit (closed_types old.found.refs) (c ∷ []) → Finds resolved c old (with-refs n true)
   finds-many n t few a = record {
     sound = record {
       named = sound.named;
@@ -98,7 +98,7 @@ module _ (resolved : Resolved) (old : Collector) (c : Closed) (sound : IsSound r
       big = sound.big;
       many_refs = λ e. too-many ref_limit (OccursAs is_ref resolved) _ (c ∷ []) (sound.refs few) (one-kind is_ref t) a;
     };
-    keeps = record { extra = []; named = sym (append-nil (types_in old.found.named)); refs = λ e. not-both refl e; big = λ e. e };
+    keeps = record { extra = []; named = sym (append-nil (closed_types old.found.named)); refs = λ e. not-both refl e; big = λ e. e };
     named = λ s. not-both s (ref-not-named c t);
     refs = λ s e. not-both refl e;
   }
@@ -160,10 +160,10 @@ module _ (resolved : Resolved) (c : Closed) (old mid new : Collector) (small : i
 
   itself-seen : IsSeen c new
   itself-seen = record {
-    named = λ s. within-written is_named (types_in new.found.named) (λ t. (named-kept mid new b.keeps).within c (a.named t)) (λ d h. (b.seen d h).named (part-small c d small h));
+    named = λ s. within-written is_named (closed_types new.found.named) (λ t. (named-kept mid new b.keeps).within c (a.named t)) (λ d h. (b.seen d h).named (part-small c d small h));
     refs = λ s e.
         let kept = b.keeps.refs e in
-        within-written is_ref (types_in new.found.refs) (λ t. kept.1.within c (a.refs t kept.0)) (λ d h. (b.seen d h).refs (part-small c d small h) e);
+        within-written is_ref (closed_types new.found.refs) (λ t. kept.1.within c (a.refs t kept.0)) (λ d h. (b.seen d h).refs (part-small c d small h) e);
     big = λ f. not-both small f;
   }
 
@@ -198,6 +198,6 @@ collecting-big c old big = λ resolved sound occur. record {
     big = λ e. record { greatest = c; occurs = occur c (contains-first c []); passes = big };
     many_refs = sound.many_refs;
   };
-  keeps = record { extra = []; named = sym (append-nil (types_in old.found.named)); refs = λ e. (e, within-self (types_in old.found.refs)); big = λ e. refl };
+  keeps = record { extra = []; named = sym (append-nil (closed_types old.found.named)); refs = λ e. (e, within-self (closed_types old.found.refs)); big = λ e. refl };
   seen = λ x h. subst (λ y. IsSeen y (record { found = old.found; big = true; many_refs = old.many_refs })) (only-one c x h) (record { named = λ s. not-both s big; refs = λ s e. not-both s big; big = λ e. refl });
 }

@@ -13,22 +13,22 @@ use Rattle.tm_ground.specs.Closed.{Closed, put_in}
 use Rattle.tm_ground.specs.Collecting.{IsSeen, Keeps, Sees, Collecting}
 use Rattle.tm_ground.specs.Growing.{IsWithin}
 use Rattle.tm_ground.specs.Occurs.{all_fields}
-use Rattle.tm_ground.specs.Sets.{types_in}
+use Rattle.tm_ground.specs.Sets.{closed_types}
 use Rattle.tm_ground.proofs.ContainsLemmas.{contains-nothing, contains-first}
 use Rattle.tm_ground.proofs.GrowLemmas.{within-self, within-left, within-trans}
 
 pub keeps-itself : (s : Collector) → Keeps s s
 keeps-itself s = record {
   extra = [];
-  named = sym (append-nil (types_in s.found.named));
-  refs = λ e. (e, within-self (types_in s.found.refs));
+  named = sym (append-nil (closed_types s.found.named));
+  refs = λ e. (e, within-self (closed_types s.found.refs));
   big = λ e. e;
 }
 
 pub keeps-then : (old mid new : Collector) → Keeps old mid → Keeps mid new → Keeps old new
 keeps-then old mid new a b = record {
   extra = a.extra ++ b.extra;
-  named = b.named ∙ ap (λ xs. xs ++ b.extra) a.named ∙ append_assoc (types_in old.found.named) a.extra b.extra;
+  named = b.named ∙ ap (λ xs. xs ++ b.extra) a.named ∙ append_assoc (closed_types old.found.named) a.extra b.extra;
   refs = λ e.
       let later = b.refs e in
       let before = a.refs later.0 in
@@ -36,8 +36,8 @@ keeps-then old mid new a b = record {
   big = λ e. b.big (a.big e);
 }
 
-pub named-kept : (old new : Collector) → Keeps old new → IsWithin (types_in old.found.named) (types_in new.found.named)
-named-kept old new k = subst (λ xs. IsWithin (types_in old.found.named) xs) (sym k.named) (within-left _ k.extra)
+pub named-kept : (old new : Collector) → Keeps old new → IsWithin (closed_types old.found.named) (closed_types new.found.named)
+named-kept old new k = subst (λ xs. IsWithin (closed_types old.found.named) xs) (sym k.named) (within-left _ k.extra)
 
 pub seen-kept : (c : Closed) (old new : Collector) → Keeps old new → IsSeen c old → IsSeen c new
 seen-kept c old new k s = record {

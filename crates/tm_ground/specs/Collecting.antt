@@ -9,7 +9,7 @@ use Rattle.tm_ground.specs.Closed.{Closed}
 use Rattle.tm_ground.specs.Growing.{IsWithin}
 use Rattle.tm_ground.specs.Limits.{is_named, is_ref, is_small_named, OccursAs, PassesNodes, PassesRefs, PassesTypes, type_limit, ref_limit}
 use Rattle.tm_ground.specs.Occurs.{Occurs, is_small}
-use Rattle.tm_ground.specs.Sets.{types_in}
+use Rattle.tm_ground.specs.Sets.{closed_types}
 use Rattle.tm_ground.specs.Written.{named_in, refs_in}
 
 -- types of a kind that occur, each once, and at most so many
@@ -20,22 +20,22 @@ pub record AreSome (limit : ℕ) (P : Closed → Type 0) (found : List Closed) :
 
 -- nothing but what occurs is found, and what is noted is so
 pub record IsSound (resolved : Resolved) (s : Collector) : Type 0 where
-  pub named : AreSome type_limit (OccursAs is_small_named resolved) (types_in s.found.named)
-  pub refs : s.many_refs ≡ false → AreSome ref_limit (OccursAs is_ref resolved) (types_in s.found.refs)
+  pub named : AreSome type_limit (OccursAs is_small_named resolved) (closed_types s.found.named)
+  pub refs : s.many_refs ≡ false → AreSome ref_limit (OccursAs is_ref resolved) (closed_types s.found.refs)
   pub big : s.big ≡ true → PassesNodes resolved
   pub many_refs : s.many_refs ≡ true → PassesRefs resolved
 
 -- what is written in a type is found, or it is noted
 pub record IsSeen (c : Closed) (s : Collector) : Type 0 where
-  pub named : is_small c ≡ true → IsWithin (named_in c) (types_in s.found.named)
-  pub refs : is_small c ≡ true → s.many_refs ≡ false → IsWithin (refs_in c) (types_in s.found.refs)
+  pub named : is_small c ≡ true → IsWithin (named_in c) (closed_types s.found.named)
+  pub refs : is_small c ≡ true → s.many_refs ≡ false → IsWithin (refs_in c) (closed_types s.found.refs)
   pub big : is_small c ≡ false → s.big ≡ true
 
 -- what was found and noted stays so
 pub record Keeps (old new : Collector) : Type 0 where
   pub extra : List Closed
-  pub named : types_in new.found.named ≡ types_in old.found.named ++ extra
-  pub refs : new.many_refs ≡ false → (old.many_refs ≡ false) × IsWithin (types_in old.found.refs) (types_in new.found.refs)
+  pub named : closed_types new.found.named ≡ closed_types old.found.named ++ extra
+  pub refs : new.many_refs ≡ false → (old.many_refs ≡ false) × IsWithin (closed_types old.found.refs) (closed_types new.found.refs)
   pub big : old.big ≡ true → new.big ≡ true
 
 -- all of these are seen
@@ -57,8 +57,8 @@ Collecting xs old new r = (resolved : Resolved) → IsSound resolved old → ((c
 pub record Finds (resolved : Resolved) (c : Closed) (old new : Collector) : Type 0 where
   pub sound : IsSound resolved new
   pub keeps : Keeps old new
-  pub named : is_named c ≡ true → Contains (types_in new.found.named) c
-  pub refs : is_ref c ≡ true → new.many_refs ≡ false → Contains (types_in new.found.refs) c
+  pub named : is_named c ≡ true → Contains (closed_types new.found.named) c
+  pub refs : is_ref c ≡ true → new.many_refs ≡ false → Contains (closed_types new.found.refs) c
 
 abbrev pub FindingIn : Resolved → Closed → Collector → Collector → Result Unit Stop → Type 0
 FindingIn resolved c old new (Ok u) = Finds resolved c old new
@@ -74,8 +74,8 @@ pub record AreSmall (cs : List Closed) : Type 0 where
 
 -- nothing is found or noted
 pub record IsEmpty (s : Collector) : Type 0 where
-  pub named : types_in s.found.named ≡ []
-  pub refs : types_in s.found.refs ≡ []
+  pub named : closed_types s.found.named ≡ []
+  pub refs : closed_types s.found.refs ≡ []
   pub big : s.big ≡ false
   pub many_refs : s.many_refs ≡ false
 

@@ -3,10 +3,6 @@ use Rattle.std.specs.Prelude.{List, map}
 use Rattle.tm_names.specs.declared.resolved.Open.{Open}
 use Rattle.tm_ground.specs.Closed.{Closed, closed}
 
--- written types without parameters, as closed types
+-- written types without parameters, as closed types; a set is the list of those in it
 abbrev pub closed_types : List Open → List Closed
 closed_types = map closed
-
--- the types of a set, in its order
-abbrev pub types_in : List Open → List Closed
-types_in = closed_types

@@ -50,11 +50,11 @@ impl Code {
         Ok(code)
     }
 
-    /// Adds a number.
-    fn add_number(&mut self, number: u32) -> Result<(), Memory>
-        ensures { OnOk result (self.new.numbers.items ≡ self.old.numbers.items ++ number ∷ []) }
+    /// Adds some numbers.
+    fn add_numbers(&mut self, numbers: &[u32]) -> Result<(), Memory>
+        ensures { OnOk result (self.new.numbers.items ≡ self.old.numbers.items ++ numbers.now) }
     {
-        self.numbers.push(number)?;
+        self.numbers.extend_from_slice(numbers)?;
         Ok(())
     }
 
@@ -64,57 +64,46 @@ impl Code {
             ≡ self.old.numbers.items ++ codes_of_regions (map (region_of regions.now) lives.now)) }
     {
         for life in lives {
-            self.add_number(1)?;
-            self.add_number(region(regions, *life).0)?;
+            self.add_numbers(&[1, region(regions, *life).0])?;
         }
-        self.add_number(0)
+        self.add_numbers(&[0])
     }
 
     /// Adds the code of a type with its regions and arguments put in.
     #[cycle(add)]
     fn add(&mut self, regions: &[RegionId], args: &[Open], ty: &Open) -> Result<(), Memory>
-        ensures { OnOk result (self.new.numbers.items
-            ≡ self.old.numbers.items ++ code_of (put_in regions.now (closed_types args.now) ty.now)) }
+        ensures { OnOk result (self.new.numbers.items ≡ self.old.numbers.items
+            ++ code_of (put_in regions.now (closed_types args.now) ty.now)) }
     {
         match ty {
-            Open::Prim(primitive) => {
-                self.add_number(0)?;
-                self.add_number(number_of_primitive(*primitive))
-            }
-            Open::Never => self.add_number(1),
+            Open::Prim(primitive) => self.add_numbers(&[0, number_of_primitive(*primitive)]),
+            Open::Never => self.add_numbers(&[1]),
             Open::Tuple(elements) => {
-                self.add_number(2)?;
+                self.add_numbers(&[2])?;
                 self.add_all(regions, args, elements.as_slice())
             }
             Open::Array(element, length) => {
-                self.add_number(3)?;
-                self.add_number(*length)?;
+                self.add_numbers(&[3, *length])?;
                 self.add(regions, args, element.get())
             }
-            Open::NonZero(primitive) => {
-                self.add_number(4)?;
-                self.add_number(number_of_primitive(*primitive))
-            }
+            Open::NonZero(primitive) => self.add_numbers(&[4, number_of_primitive(*primitive)]),
             Open::Wrap(wrapper, argument) => {
-                self.add_number(5)?;
-                self.add_number(number_of_wrapper(*wrapper))?;
+                self.add_numbers(&[5, number_of_wrapper(*wrapper)])?;
                 self.add(regions, args, argument.get())
             }
             Open::Named(def, lives, given) => {
-                self.add_number(6)?;
-                self.add_number(def.0)?;
+                self.add_numbers(&[6, def.0])?;
                 self.add_lives(regions, lives.as_slice())?;
                 self.add_all(regions, args, given.as_slice())
             }
             Open::Ref(life, mutable, pointee) => {
-                self.add_number(7)?;
-                self.add_number(region(regions, *life).0)?;
-                self.add_number(number_of_flag(*mutable))?;
+                let region = region(regions, *life);
+                self.add_numbers(&[7, region.0, number_of_flag(*mutable)])?;
                 self.add(regions, args, pointee.get())
             }
             Open::Param(place) => match args.get(*place as usize) {
                 Some(arg) => self.add(&[], &[], arg),
-                None => self.add_number(1),
+                None => self.add_numbers(&[1]),
             },
         }
     }
@@ -129,6 +118,6 @@ impl Code {
         for item in types {
             self.add(regions, args, item)?;
         }
-        self.add_number(8)
+        self.add_numbers(&[8])
     }
 }

@@ -2,7 +2,7 @@ ghost use Rattle.std.specs.Prelude.{◌≡◌, ◌<◌, ◌^◌, Contains, IfOk,
 ghost use Rattle.std.specs.List.{AllZip};
 ghost use Rattle.tm_ground.specs.Closed.{as_elements, put_in, tuple};
 ghost use Rattle.tm_ground.specs.Found.{HasNumbersIn, HaveNumbersIn, IsNumberedIn};
-ghost use Rattle.tm_ground.specs.Sets.{closed_types, types_in};
+ghost use Rattle.tm_ground.specs.Sets.{closed_types};
 
 use crate::found::Found;
 use crate::type_set::TypeSet;
@@ -18,10 +18,10 @@ fn place(
     args: &[Open],
     ty: &Open,
 ) -> Result<u32, Memory>
-    requires few { length (types_in set.now) < 2 ^ 32 }
-    requires there { Contains (types_in set.now)
+    requires few { length (closed_types set.now) < 2 ^ 32 }
+    requires there { Contains (closed_types set.now)
         (put_in regions.now (closed_types args.now) ty.now) }
-    ensures { IfOk result (λ k. slice_get (types_in set.now) k
+    ensures { IfOk result (λ k. slice_get (closed_types set.now) k
         ≡ Some (put_in regions.now (closed_types args.now) ty.now)) }
 {
     match set.place_of(alloc, regions, args, ty)? {

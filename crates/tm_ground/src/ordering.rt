@@ -5,7 +5,7 @@ ghost use Rattle.tm_ground.specs.Closed.{closed};
 ghost use Rattle.tm_ground.specs.ClosedTexts.{AreInOrder};
 ghost use Rattle.tm_ground.specs.Found.{AreRowsIn, AreSortedIn, HasItsTextIn, HasNumbersIn, HaveNumbersIn, IsAllOf};
 ghost use Rattle.tm_ground.specs.Limits.{PassesDepth};
-ghost use Rattle.tm_ground.specs.Sets.{closed_types, types_in};
+ghost use Rattle.tm_ground.specs.Sets.{closed_types};
 ghost use Rattle.tm_ground.specs.Texted.{type_of_texted};
 ghost use Rattle.tm_names.specs.InForm.{IsInForm};
 
@@ -75,10 +75,10 @@ fn in_text_order(
     world: &World,
     set: &TypeSet,
 ) -> Result<TypeSet, Memory>
-    requires numbers { HaveNumbersIn found.now (types_in set.now) }
-    requires distinct { AreDistinct (types_in set.now) }
-    ensures moved { IfOk result (λ ordered. IsPermutation (types_in set.now) (types_in ordered)) }
-    ensures sorted { IfOk result (λ ordered. AreSortedIn found.now world.now (types_in ordered)) }
+    requires numbers { HaveNumbersIn found.now (closed_types set.now) }
+    requires distinct { AreDistinct (closed_types set.now) }
+    ensures moved { IfOk result (λ ordered. IsPermutation (closed_types set.now) (closed_types ordered)) }
+    ensures sorted { IfOk result (λ ordered. AreSortedIn found.now world.now (closed_types ordered)) }
 {
     let mut all = with_texts(alloc, found, world, set.types())?;
     all.sort_unstable_by(|some, other| some.text.as_str().cmp(other.text.as_str()));
@@ -98,8 +98,8 @@ pub fn in_order(
     requires rows { AreRowsIn found.now resolved.now rows }
     requires shallow { ¬ PassesDepth resolved.now }
     ensures whole { IfOk result (λ ordered. IsAllOf ordered resolved.now) }
-    ensures named { IfOk result (λ ordered. AreInOrder resolved.now (types_in ordered.named)) }
-    ensures refs { IfOk result (λ ordered. AreInOrder resolved.now (types_in ordered.refs)) }
+    ensures named { IfOk result (λ ordered. AreInOrder resolved.now (closed_types ordered.named)) }
+    ensures refs { IfOk result (λ ordered. AreInOrder resolved.now (closed_types ordered.refs)) }
 {
     let world = make_world(alloc, resolved, rows)?;
     Ok(Found {

@@ -4,7 +4,7 @@ ghost use Rattle.tm_ground.specs.Closed.{closed, put_in};
 ghost use Rattle.tm_ground.specs.Found.{AreFieldsIn, AreRowsIn, HasNumbersIn, HaveNumbersIn, IsAllOf, IsAskIn, IsNamedRowIn, IsRefRowIn};
 ghost use Rattle.tm_ground.specs.Limits.{is_named, is_ref};
 ghost use Rattle.tm_ground.specs.Occurs.{all_fields, parts_of, sides_of};
-ghost use Rattle.tm_ground.specs.Sets.{closed_types, types_in};
+ghost use Rattle.tm_ground.specs.Sets.{closed_types};
 
 use crate::fields::written_fields;
 use crate::found::Found;
@@ -109,7 +109,8 @@ fn numbered_ask(alloc: Global, found: &Found, ask: &OpenAsk) -> Result<Ask, Memo
 /// The rows of the named types, in their order.
 fn named_rows(alloc: Global, resolved: &Resolved, found: &Found) -> Result<List<NamedRow>, Memory>
     requires { IsAllOf found.now resolved.now }
-    ensures { IfOk result (AllZip (IsNamedRowIn found.now resolved.now) (types_in found.now.named)) }
+    ensures { IfOk result
+        (AllZip (IsNamedRowIn found.now resolved.now) (closed_types found.now.named)) }
 {
     let mut rows = List::new(alloc);
     for ty in found.named.types() {
@@ -120,9 +121,9 @@ fn named_rows(alloc: Global, resolved: &Resolved, found: &Found) -> Result<List<
 
 /// The rows of the reference types, in their order.
 fn ref_rows(alloc: Global, found: &Found) -> Result<List<RefRow>, Memory>
-    requires kind { All (λ c. is_ref c ≡ true) (types_in found.now.refs) }
-    requires numbers { HaveNumbersIn found.now (types_in found.now.refs) }
-    ensures { IfOk result (AllZip (IsRefRowIn found.now) (types_in found.now.refs)) }
+    requires kind { All (λ c. is_ref c ≡ true) (closed_types found.now.refs) }
+    requires numbers { HaveNumbersIn found.now (closed_types found.now.refs) }
+    ensures { IfOk result (AllZip (IsRefRowIn found.now) (closed_types found.now.refs)) }
 {
     let mut rows = List::new(alloc);
     for ty in found.refs.types() {

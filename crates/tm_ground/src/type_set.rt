@@ -4,7 +4,7 @@ ghost use Rattle.tm_base.specs.Whole.{AreDistinct};
 ghost use Rattle.tm_ground.specs.Closed.{closed, put_in};
 ghost use Rattle.tm_ground.specs.Codes.{code_of};
 ghost use Rattle.tm_ground.specs.Growing.{Adding};
-ghost use Rattle.tm_ground.specs.Sets.{closed_types, types_in};
+ghost use Rattle.tm_ground.specs.Sets.{closed_types};
 
 use crate::code::Code;
 use crate::regions::fixed;
@@ -44,7 +44,7 @@ impl Model for TypeSet {
 impl TypeSet {
     /// No types.
     pub fn new(alloc: Global) -> TypeSet
-        ensures { types_in result ≡ [] }
+        ensures { closed_types result ≡ [] }
     {
         TypeSet {
             keys: IndexSet::new(alloc),
@@ -54,7 +54,7 @@ impl TypeSet {
 
     /// The types, in their order.
     pub fn types(&self) -> &[Open]
-        ensures { closed_types result.now ≡ types_in self.now }
+        ensures { closed_types result.now ≡ closed_types self.now }
     {
         self.types.as_slice()
     }
@@ -62,9 +62,9 @@ impl TypeSet {
     /// Where the type of a code stands; `None` exactly where it isn't among these.
     fn place(&self, code: &Code) -> Option<usize>
         ensures found { IfSome result (λ place.
-            slice_get (map code_of (types_in self.now)) place ≡ Some code.now.numbers.items) }
+            slice_get (map code_of (closed_types self.now)) place ≡ Some code.now.numbers.items) }
         ensures absent { IfNone result
-            (¬ Contains (map code_of (types_in self.now)) code.now.numbers.items) }
+            (¬ Contains (map code_of (closed_types self.now)) code.now.numbers.items) }
     {
         self.keys.get_index_of(code)
     }
@@ -77,10 +77,10 @@ impl TypeSet {
         args: &[Open],
         ty: &Open,
     ) -> Result<Option<usize>, Memory>
-        ensures found { IfOk result (λ place. IfSome place (λ k. slice_get (types_in self.now) k
+        ensures found { IfOk result (λ place. IfSome place (λ k. slice_get (closed_types self.now) k
             ≡ Some (put_in regions.now (closed_types args.now) ty.now))) }
         ensures absent { IfOk result (λ place. IfNone place
-            (¬ Contains (types_in self.now) (put_in regions.now (closed_types args.now) ty.now))) }
+            (¬ Contains (closed_types self.now) (put_in regions.now (closed_types args.now) ty.now))) }
     {
         let code = Code::of(alloc, regions, args, ty)?;
         Ok(self.place(&code))
@@ -88,8 +88,8 @@ impl TypeSet {
 
     /// Adds a type where it isn't among these, as long as there are no more than so many.
     pub fn insert(&mut self, alloc: Global, limit: usize, ty: &Open) -> Result<(), Stop>
-        ensures { Adding limit (types_in self.old) (closed ty.now ∷ [])
-            (types_in self.new) result }
+        ensures { Adding limit (closed_types self.old) (closed ty.now ∷ [])
+            (closed_types self.new) result }
     {
         let Ok(code) = Code::of(alloc, &[], &[], ty) else {
             return Err(Stop::Memory);
@@ -114,8 +114,8 @@ impl TypeSet {
     /// the types stay as they were.
     fn push(&mut self, code: Code, ty: Open) -> Result<(), Memory>
         requires code { code.numbers.items ≡ code_of (closed ty) }
-        requires absent { ¬ Contains (map code_of (types_in self.old)) code.numbers.items }
-        ensures { OnOk result (types_in self.new ≡ types_in self.old ++ closed ty ∷ []) }
+        requires absent { ¬ Contains (map code_of (closed_types self.old)) code.numbers.items }
+        ensures { OnOk result (closed_types self.new ≡ closed_types self.old ++ closed ty ∷ []) }
     {
         self.keys.insert(code)?;
         match self.types.push(ty) {
@@ -130,7 +130,7 @@ impl TypeSet {
     /// Types of which no two are one, in this order.
     pub fn of(alloc: Global, types: List<Open>) -> Result<TypeSet, Memory>
         requires { AreDistinct (closed_types types) }
-        ensures { IfOk result (λ set. types_in set ≡ closed_types types) }
+        ensures { IfOk result (λ set. closed_types set ≡ closed_types types) }
     {
         let mut keys = IndexSet::new(alloc);
         for ty in types.as_slice() {

@@ -3,7 +3,7 @@ use Rattle.std.proofs.lemmas.Bool.Decides.{Decides-eqb}
 use Rattle.std.proofs.lemmas.List.{length-map}
 use Rattle.tm_ground.specs.Closed.{as_elements, put_in, tuple}
 use Rattle.tm_ground.specs.Numbered.{HasNumbers}
-use Rattle.tm_ground.specs.Sets.{closed_types, types_in}
+use Rattle.tm_ground.specs.Sets.{closed_types}
 use Rattle.tm_ground.proofs.NumberLemmas.{has-Array, has-Wrap, has-Tuple, has-Named, has-Ref, numbers-Prim, numbers-Never, numbers-Param, numbers-Array, numbers-NonZero, numbers-Wrap, numbers-Named, numbers-Ref, tuple-numbered, unit-numbered, numbered-more, contains-map, numbers-result}
 use Rattle.tm_ground.proofs.OpenLemmas.{put_in-Tuple, put_in-Param, argument-at, argument-none, not-below}
 use Rattle.tm_ground.proofs.SizeLemmas.{size_of, sizes_of, size-Array, size-Tuple, size-Wrap, size_of-at, size_of-some}
@@ -21,29 +21,29 @@ all_numbered-loop-ty-preserved t c =
 pub numbered-numbered_tuple-requires : goal.numbered-numbered_tuple-requires
 numbered-numbered_tuple-requires t c =
     let size : size_of c.args.ty.now ≡ 1 + sizes_of c.as_slice.result.now = rw (c.in-Tuple.is, c.as_slice.ensures) (size-Tuple _) in
-    let has = subst (λ w. HasNumbers (types_in c.args.found.now.named) (types_in c.args.found.now.refs) (put_in c.args.regions.now (closed_types c.args.args.now) w)) c.in-Tuple.is c.requires in
+    let has = subst (λ w. HasNumbers (closed_types c.args.found.now.named) (closed_types c.args.found.now.refs) (put_in c.args.regions.now (closed_types c.args.args.now) w)) c.in-Tuple.is c.requires in
     (omega (arith, size), rw c.as_slice.ensures (has-Tuple _ _ _ _ _ has))
 
 pub numbered-numbered-requires : goal.numbered-numbered-requires
 numbered-numbered-requires t c =
     let size : size_of c.args.ty.now ≡ 1 + size_of c.get.result.now = rw (c.in-Array.is, c.get.ensures) (size-Array _ _) in
-    let has = subst (λ w. HasNumbers (types_in c.args.found.now.named) (types_in c.args.found.now.refs) (put_in c.args.regions.now (closed_types c.args.args.now) w)) c.in-Array.is c.requires in
+    let has = subst (λ w. HasNumbers (closed_types c.args.found.now.named) (closed_types c.args.found.now.refs) (put_in c.args.regions.now (closed_types c.args.args.now) w)) c.in-Array.is c.requires in
     (omega (arith, size), rw c.get.ensures (has-Array _ _ _ _ _ _ has))
 
 pub numbered-numbered-requires-in-Wrap : goal.numbered-numbered-requires-in-Wrap
 numbered-numbered-requires-in-Wrap t c =
     let size : size_of c.args.ty.now ≡ 1 + size_of c.get-in-Wrap.result.now = rw (c.in-Wrap.is, c.get-in-Wrap.ensures) (size-Wrap _ _) in
-    let has = subst (λ w. HasNumbers (types_in c.args.found.now.named) (types_in c.args.found.now.refs) (put_in c.args.regions.now (closed_types c.args.args.now) w)) c.in-Wrap.is c.requires in
+    let has = subst (λ w. HasNumbers (closed_types c.args.found.now.named) (closed_types c.args.found.now.refs) (put_in c.args.regions.now (closed_types c.args.args.now) w)) c.in-Wrap.is c.requires in
     (omega (arith, size), rw c.get-in-Wrap.ensures (has-Wrap _ _ _ _ _ _ has))
 
 pub numbered-place-requires-clause-there : goal.numbered-place-requires-clause-there
 numbered-place-requires-clause-there t c =
-    let has = subst (λ w. HasNumbers (types_in c.args.found.now.named) (types_in c.args.found.now.refs) (put_in c.args.regions.now (closed_types c.args.args.now) w)) c.in-Named.is c.requires in
+    let has = subst (λ w. HasNumbers (closed_types c.args.found.now.named) (closed_types c.args.found.now.refs) (put_in c.args.regions.now (closed_types c.args.args.now) w)) c.in-Named.is c.requires in
     rw c.in-Named.is (has-Named _ _ _ _ _ _ _ has)
 
 pub numbered-place-requires-in-Ref-clause-there : goal.numbered-place-requires-in-Ref-clause-there
 numbered-place-requires-in-Ref-clause-there t c =
-    let has = subst (λ w. HasNumbers (types_in c.args.found.now.named) (types_in c.args.found.now.refs) (put_in c.args.regions.now (closed_types c.args.args.now) w)) c.in-Ref.is c.requires in
+    let has = subst (λ w. HasNumbers (closed_types c.args.found.now.named) (closed_types c.args.found.now.refs) (put_in c.args.regions.now (closed_types c.args.args.now) w)) c.in-Ref.is c.requires in
     rw c.in-Ref.is (has-Ref _ _ _ _ _ _ _ has)
 
 pub numbered-returns-in-Prim : goal.numbered-returns-in-Prim

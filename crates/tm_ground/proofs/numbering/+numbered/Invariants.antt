@@ -2,14 +2,14 @@ use Rattle.std.proofs.Common.{◌+◌, ◌*◌, map, take}
 use Rattle.std.specs.List.{AllZip}
 use Rattle.tm_ground.specs.Closed.{put_in}
 use Rattle.tm_ground.specs.Numbered.{IsNumbered}
-use Rattle.tm_ground.specs.Sets.{closed_types, types_in}
+use Rattle.tm_ground.specs.Sets.{closed_types}
 use Rattle.tm_ground.proofs.SizeLemmas.{size_of, sizes_of}
 use Rattle.tm_ground.proofs.numbering.+numbered.Given as goal
 
 -- the types made so far are the first ones
 abbrev pub invariant-all_numbered-loop-ty : goal.invariant-all_numbered-loop-ty
 invariant-all_numbered-loop-ty l =
-    AllZip (IsNumbered (types_in l.found.named) (types_in l.found.refs)) (map (put_in l.regions (closed_types l.args)) (take l.ty-index l.types)) l.all
+    AllZip (IsNumbered (closed_types l.found.named) (closed_types l.found.refs)) (map (put_in l.regions (closed_types l.args)) (take l.ty-index l.types)) l.all
 
 -- an argument that is put in has no arguments put in
 abbrev pub decreases-numbered : goal.decreases-numbered

@@ -1,6 +1,6 @@
 use Rattle.std.proofs.lemmas.List.Elements.{All-contains}
 use Rattle.tm_ground.specs.Limits.{is_named, is_ref, OccursAs}
-use Rattle.tm_ground.specs.Sets.{types_in}
+use Rattle.tm_ground.specs.Sets.{closed_types}
 use Rattle.tm_ground.proofs.HasNumbersLemmas.{have-numbers}
 use Rattle.tm_ground.proofs.OrderLemmas.{in-order, moved-whole}
 use Rattle.tm_ground.proofs.RowLemmas.{all-rows, world-of}
@@ -23,8 +23,8 @@ returns-clause-whole c =
 
 pub returns-clause-named : goal.returns-clause-named
 returns-clause-named c =
-    in-order c.args.resolved.now _ _ c.requires.whole c.in_ok-world.world (world-of _ _ _ _ _ c.requires.rows c.in_ok-world.ensures) is_named (types_in c.args.found.now.named) _ c.requires.whole.rows.all.each c.in_ok-in_text_order.ensures.moved c.in_ok-in_text_order.ensures.sorted
+    in-order c.args.resolved.now _ _ c.requires.whole c.in_ok-world.world (world-of _ _ _ _ _ c.requires.rows c.in_ok-world.ensures) is_named (closed_types c.args.found.now.named) _ c.requires.whole.rows.all.each c.in_ok-in_text_order.ensures.moved c.in_ok-in_text_order.ensures.sorted
 
 pub returns-clause-refs : goal.returns-clause-refs
 returns-clause-refs c =
-    in-order c.args.resolved.now _ _ c.requires.whole c.in_ok-world.world (world-of _ _ _ _ _ c.requires.rows c.in_ok-world.ensures) is_ref (types_in c.args.found.now.refs) _ c.requires.whole.refs.all.each c.in_ok-in_text_order-2.ensures.moved c.in_ok-in_text_order-2.ensures.sorted
+    in-order c.args.resolved.now _ _ c.requires.whole c.in_ok-world.world (world-of _ _ _ _ _ c.requires.rows c.in_ok-world.ensures) is_ref (closed_types c.args.found.now.refs) _ c.requires.whole.refs.all.each c.in_ok-in_text_order-2.ensures.moved c.in_ok-in_text_order-2.ensures.sorted

@@ -4,7 +4,7 @@ use Rattle.std.proofs.lemmas.List.Elements.{All-contains}
 use Rattle.tm_ground.specs.Closed.{closed}
 use Rattle.tm_ground.specs.Limits.{is_named, OccursAs}
 use Rattle.tm_ground.specs.Rows.{IsNamedRow}
-use Rattle.tm_ground.specs.Sets.{closed_types, types_in}
+use Rattle.tm_ground.specs.Sets.{closed_types}
 use Rattle.tm_ground.proofs.HasNumbersLemmas.{have-numbers}
 use Rattle.tm_ground.proofs.NumberLemmas.{contains-map, numbered-more}
 use Rattle.tm_ground.proofs.SmallLemmas.{occurring-part}
@@ -28,4 +28,4 @@ loop-ty-preserved c =
 pub returns : goal.returns
 returns c =
     let all = ap closed_types (take_all c.loop-ty.ty-index c.types-ty-items.result.now (omega (arith, c.loop-ty-test.false))) ∙ c.types-ty-items.ensures in
-    subst (λ cs. AllZip (IsNamedRow (types_in c.args.found.now.named) (types_in c.args.found.now.refs) c.args.resolved.now) cs c.loop-ty.rows) all c.loop-ty.invariant
+    subst (λ cs. AllZip (IsNamedRow (closed_types c.args.found.now.named) (closed_types c.args.found.now.refs) c.args.resolved.now) cs c.loop-ty.rows) all c.loop-ty.invariant

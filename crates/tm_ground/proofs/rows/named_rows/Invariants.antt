@@ -1,9 +1,9 @@
 use Rattle.std.proofs.Common.{take}
 use Rattle.std.specs.List.{AllZip}
 use Rattle.tm_ground.specs.Rows.{IsNamedRow}
-use Rattle.tm_ground.specs.Sets.{closed_types, types_in}
+use Rattle.tm_ground.specs.Sets.{closed_types}
 use Rattle.tm_ground.proofs.rows.named_rows.Given as goal
 
 -- the rows made so far are of the first types
 abbrev pub invariant-loop-ty : goal.invariant-loop-ty
-invariant-loop-ty l = AllZip (IsNamedRow (types_in l.found.named) (types_in l.found.refs) l.resolved) (closed_types (take l.ty-index l.ty-items)) l.rows
+invariant-loop-ty l = AllZip (IsNamedRow (closed_types l.found.named) (closed_types l.found.refs) l.resolved) (closed_types (take l.ty-index l.ty-items)) l.rows

@@ -34,33 +34,31 @@ add-add-requires-in-Ref t c =
     let same : size_of c.args.ty.now ≡ 1 + size_of c.get-in-Ref.result.now = rw (c.in-Ref.is, c.get-in-Ref.ensures) (size-Ref _ _ _) in
     (omega (arith, same), tt)
 
-pub add-returns-in_ok-add_number-in-Prim : goal.add-returns-in_ok-add_number-in-Prim
-add-returns-in_ok-add_number-in-Prim t c =
-    rw (c.in-Prim.is, code-Prim) (rw (c.in_ok-add_number-in-Prim.ensures, c.number_of_primitive.ensures, append_assoc) at c.add_number-in-Prim.ensures)
+pub add-returns-in-Prim : goal.add-returns-in-Prim
+add-returns-in-Prim t c = rw (c.in-Prim.is, code-Prim) (rw c.number_of_primitive.ensures at c.add_numbers.ensures)
 
-pub add-returns-in_ok-add_number-in-NonZero : goal.add-returns-in_ok-add_number-in-NonZero
-add-returns-in_ok-add_number-in-NonZero t c =
-    rw (c.in-NonZero.is, code-NonZero) (rw (c.in_ok-add_number-in-NonZero.ensures, c.number_of_primitive-in-NonZero.ensures, append_assoc) at c.add_number-in-NonZero-2.ensures)
+pub add-returns-in-NonZero : goal.add-returns-in-NonZero
+add-returns-in-NonZero t c = rw (c.in-NonZero.is, code-NonZero) (rw c.number_of_primitive-in-NonZero.ensures at c.add_numbers-in-NonZero.ensures)
 
-pub add-returns-in_ok-add_number-in-Tuple : goal.add-returns-in_ok-add_number-in-Tuple
-add-returns-in_ok-add_number-in-Tuple t c =
-    rw (c.in-Tuple.is, code-Tuple) (rw (c.in_ok-add_number-in-Tuple.ensures, c.as_slice.ensures, append_assoc) at c.add_all.ensures)
+pub add-returns-in_ok-add_numbers-in-Tuple : goal.add-returns-in_ok-add_numbers-in-Tuple
+add-returns-in_ok-add_numbers-in-Tuple t c =
+    rw (c.in-Tuple.is, code-Tuple) (rw (c.in_ok-add_numbers-in-Tuple.ensures, c.as_slice.ensures, append_assoc) at c.add_all.ensures)
 
-pub add-returns-in_ok-add_number-in-Array-2 : goal.add-returns-in_ok-add_number-in-Array-2
-add-returns-in_ok-add_number-in-Array-2 t c =
-    rw (c.in-Array.is, code-Array) (rw (c.in_ok-add_number-in-Array-2.ensures, c.in_ok-add_number-in-Array.ensures, c.get.ensures, append_assoc, append_assoc) at c.add.ensures)
+pub add-returns-in_ok-add_numbers-in-Array : goal.add-returns-in_ok-add_numbers-in-Array
+add-returns-in_ok-add_numbers-in-Array t c =
+    rw (c.in-Array.is, code-Array) (rw (c.in_ok-add_numbers-in-Array.ensures, c.get.ensures, append_assoc) at c.add.ensures)
 
-pub add-returns-in_ok-add_number-in-Wrap-2 : goal.add-returns-in_ok-add_number-in-Wrap-2
-add-returns-in_ok-add_number-in-Wrap-2 t c =
-    rw (c.in-Wrap.is, code-Wrap) (rw (c.in_ok-add_number-in-Wrap-2.ensures, c.in_ok-add_number-in-Wrap.ensures, c.number_of_wrapper.ensures, c.get-in-Wrap.ensures, append_assoc, append_assoc) at c.add-in-Wrap.ensures)
+pub add-returns-in_ok-add_numbers-in-Wrap : goal.add-returns-in_ok-add_numbers-in-Wrap
+add-returns-in_ok-add_numbers-in-Wrap t c =
+    rw (c.in-Wrap.is, code-Wrap) (rw (c.in_ok-add_numbers-in-Wrap.ensures, c.number_of_wrapper.ensures, c.get-in-Wrap.ensures, append_assoc) at c.add-in-Wrap.ensures)
 
 pub add-returns-in_ok-add_lives-in-Named : goal.add-returns-in_ok-add_lives-in-Named
 add-returns-in_ok-add_lives-in-Named t c =
-    rw (c.in-Named.is, code-Named) (rw (c.in_ok-add_lives-in-Named.ensures, c.in_ok-add_number-in-Named-2.ensures, c.in_ok-add_number-in-Named.ensures, c.as_slice-in-Named.ensures, c.as_slice-in-Named-2.ensures, append_assoc, append_assoc, append_assoc) at c.add_all-in-Named.ensures)
+    rw (c.in-Named.is, code-Named) (rw (c.in_ok-add_lives-in-Named.ensures, c.in_ok-add_numbers-in-Named.ensures, c.as_slice-in-Named.ensures, c.as_slice-in-Named-2.ensures, append_assoc, append_assoc) at c.add_all-in-Named.ensures)
 
-pub add-returns-in_ok-add_number-in-Ref-3 : goal.add-returns-in_ok-add_number-in-Ref-3
-add-returns-in_ok-add_number-in-Ref-3 t c =
-    rw (c.in-Ref.is, code-Ref) (rw (c.in_ok-add_number-in-Ref-3.ensures, c.in_ok-add_number-in-Ref-2.ensures, c.in_ok-add_number-in-Ref.ensures, c.region.ensures, c.number_of_flag.ensures, c.get-in-Ref.ensures, append_assoc, append_assoc, append_assoc) at c.add-in-Ref.ensures)
+pub add-returns-in_ok-add_numbers-in-Ref : goal.add-returns-in_ok-add_numbers-in-Ref
+add-returns-in_ok-add_numbers-in-Ref t c =
+    rw (c.in-Ref.is, code-Ref) (rw (c.in_ok-add_numbers-in-Ref.ensures, c.region-region.ensures, c.number_of_flag.ensures, c.get-in-Ref.ensures, append_assoc) at c.add-in-Ref.ensures)
 
 pub add-add-requires-in-Some : goal.add-add-requires-in-Some
 add-add-requires-in-Some t c =
@@ -75,7 +73,7 @@ add-returns-in-Some t c =
 pub add-returns-in-None : goal.add-returns-in-None
 add-returns-in-None t c =
     let none = code-Param c.args.regions.now _ c.in-Param.place (sym (argument-none c.args.args.now c.in-Param.place (not-below _ _ c.in-None.ensures.lookup.0))) in
-    rw (c.in-Param.is, none) c.add_number-in-None.ensures
+    rw (c.in-Param.is, none) c.add_numbers-in-None.ensures
 
 pub add-returns-in-Never : goal.add-returns-in-Never
-add-returns-in-Never t c = rw (c.in-Never.is, code-Never) c.add_number-in-Never.ensures
+add-returns-in-Never t c = rw (c.in-Never.is, code-Never) c.add_numbers-in-Never.ensures
