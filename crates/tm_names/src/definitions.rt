@@ -21,7 +21,8 @@ fn note<'a>(
     number: usize,
 ) -> Result<(), Memory>
     ensures { OnOk result ((bytes : List ℕ) → get_by (λ key. bytes_eq bytes key.now) firsts.new
-        ≡ option_or (get_by (λ key. bytes_eq bytes key.now) firsts.old) (if bytes_eq name.now bytes then Some number else None)) }
+        ≡ option_or (get_by (λ key. bytes_eq bytes key.now) firsts.old)
+        (if bytes_eq name.now bytes then Some number else None)) }
 {
     if firsts.contains_key(name) {
         return Ok(());

@@ -10,69 +10,17 @@ ghost use Rattle.tm_names.specs.Source.{names_in};
 
 use crate::adding::add;
 use crate::closure::{closure, is_cyclic};
-use crate::forms::{items, note_repr, tag};
+use crate::forms::{items, tag};
 use crate::indexed::Definitions;
-use crate::least::{NameFault, note};
-use crate::listing::{decl_names, note_lists};
+use crate::least::{Faults, NameFault};
+use crate::listing::decl_names;
 use crate::mentioning::{add_mentions, mentions};
 use crate::mentions::Mention;
-use crate::noting::{note_mentions, note_repeats, note_reserved};
 use crate::own::{own_rows, rows};
-use crate::ranges::note_values;
 use crate::source::Source;
 use std::alloc::Global;
 use tm_base::{List, Memory, NameWhy};
 use tm_parse::{Decl, DeclAsk, DeclBound, Parsed};
-
-/// The first of some faults, and of those of a definition, but for that it holds itself.
-fn note_decl(
-    alloc: Global,
-    first: Option<NameFault>,
-    source: &Source,
-    definitions: &Definitions,
-    decl: &Decl,
-) -> Result<Option<NameFault>, Memory>
-    requires { IsIndexed (names_in source.now) definitions.now }
-    ensures { IfOk result (λ found. found ≡ earliest first
-        (decl_faults source.now.profile (names_in source.now) definitions.now.decls.now decl.now)) }
-{
-    let items = items(alloc, decl)?;
-    let mentions = mentions(alloc, decl)?;
-    let params = decl.params.as_slice();
-    let first = note_lists(alloc, first, source, decl)?;
-    let first = note_reserved(first, source, params);
-    let types = decl.type_params.as_slice();
-    let first = note_mentions(
-        first,
-        source,
-        definitions,
-        params,
-        types,
-        mentions.as_slice(),
-    );
-    let tag = tag(items.as_slice());
-    let first = note_values(alloc, first, source.profile, tag, decl.variants.as_slice())?;
-    Ok(note_repr(first, decl, items.as_slice()))
-}
-
-/// The first of some faults, and of those of definitions, but for that some hold themselves.
-fn note_decls(
-    alloc: Global,
-    first: Option<NameFault>,
-    source: &Source,
-    definitions: &Definitions,
-) -> Result<Option<NameFault>, Memory>
-    requires { IsIndexed (names_in source.now) definitions.now }
-    ensures { IfOk result (λ found. found ≡ earliest first
-        (flat_map (decl_faults source.now.profile (names_in source.now) definitions.now.decls.now)
-        definitions.now.decls.now)) }
-{
-    let mut first = first;
-    for decl in definitions.decls {
-        first = note_decl(alloc, first, source, definitions, decl)?;
-    }
-    Ok(first)
-}
 
 /// Puts what items `outlives` mention behind the rest.
 fn add_bounds(found: &mut List<Mention>, bounds: &[DeclBound]) -> Result<(), Memory>
@@ -96,52 +44,98 @@ fn add_asks(found: &mut List<Mention>, asks: &[DeclAsk]) -> Result<(), Memory>
     Ok(())
 }
 
-/// The first of some faults, and of those of what stands outside of definitions.
-fn note_outer(
-    alloc: Global,
-    first: Option<NameFault>,
-    source: &Source,
-    definitions: &Definitions,
-    parsed: &Parsed,
-) -> Result<Option<NameFault>, Memory>
-    requires { IsIndexed (names_in source.now) definitions.now }
-    ensures { IfOk result (λ found. found ≡ earliest first
-        (scope_faults (names_in source.now) definitions.now.decls.now (outer_scope parsed.now))) }
-{
-    let mut mentions = List::new(alloc);
-    add_bounds(&mut mentions, parsed.bounds.as_slice())?;
-    add_asks(&mut mentions, parsed.questions.as_slice())?;
-    let sight = parsed.lifetimes.as_slice();
-    Ok(note_mentions(first, source, definitions, sight, &[], mentions.as_slice()))
-}
-
-/// The first of some faults, and of those of definitions from which a way leads back.
-fn note_cyclic(first: Option<NameFault>, decls: &[Decl], closed: &[List<bool>]) -> Option<NameFault>
-    ensures { result ≡ earliest first (infinite_faults (λ i. bit_at (row_at closed.now i) i)
-        decls.now) }
-{
-    let mut first = first;
-    for (number, decl) in decls.iter().enumerate() {
-        let cyclic = is_cyclic(closed, number);
-        first = note(first, cyclic, NameWhy::Infinite, decl.name);
+impl Faults {
+    /// Takes note of the faults of a definition, but for that it holds itself.
+    fn note_decl(
+        &mut self,
+        alloc: Global,
+        source: &Source,
+        definitions: &Definitions,
+        decl: &Decl,
+    ) -> Result<(), Memory>
+        requires { IsIndexed (names_in source.now) definitions.now }
+        ensures { OnOk result (self.new.first ≡ earliest self.old.first (decl_faults
+            source.now.profile (names_in source.now) definitions.now.decls.now decl.now)) }
+    {
+        let items = items(alloc, decl)?;
+        let mentions = mentions(alloc, decl)?;
+        let params = decl.params.as_slice();
+        self.note_lists(alloc, source, decl)?;
+        self.note_reserved(source, params);
+        let types = decl.type_params.as_slice();
+        self.note_mentions(source, definitions, params, types, mentions.as_slice());
+        let tag = tag(items.as_slice());
+        self.note_values(alloc, source.profile, tag, decl.variants.as_slice())?;
+        self.note_repr(decl, items.as_slice());
+        Ok(())
     }
-    first
-}
 
-/// The first of some faults, and of those of definitions that hold themselves.
-fn note_infinite(
-    alloc: Global,
-    first: Option<NameFault>,
-    source: &Source,
-    definitions: &Definitions,
-) -> Result<Option<NameFault>, Memory>
-    requires { IsIndexed (names_in source.now) definitions.now }
-    ensures { IfOk result (WithInfinite (names_in source.now) definitions.now.decls.now first) }
-{
-    let own = own_rows(alloc, source, definitions)?;
-    let rows = rows(alloc, source, definitions, own.as_slice())?;
-    let closed = closure(alloc, rows)?;
-    Ok(note_cyclic(first, definitions.decls, closed.as_slice()))
+    /// Takes note of the faults of definitions, but for that some hold themselves.
+    fn note_decls(
+        &mut self,
+        alloc: Global,
+        source: &Source,
+        definitions: &Definitions,
+    ) -> Result<(), Memory>
+        requires { IsIndexed (names_in source.now) definitions.now }
+        ensures { OnOk result (self.new.first ≡ earliest self.old.first (flat_map (decl_faults
+            source.now.profile (names_in source.now) definitions.now.decls.now)
+            definitions.now.decls.now)) }
+    {
+        for decl in definitions.decls {
+            self.note_decl(alloc, source, definitions, decl)?;
+        }
+        Ok(())
+    }
+
+    /// Takes note of the faults of what stands outside of definitions.
+    fn note_outer(
+        &mut self,
+        alloc: Global,
+        source: &Source,
+        definitions: &Definitions,
+        parsed: &Parsed,
+    ) -> Result<(), Memory>
+        requires { IsIndexed (names_in source.now) definitions.now }
+        ensures { OnOk result (self.new.first ≡ earliest self.old.first (scope_faults
+            (names_in source.now) definitions.now.decls.now (outer_scope parsed.now))) }
+    {
+        let mut mentions = List::new(alloc);
+        add_bounds(&mut mentions, parsed.bounds.as_slice())?;
+        add_asks(&mut mentions, parsed.questions.as_slice())?;
+        let sight = parsed.lifetimes.as_slice();
+        self.note_mentions(source, definitions, sight, &[], mentions.as_slice());
+        Ok(())
+    }
+
+    /// Takes note of the definitions from which a way leads back.
+    fn note_cyclic(&mut self, decls: &[Decl], closed: &[List<bool>])
+        ensures { self.new.first ≡ earliest self.old.first
+            (infinite_faults (λ i. bit_at (row_at closed.now i) i) decls.now) }
+    {
+        for (number, decl) in decls.iter().enumerate() {
+            let cyclic = is_cyclic(closed, number);
+            self.note(cyclic, NameWhy::Infinite, decl.name);
+        }
+    }
+
+    /// Takes note of the definitions that hold themselves.
+    fn note_infinite(
+        &mut self,
+        alloc: Global,
+        source: &Source,
+        definitions: &Definitions,
+    ) -> Result<(), Memory>
+        requires { IsIndexed (names_in source.now) definitions.now }
+        ensures { OnOk result (WithInfinite (names_in source.now) definitions.now.decls.now
+            self.old.first self.new.first) }
+    {
+        let own = own_rows(alloc, source, definitions)?;
+        let rows = rows(alloc, source, definitions, own.as_slice())?;
+        let closed = closure(alloc, rows)?;
+        self.note_cyclic(definitions.decls, closed.as_slice());
+        Ok(())
+    }
 }
 
 /// The first name fault of a file with these definitions.
@@ -157,10 +151,12 @@ pub fn first_fault(
 {
     let lifetimes = parsed.lifetimes.as_slice();
     let names = decl_names(alloc, definitions.decls)?;
-    let first = note_repeats(None, source, names.as_slice());
-    let first = note_repeats(first, source, lifetimes);
-    let first = note_reserved(first, source, lifetimes);
-    let first = note_decls(alloc, first, source, definitions)?;
-    let first = note_outer(alloc, first, source, definitions, parsed)?;
-    note_infinite(alloc, first, source, definitions)
+    let mut faults = Faults::new();
+    faults.note_repeats(source, names.as_slice());
+    faults.note_repeats(source, lifetimes);
+    faults.note_reserved(source, lifetimes);
+    faults.note_decls(alloc, source, definitions)?;
+    faults.note_outer(alloc, source, definitions, parsed)?;
+    faults.note_infinite(alloc, source, definitions)?;
+    Ok(faults.first)
 }

@@ -7,7 +7,7 @@ ghost use Rattle.tm_names.specs.Least.{earliest};
 ghost use Rattle.tm_names.specs.Representations.{has_field, is_enum_form, is_form, is_struct_form, is_union_form, items_of, tag_in, tag_of_item};
 
 use crate::adding::add;
-use crate::least::{NameFault, note};
+use crate::least::Faults;
 use std::alloc::Global;
 use tm_base::{Kind, List, Memory, NameWhy, Primitive};
 use tm_parse::{Decl, DeclRepr, DeclVariant, ReprItem};
@@ -144,21 +144,23 @@ pub fn tag(items: &[ReprItem]) -> Option<Primitive>
     None
 }
 
-/// The first of some faults, where one more stands at the first item if something is wrong.
-fn note_first(first: Option<NameFault>, wrong: bool, reprs: &[DeclRepr]) -> Option<NameFault>
-    ensures { result ≡ earliest first (first_repr wrong reprs.now) }
-{
-    match reprs {
-        [] => first,
-        [repr, ..] => note(first, wrong, NameWhy::BadRepr, repr.token),
+impl Faults {
+    /// Takes note of a fault at the first item, if there is one and something is wrong.
+    fn note_first(&mut self, wrong: bool, reprs: &[DeclRepr])
+        ensures { self.new.first ≡ earliest self.old.first (first_repr wrong reprs.now) }
+    {
+        match reprs {
+            [] => {}
+            [repr, ..] => self.note(wrong, NameWhy::BadRepr, repr.token),
+        }
     }
-}
 
-/// The first of some faults, and of that of a definition's representation, where these are its items.
-pub fn note_repr(first: Option<NameFault>, decl: &Decl, items: &[ReprItem]) -> Option<NameFault>
-    requires { items.now ≡ items_of decl.now }
-    ensures { result ≡ earliest first (repr_faults decl.now) }
-{
-    let wrong = !is_form(decl.kind, decl.variants.as_slice(), items);
-    note_first(first, wrong, decl.reprs.as_slice())
+    /// Takes note of the fault of a definition's representation, where these are its items.
+    pub fn note_repr(&mut self, decl: &Decl, items: &[ReprItem])
+        requires { items.now ≡ items_of decl.now }
+        ensures { self.new.first ≡ earliest self.old.first (repr_faults decl.now) }
+    {
+        let wrong = !is_form(decl.kind, decl.variants.as_slice(), items);
+        self.note_first(wrong, decl.reprs.as_slice());
+    }
 }

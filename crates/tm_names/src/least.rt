@@ -1,4 +1,4 @@
-ghost use Rattle.std.specs.Prelude.{◌≡◌};
+ghost use Rattle.std.specs.Prelude.{◌≡◌, None};
 ghost use Rattle.tm_names.specs.Least.{earliest, fault_where, is_no_later, keep};
 ghost use Rattle.tm_names.specs.Ranks.{rank};
 
@@ -33,23 +33,36 @@ fn is_no_later(fault: NameFault, other: NameFault) -> bool
     fault.place < other.place || fault.place == other.place && rank(fault.why) <= rank(other.why)
 }
 
-/// The first of some faults, where one more is found.
-fn keep(first: Option<NameFault>, fault: NameFault) -> Option<NameFault>
-    ensures { result ≡ keep first fault }
-{
-    match first {
-        Some(kept) if is_no_later(kept, fault) => Some(kept),
-        _ => Some(fault),
-    }
+/// The faults that are found, of which the first is kept.
+#[derive(Clone, Copy, Debug)]
+pub struct Faults {
+    pub first: Option<NameFault>,
 }
 
-/// The first of some faults, where one more stands at a place if something is wrong there.
-pub fn note(first: Option<NameFault>, wrong: bool, why: NameWhy, place: u32) -> Option<NameFault>
-    ensures { result ≡ earliest first (fault_where wrong why place) }
-{
-    if wrong {
-        keep(first, NameFault { why, place })
-    } else {
-        first
+impl Faults {
+    /// None is found.
+    pub fn new() -> Faults
+        ensures { result.first ≡ None }
+    {
+        Faults { first: None }
+    }
+
+    /// Takes note of a fault.
+    fn keep(&mut self, fault: NameFault)
+        ensures { self.new.first ≡ keep self.old.first fault }
+    {
+        match self.first {
+            Some(kept) if is_no_later(kept, fault) => {}
+            _ => self.first = Some(fault),
+        }
+    }
+
+    /// Takes note of a fault at a place, if something is wrong there.
+    pub fn note(&mut self, wrong: bool, why: NameWhy, place: u32)
+        ensures { self.new.first ≡ earliest self.old.first (fault_where wrong why place) }
+    {
+        if wrong {
+            self.keep(NameFault { why, place });
+        }
     }
 }

@@ -5,8 +5,7 @@ ghost use Rattle.tm_names.specs.Least.{earliest};
 ghost use Rattle.tm_names.specs.Source.{names_in};
 
 use crate::adding::add;
-use crate::least::NameFault;
-use crate::noting::note_repeats;
+use crate::least::Faults;
 use crate::source::Source;
 use std::alloc::Global;
 use tm_base::{List, Memory};
@@ -55,37 +54,33 @@ pub fn decl_names(alloc: Global, decls: &[Decl]) -> Result<List<u32>, Memory>
     Ok(names)
 }
 
-/// The first of some faults, and of those of fields whose names stand again in their variant.
-fn note_fields(
-    alloc: Global,
-    first: Option<NameFault>,
-    source: &Source,
-    variants: &[DeclVariant],
-) -> Result<Option<NameFault>, Memory>
-    ensures { IfOk result (λ found. found ≡ earliest first
-        (flat_map (repeats (names_in source.now)) (map field_names variants.now))) }
-{
-    let mut first = first;
-    for variant in variants {
-        let names = field_names(alloc, variant)?;
-        first = note_repeats(first, source, names.as_slice());
+impl Faults {
+    /// Takes note of the fields whose names stand before in their variant.
+    fn note_fields(
+        &mut self,
+        alloc: Global,
+        source: &Source,
+        variants: &[DeclVariant],
+    ) -> Result<(), Memory>
+        ensures { OnOk result (self.new.first ≡ earliest self.old.first
+            (flat_map (repeats (names_in source.now)) (map field_names variants.now))) }
+    {
+        for variant in variants {
+            let names = field_names(alloc, variant)?;
+            self.note_repeats(source, names.as_slice());
+        }
+        Ok(())
     }
-    Ok(first)
-}
 
-/// The first of some faults, and of those of names that stand again in a definition.
-pub fn note_lists(
-    alloc: Global,
-    first: Option<NameFault>,
-    source: &Source,
-    decl: &Decl,
-) -> Result<Option<NameFault>, Memory>
-    ensures { IfOk result (λ found. found ≡ earliest first
-        (flat_map (repeats (names_in source.now)) (decl_lists decl.now))) }
-{
-    let variants = variant_names(alloc, decl)?;
-    let first = note_repeats(first, source, decl.params.as_slice());
-    let first = note_repeats(first, source, decl.type_params.as_slice());
-    let first = note_repeats(first, source, variants.as_slice());
-    note_fields(alloc, first, source, decl.variants.as_slice())
+    /// Takes note of the names that stand before in a list of a definition's.
+    pub fn note_lists(&mut self, alloc: Global, source: &Source, decl: &Decl) -> Result<(), Memory>
+        ensures { OnOk result (self.new.first ≡ earliest self.old.first
+            (flat_map (repeats (names_in source.now)) (decl_lists decl.now))) }
+    {
+        let variants = variant_names(alloc, decl)?;
+        self.note_repeats(source, decl.params.as_slice());
+        self.note_repeats(source, decl.type_params.as_slice());
+        self.note_repeats(source, variants.as_slice());
+        self.note_fields(alloc, source, decl.variants.as_slice())
+    }
 }

@@ -8,39 +8,11 @@ ghost use Rattle.tm_names.specs.Source.{names_in};
 
 use crate::definitions::meaning;
 use crate::indexed::Definitions;
-use crate::least::{NameFault, note};
+use crate::least::Faults;
 use crate::meaning::Meaning;
 use crate::mentions::{Mention, NameMention};
 use crate::source::{Source, is_among, is_reserved, is_static};
 use tm_base::NameWhy;
-
-/// The first of some faults, and of those of a list in which a name stands again.
-pub fn note_repeats(first: Option<NameFault>, source: &Source, places: &[u32]) -> Option<NameFault>
-    ensures { result ≡ earliest first (repeats (names_in source.now) places.now) }
-{
-    let mut first = first;
-    for (number, place) in places.iter().enumerate() {
-        let again = is_among(source, &places[..number], *place);
-        first = note(first, again, NameWhy::Twice, *place);
-    }
-    first
-}
-
-/// The first of some faults, and of those of a list with lifetimes that can't be declared.
-pub fn note_reserved(first: Option<NameFault>, source: &Source, places: &[u32]) -> Option<NameFault>
-    ensures { result ≡ earliest first (reserved (names_in source.now) places.now) }
-{
-    let mut first = first;
-    for place in places {
-        first = note(
-            first,
-            is_reserved(source, *place),
-            NameWhy::Lifetime,
-            *place,
-        );
-    }
-    first
-}
 
 /// Whether the lifetime at a place is in sight.
 fn is_in_sight(source: &Source, sight: &[u32], place: u32) -> bool
@@ -64,68 +36,88 @@ fn takes(definitions: &Definitions, meaning: Meaning, mention: NameMention) -> b
     }
 }
 
-/// The first of some faults, and of that of a name in a type, where these type parameters are in sight.
-fn note_name(
-    first: Option<NameFault>,
-    source: &Source,
-    definitions: &Definitions,
-    types: &[u32],
-    mention: NameMention,
-) -> Option<NameFault>
-    requires { IsIndexed (names_in source.now) definitions.now }
-    ensures { result ≡ earliest first (name_faults definitions.now.decls.now mention
-        (meaning_of (names_in source.now) definitions.now.decls.now types.now mention.place)) }
-{
-    match meaning(source, definitions, types, mention.place) {
-        None => note(first, true, NameWhy::Unknown, mention.place),
-        Some(meaning) => {
-            let differs = !takes(definitions, meaning, mention);
-            note(first, differs, NameWhy::Arity, mention.place)
+impl Faults {
+    /// Takes note of the names in a list that stand before in it.
+    pub fn note_repeats(&mut self, source: &Source, places: &[u32])
+        ensures { self.new.first ≡ earliest self.old.first
+            (repeats (names_in source.now) places.now) }
+    {
+        for (number, place) in places.iter().enumerate() {
+            let again = is_among(source, &places[..number], *place);
+            self.note(again, NameWhy::Twice, *place);
         }
     }
-}
 
-/// The first of some faults, and of that of a mention where these lifetimes and type parameters are in
-/// sight.
-fn note_mention(
-    first: Option<NameFault>,
-    source: &Source,
-    definitions: &Definitions,
-    sight: &[u32],
-    types: &[u32],
-    mention: Mention,
-) -> Option<NameFault>
-    requires { IsIndexed (names_in source.now) definitions.now }
-    ensures { result ≡ earliest first (mention_faults (names_in source.now)
-        definitions.now.decls.now sight.now types.now mention) }
-{
-    match mention {
-        Mention::Name(mention) => note_name(first, source, definitions, types, mention),
-        Mention::Life(place) => {
-            let hidden = !is_in_sight(source, sight, place);
-            note(first, hidden, NameWhy::Lifetime, place)
+    /// Takes note of the lifetimes in a list that can't be declared.
+    pub fn note_reserved(&mut self, source: &Source, places: &[u32])
+        ensures { self.new.first ≡ earliest self.old.first
+            (reserved (names_in source.now) places.now) }
+    {
+        for place in places {
+            self.note(is_reserved(source, *place), NameWhy::Lifetime, *place);
         }
     }
-}
 
-/// The first of some faults, and of those of mentions where these lifetimes and type parameters are in
-/// sight.
-pub fn note_mentions(
-    first: Option<NameFault>,
-    source: &Source,
-    definitions: &Definitions,
-    sight: &[u32],
-    types: &[u32],
-    mentions: &[Mention],
-) -> Option<NameFault>
-    requires { IsIndexed (names_in source.now) definitions.now }
-    ensures { result ≡ earliest first (flat_map
-        (mention_faults (names_in source.now) definitions.now.decls.now sight.now types.now)
-        mentions.now) }
-{
-    let mut first = first;
-    for mention in mentions {
-        first = note_mention(first, source, definitions, sight, types, *mention);
+    /// Takes note of the fault of a name in a type, where these type parameters are in sight.
+    fn note_name(
+        &mut self,
+        source: &Source,
+        definitions: &Definitions,
+        types: &[u32],
+        mention: NameMention,
+    )
+        requires { IsIndexed (names_in source.now) definitions.now }
+        ensures { self.new.first ≡ earliest self.old.first
+            (name_faults definitions.now.decls.now mention (meaning_of (names_in source.now)
+            definitions.now.decls.now types.now mention.place)) }
+    {
+        match meaning(source, definitions, types, mention.place) {
+            None => self.note(true, NameWhy::Unknown, mention.place),
+            Some(meaning) => {
+                let differs = !takes(definitions, meaning, mention);
+                self.note(differs, NameWhy::Arity, mention.place);
+            }
+        }
     }
-    first
+
+    /// Takes note of the fault of a mention, where these lifetimes and type parameters are in sight.
+    fn note_mention(
+        &mut self,
+        source: &Source,
+        definitions: &Definitions,
+        sight: &[u32],
+        types: &[u32],
+        mention: Mention,
+    )
+        requires { IsIndexed (names_in source.now) definitions.now }
+        ensures { self.new.first ≡ earliest self.old.first (mention_faults (names_in source.now)
+            definitions.now.decls.now sight.now types.now mention) }
+    {
+        match mention {
+            Mention::Name(mention) => self.note_name(source, definitions, types, mention),
+            Mention::Life(place) => {
+                let hidden = !is_in_sight(source, sight, place);
+                self.note(hidden, NameWhy::Lifetime, place);
+            }
+        }
+    }
+
+    /// Takes note of the faults of mentions, where these lifetimes and type parameters are in sight.
+    pub fn note_mentions(
+        &mut self,
+        source: &Source,
+        definitions: &Definitions,
+        sight: &[u32],
+        types: &[u32],
+        mentions: &[Mention],
+    )
+        requires { IsIndexed (names_in source.now) definitions.now }
+        ensures { self.new.first ≡ earliest self.old.first (flat_map
+            (mention_faults (names_in source.now) definitions.now.decls.now sight.now types.now)
+            mentions.now) }
+    {
+        for mention in mentions {
+            self.note_mention(source, definitions, sight, types, *mention);
+        }
+    }
 }

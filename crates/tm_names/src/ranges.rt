@@ -1,4 +1,4 @@
-ghost use Rattle.std.specs.Prelude.{◌≡◌, IfOk, []};
+ghost use Rattle.std.specs.Prelude.{◌≡◌, OnOk, []};
 ghost use Rattle.std.specs.Ordering.{int_eq};
 ghost use Rattle.tm_base.specs.Integers.{fits_integer};
 ghost use Rattle.tm_names.specs.Discriminants.{is_in_range};
@@ -9,7 +9,7 @@ ghost use Rattle.tm_names.specs.declared.value.Value.TheVariants as value_is;
 
 use crate::adding::add;
 use crate::counting::{next, value_in};
-use crate::least::{NameFault, note};
+use crate::least::Faults;
 use crate::value::Value;
 use std::alloc::Global;
 use tm_base::{List, Memory, NameWhy, Primitive, Profile};
@@ -97,41 +97,37 @@ fn is_wrong(profile: Profile, tag: Option<Primitive>, before: &[Value], value: V
     false
 }
 
-/// The first of some faults, where one more stands at a name, if there is one, where something is wrong.
-fn note_at(
-    first: Option<NameFault>,
-    wrong: bool,
-    why: NameWhy,
-    name: Option<u32>,
-) -> Option<NameFault>
-    ensures { result ≡ earliest first (fault_at wrong why name) }
-{
-    match name {
-        None => first,
-        Some(place) => note(first, wrong, why, place),
+impl Faults {
+    /// Takes note of a fault at a name, if there is one and something is wrong.
+    fn note_at(&mut self, wrong: bool, why: NameWhy, name: Option<u32>)
+        ensures { self.new.first ≡ earliest self.old.first (fault_at wrong why name) }
+    {
+        match name {
+            None => {}
+            Some(place) => self.note(wrong, why, place),
+        }
     }
-}
 
-/// The first of some faults, and of those of an enum's discriminants.
-pub fn note_values(
-    alloc: Global,
-    first: Option<NameFault>,
-    profile: Profile,
-    tag: Option<Primitive>,
-    variants: &[DeclVariant],
-) -> Result<Option<NameFault>, Memory>
-    ensures { IfOk result (λ found. found ≡ earliest first
-        (value_faults profile tag [] (value_is.AtLeastZero 0) variants.now)) }
-{
-    let mut first = first;
-    let mut before = List::new(alloc);
-    let mut implied = Value::AtLeastZero(0);
-    for variant in variants {
-        let value = value_in(implied, variant);
-        let wrong = is_wrong(profile, tag, before.as_slice(), value);
-        first = note_at(first, wrong, NameWhy::Discriminant, variant.name);
-        add(&mut before, value)?;
-        implied = next(value);
+    /// Takes note of the faults of an enum's discriminants.
+    pub fn note_values(
+        &mut self,
+        alloc: Global,
+        profile: Profile,
+        tag: Option<Primitive>,
+        variants: &[DeclVariant],
+    ) -> Result<(), Memory>
+        ensures { OnOk result (self.new.first ≡ earliest self.old.first
+            (value_faults profile tag [] (value_is.AtLeastZero 0) variants.now)) }
+    {
+        let mut before = List::new(alloc);
+        let mut implied = Value::AtLeastZero(0);
+        for variant in variants {
+            let value = value_in(implied, variant);
+            let wrong = is_wrong(profile, tag, before.as_slice(), value);
+            self.note_at(wrong, NameWhy::Discriminant, variant.name);
+            add(&mut before, value)?;
+            implied = next(value);
+        }
+        Ok(())
     }
-    Ok(first)
 }

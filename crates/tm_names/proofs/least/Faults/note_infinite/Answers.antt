@@ -3,7 +3,7 @@ use Rattle.tm_names.proofs.CyclicLemmas.{tells_infinite}
 use Rattle.tm_names.specs.Closures.{TellsInfinite, closure}
 use Rattle.tm_names.specs.Held.{bit_at, definition_flags, row_at}
 use Rattle.tm_names.specs.Source.{names_in}
-use Rattle.tm_names.proofs.faults.note_infinite.Goals as goal
+use Rattle.tm_names.proofs.least.Faults.note_infinite.Goals as goal
 
 pub returns : goal.returns
 returns c =
