@@ -11,8 +11,7 @@ use Rattle.tm_auto.specs.declared.edge.Edge.{Edge}
 use Rattle.tm_auto.specs.declared.extent.Extent.{Extent}
 use Rattle.tm_auto.specs.declared.extent.Extent.TheVariants.{Dead, Empty, Long}
 use Rattle.tm_auto.specs.Automata.{Automaton, AutoWord, HasOneStateALayer, IsAutomaton}
-use Rattle.tm_auto.specs.Builds.{IsForward, IsReady, CanBegin, CanGrow, MakesTree, IsPlacedTree, IsSealed, HasNoLoose}
-use Rattle.tm_auto.specs.Labels.{Begins}
+use Rattle.tm_auto.specs.Builds.{of_tree, IsForward, IsReady, CanBegin, CanGrow, MakesTree, IsPlacedTree, IsSealed, HasNoLoose}
 use Rattle.tm_auto.specs.Loose.{LooseWord}
 use Rattle.tm_auto.specs.Paths.{here, SpellsTo, Among, IsPath}
 use Rattle.tm_auto.specs.Shapes.{extent_of}
@@ -64,7 +63,7 @@ module _ (t : Tree) (b : Building) (can : CanBegin t b) where
   begin_long c d state h sealed = let none : 0 ≡ length b.head.items = sym (ap length can.head) in placed_some 0 d state h (subst (λ (z : ℕ). IsSealed z 0 c d state) none sealed)
 
   pub begin_empty : extent_of t ≡ Empty → IsPlacedTree t 0 b b 0
-  begin_empty e = placed_none Begins (HasNoChoice t) (leaves_of b.pointer t) (λ A. LooseWord b.pointer (holds A) t) 0 b b 0 (λ A w. (empty_alone b.pointer can.pointer.0 t e can.even A w, λ q. rw q (none A))) (record { pointer = refl; states = refl; edges = refl; head = refl }) refl ready.sound ready.below ready.plain
+  begin_empty e = placed_none (of_tree b.pointer t 0) b b 0 (λ A w. (empty_alone b.pointer can.pointer.0 t e can.even A w, λ q. rw q (none A))) (record { pointer = refl; states = refl; edges = refl; head = refl }) refl ready ready.plain
     where
       none : IsExtent Empty (λ A. LooseWord b.pointer (holds A) t)
       none = subst (λ (z : Extent). IsExtent z (λ A. LooseWord b.pointer (holds A) t)) e (extent_is b.pointer can.pointer.0 t)
@@ -114,15 +113,15 @@ pub built_some : (t : Tree) (size : ℕ) (b c : Building) (state : ℕ) → CanB
 built_some t size b c state can sized h = record {
   automaton = record {
     small = can.pointer;
-    down = λ e a. (h.sound.down e a, h.sound.from e a);
-    ordered = h.sound.ordered;
-    left = h.sound.left;
+    down = λ e a. (h.extended.sound.down e a, h.extended.sound.from e a);
+    ordered = h.extended.sound.ordered;
+    left = h.extended.sound.left;
     entered = λ s l. elim (cases_lt 0 s) [
       | inl pos ↦ elim (h.into s (let x = can.states in omega arith) l) [ inl q ↦ inl (start s q) | inr e ↦ inr e ]
       | inr z ↦ (let e : 0 ≡ s = omega arith in elim h.covers [ inl q ↦ inl (start s (sym e ∙ q)) | inr (f, a, w) ↦ inr (f, a, w ∙ e) ])
     ];
-    takes = rw h.pointer at h.sound.takes;
-    joins = h.sound.joins;
+    takes = rw h.extended.pointer at h.extended.sound.takes;
+    joins = h.extended.sound.joins;
     begins = λ e a s. h.opens e a (only e.from state s);
     rising = rises_increasing (state ∷ []) tt;
     one = λ s u a d. only s state a ∙ sym (only u state d);
@@ -135,7 +134,7 @@ built_some t size b c state can sized h = record {
       let f = h.forward l (λ d e a x w. absurd (none_among (subst (λ (xs : List Edge). Among d xs) can.edges a))) in
       let one : p.start ≡ q.start = only p.start state p.among ∙ sym (only q.start state q.among) in
       forward_path c.edges.items f k q.start s u (subst (λ (z : ℕ). IsPath c.edges.items k z s) one p.path) q.path;
-  linear = let x = h.linear in let y = ap length (h.longer ∙ ap (λ (z : List Edge). z ++ h.more) can.edges) in omega arith;
+  linear = let x = h.linear in let y = ap length (h.extended.longer ∙ ap (λ (z : List Edge). z ++ h.extended.more) can.edges) in omega arith;
 }
   where
     start : (s : ℕ) → s ≡ state → Among s (state ∷ [])

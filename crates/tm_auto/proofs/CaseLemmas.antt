@@ -7,14 +7,14 @@ use Rattle.tm_base.specs.declared.cell.RefId.{RefId}
 use Rattle.tm_base.specs.declared.tree.Tree.{Tree, Range, Pad, Ref, Seq}
 use Rattle.tm_base.specs.declared.memory.Memory.{Memory}
 use Rattle.tm_base.specs.Cells.{Word}
-use Rattle.tm_base.specs.Shapes.{leaves_of, all_leaves, HasNoPrivate, NonePrivate, HasNoChoice, NoneHasChoice}
+use Rattle.tm_base.specs.Shapes.{leaves_of, all_leaves, HasNoPrivate, NonePrivate, NoneHasChoice}
 use Rattle.tm_base.specs.Transmutes.{holds}
 use Rattle.tm_auto.specs.declared.build.Building.{Building}
 use Rattle.tm_auto.specs.declared.edge.Edge.{Edge}
 use Rattle.tm_auto.specs.declared.edge.Label.{Label}
 use Rattle.tm_auto.specs.declared.edge.Label.TheVariants.{Bytes, Free, Leaf}
 use Rattle.tm_auto.specs.declared.extent.Extent.TheVariants.{Dead, Empty, Long}
-use Rattle.tm_auto.specs.Builds.{Words, MayFollow, IsReady, IsGrowable, CanGrow, MakesBy, MakesTree, IsPlacedBy, IsAdded, IsSealed, AreEven, any}
+use Rattle.tm_auto.specs.Builds.{Piece, of_tree, MayFollow, IsReady, IsGrowable, CanGrow, MakesBy, MakesTree, IsPlacedBy, IsAdded, IsSealed, AreEven, any}
 use Rattle.tm_auto.specs.Labels.{CanTake, Begins}
 use Rattle.tm_auto.specs.Loose.{LooseBytes, LooseWord, LooseInTurn}
 use Rattle.tm_auto.specs.Paths.{Among}
@@ -22,36 +22,36 @@ use Rattle.tm_auto.specs.Shapes.{extent_of, in_turn}
 use Rattle.tm_auto.proofs.ExtentLemmas.{IsExtent, extent_is, turn_is, empty_alone, live_at, even_at}
 use Rattle.tm_auto.proofs.GrowLemmas.{Both, CellWords}
 use Rattle.tm_auto.proofs.LooseLemmas.{LooseWord-Seq, LooseWord-Ref, LooseWord-Range, LooseWord-Pad}
-use Rattle.tm_auto.proofs.MakeLemmas.{IsSame, begins_joins, makes_as, makes_way, makes_before, placed_none, placed_some}
+use Rattle.tm_auto.proofs.MakeLemmas.{IsSame, begins_joins, makes_as, makes_way, makes_before, in_front, of_label, placed_none, placed_some}
 use Rattle.tm_auto.proofs.ShapeLemmas.{extent_of-Seq, extent_of-no_range}
 use Rattle.tm_base.proofs.ShapeLemmas.{leaves_of-Seq, HasNoChoice-Seq, HasNoPrivate-Seq}
 
--- What stands in front of the target: nothing yet, or words of P.
-abbrev pub Front : (Label → Type 0) → Type 0 → ℕ → Words → ℕ → Building → Building → ℕ → Type 0
-Front q line room P target b c next = ((next ≡ target) × IsSame b c × ((A : ℕ → ℕ → Bool) (w : Word) → P A w ↔ (w ≡ []))) ⊎ MakesBy q line room P target b c
+-- What stands in front of the target: nothing yet, or the piece.
+abbrev pub Front : Piece → Building → Building → ℕ → Type 0
+Front p b c next = ((next ≡ p.target) × IsSame b c × ((A : ℕ → ℕ → Bool) (w : Word) → p.words A w ↔ (w ≡ []))) ⊎ MakesBy p b c
 
-module _ {q : Label → Type 0} {line : Type 0} {room : ℕ} {P : Words} {target : ℕ} {b c : Building} {next : ℕ} where
-  pub front_mark : (mark : ℕ) → mark ≡ length b.head.items → Front q line room P target b c next → mark ≤ length c.head.items
+module _ (p : Piece) {b c : Building} {next : ℕ} where
+  pub front_mark : (mark : ℕ) → mark ≡ length b.head.items → Front p b c next → mark ≤ length c.head.items
   front_mark mark e (inl (at, same, none)) = let x = ap length same.head in omega arith
   front_mark mark e (inr h) = let x = ap length h.head in let y = length-append b.head.items h.ways in omega arith
 
-  pub front_room : (mark all : ℕ) → mark ≡ length b.head.items → room ≤ all → b.states + all ≤ 2 ^ 31 → Front q line room P target b c next → mark < length c.head.items → c.states + 1 ≤ 2 ^ 31
+  pub front_room : (mark all : ℕ) → mark ≡ length b.head.items → p.room ≤ all → b.states + all ≤ 2 ^ 31 → Front p b c next → mark < length c.head.items → c.states + 1 ≤ 2 ^ 31
   front_room mark all e l r (inl (at, same, none)) more = let x = ap length same.head in absurd (omega arith)
   front_room mark all e l r (inr h) more = let x = h.few in omega arith
 
   -- once it is sealed
-  pub front_placed : (mark : ℕ) (d : Building) (state : ℕ) → mark ≡ length b.head.items → IsReady b target → ((e : Edge) → Among e b.edges.items → e.from ≡ target → q e.label) → Front q line room P target b c next → IsSealed mark next c d state → IsPlacedBy q line room P target b d state
+  pub front_placed : (mark : ℕ) (d : Building) (state : ℕ) → mark ≡ length b.head.items → IsReady b p.target → ((e : Edge) → Among e b.edges.items → e.from ≡ p.target → p.opens e.label) → Front p b c next → IsSealed mark next c d state → IsPlacedBy p b d state
   front_placed mark d state em ready opens (inl (at, same, none)) sealed =
       let size : length c.head.items ≡ mark = ap length same.head ∙ sym em in
       let (ee, es, en) = sealed.none size in
       let head : d.head.items ≡ b.head.items = sealed.head ∙ ap (take mark) same.head ∙ take_all mark b.head.items (omega arith) in
       let same2 : IsSame b d = record { pointer = sealed.pointer ∙ same.pointer; states = es ∙ same.states; edges = ee ∙ same.edges; head = head } in
-      placed_none q line room P target b d state none same2 (en ∙ at) ready.sound ready.below opens
+      placed_none p b d state none same2 (en ∙ at) ready opens
   front_placed mark d state em ready opens (inr h) sealed = placed_some next d state h (subst (λ (z : ℕ). IsSealed z next c d state) em sealed)
 
--- a state may be built in front of
-pub placed_ready : {line : Type 0} {room : ℕ} {P : Words} {target : ℕ} {b d : Building} {state : ℕ} → IsReady b target → IsPlacedBy Begins line room P target b d state → IsReady d state
-placed_ready r h = record { pointer = rw h.pointer r.pointer; sound = h.sound; below = h.below; plain = h.opens }
+-- a state may be built in front of, where only labels that may stand first leave it
+pub placed_ready : (p : Piece) {b d : Building} {state : ℕ} → ((l : Label) → p.opens l → Begins l) → IsReady b p.target → IsPlacedBy p b d state → IsReady d state
+placed_ready p begin r h = record { pointer = rw h.extended.pointer r.pointer; sound = h.extended.sound; below = h.below; plain = λ e a f. begin e.label (h.opens e a f) }
 
 -- ---- one cell
 
@@ -69,7 +69,7 @@ pub range_made : (low high target : ℕ) (b c : Building) → high < 256 → Can
 unfolding leaves_of
 range_made low high target b c byte can added =
     let le = range_long low high can.growable.long in
-    makes_as (omega arith) (λ l. tt) (λ A w. (
+    makes_as (of_label Begins (Bytes low high) target) (omega arith) (λ l. tt) (λ A w. (
       λ (x, (y, lo, hi, e), ew). (LooseWord-Range b.pointer (holds A) low high w).1 (y, lo, hi, ew ∙ ap (λ z. z ∷ []) e),
       λ h. let (y, lo, hi, ew) = (LooseWord-Range b.pointer (holds A) low high w).0 h in (Byte y, (y, lo, hi, refl), ew),
     )) (makes_way Begins Begins (Bytes low high) target b c (le, byte) tt (begins_joins (Bytes low high)) can.ready.sound can.ready.below can.ready.plain added)
@@ -77,13 +77,17 @@ range_made low high target b c byte can added =
 pub pad_made : (target : ℕ) (b c : Building) → CanGrow Pad target b → IsAdded Free target b c → MakesTree Pad target b c
 unfolding leaves_of
 pad_made target b c can added =
-    makes_as (omega arith) (λ l. tt) (λ A w. let (x, y) = LooseWord-Pad b.pointer (holds A) w in (y, x)) (makes_way Begins Begins Free target b c tt tt (begins_joins Free) can.ready.sound can.ready.below can.ready.plain added)
+    makes_as (of_label Begins Free target) (omega arith) (λ l. tt) (λ A w. let (x, y) = LooseWord-Pad b.pointer (holds A) w in (y, x)) (makes_way Begins Begins Free target b c tt tt (begins_joins Free) can.ready.sound can.ready.below can.ready.plain added)
 
 -- ---- references
 
 -- so many bytes of a reference from a place on
+abbrev pub of_bytes : RefId → ℕ → ℕ → ℕ → Piece
+of_bytes t place count target = record { words = λ A. LooseBytes (holds A) t.0 place count; target = target; opens = MayFollow t place; room = count; line = Unit {0} }
+
+-- those from a place on stand
 abbrev pub RefFront : RefId → ℕ → ℕ → Building → Building → ℕ → Type 0
-RefFront t place target b c next = Front (MayFollow t place) (Unit {0}) (b.pointer - place) (λ A. LooseBytes (holds A) t.0 place (b.pointer - place)) target b c next
+RefFront t place target b c next = Front (of_bytes t place (b.pointer - place) target) b c next
 
 pub ref_none : (t : RefId) (target : ℕ) (b c : Building) → IsSame b c → RefFront t b.pointer target b c target
 ref_none t target b c same = let none : b.pointer - b.pointer ≡ 0 = omega arith in inl (refl, same, λ A w. rw none (λ h. h, λ h. h))
@@ -94,12 +98,12 @@ ref_turn t (suc k) target b c d e mark next state pos le id em ready h sealed ad
     let last : suc k - 1 ≡ k = omega arith in
     let size : suc (b.pointer - suc k) ≡ b.pointer - k = omega arith in
     let j : ℕ = b.pointer - suc k in
-    let placed = front_placed mark d state em ready (λ f a w. begins_joins (Leaf t k) f.label (ready.plain f a w)) h sealed in
-    let point = placed.pointer in
+    let placed = front_placed (of_bytes t (suc k) j target) mark d state em ready (λ f a w. begins_joins (Leaf t k) f.label (ready.plain f a w)) h sealed in
+    let point = placed.extended.pointer in
     let can : CanTake d.pointer (Leaf t k) = (id, omega arith) in
-    let way = makes_way (MayFollow t (suc k)) (MayFollow t k) (Leaf t k) state d e can (mine k) (λ l x. x) placed.sound placed.below placed.opens (subst (λ (z : ℕ). IsAdded (Leaf t z) state d e) last added) in
-    let made : MakesBy (MayFollow t k) (Unit {0}) (suc (b.pointer - suc k)) (λ A. LooseBytes (holds A) t.0 k (suc (b.pointer - suc k))) target b e = makes_as (omega arith) (λ l. (tt, tt)) (same (b.pointer - suc k)) (makes_before placed way) in
-    let made2 : MakesBy (MayFollow t k) (Unit {0}) (b.pointer - k) (λ A. LooseBytes (holds A) t.0 k (b.pointer - k)) target b e = subst (λ (z : ℕ). MakesBy (MayFollow t k) (Unit {0}) z (λ A. LooseBytes (holds A) t.0 k z) target b e) size made in
+    let way = makes_way (MayFollow t (suc k)) (MayFollow t k) (Leaf t k) state d e can (mine k) (λ l x. x) placed.extended.sound placed.below placed.opens (subst (λ (z : ℕ). IsAdded (Leaf t z) state d e) last added) in
+    let made : MakesBy (of_bytes t k (suc j) target) b e = makes_as (in_front (of_label (MayFollow t k) (Leaf t k) state) (of_bytes t (suc k) j target)) (omega arith) (λ l. (tt, tt)) (same j) (makes_before (of_label (MayFollow t k) (Leaf t k) state) placed way) in
+    let made2 : MakesBy (of_bytes t k (b.pointer - k) target) b e = subst (λ (z : ℕ). MakesBy (of_bytes t k z target) b e) size made in
     rw last (inr made2)
   where
     mine : (k : ℕ) → MayFollow t k (Leaf t k)
@@ -115,9 +119,9 @@ ref_turn t (suc k) target b c d e mark next state pos le id em ready h sealed ad
 pub ref_done : (t : RefId) (target : ℕ) (b c : Building) (next : ℕ) → IsReady b target → leaves_of b.pointer (Ref t) ≡ b.pointer → RefFront t 0 target b c next → MakesTree (Ref t) target b c
 ref_done t target b c next ready leaves h =
     let all : b.pointer - 0 ≡ b.pointer = omega arith in
-    elim (subst (λ (z : ℕ). Front (MayFollow t 0) (Unit {0}) z (λ A. LooseBytes (holds A) t.0 0 z) target b c next) all h) [
+    elim (subst (λ (z : ℕ). Front (of_bytes t 0 z target) b c next) all h) [
       | inl (at, same, none) ↦ absurd (some b.pointer ready.pointer.0 none)
-      | inr made ↦ makes_as (omega arith) (λ l. tt) (λ A w. let (x, y) = LooseWord-Ref b.pointer (holds A) t w in (y, x)) made
+      | inr made ↦ makes_as (of_bytes t 0 b.pointer target) (omega arith) (λ l. tt) (λ A w. let (x, y) = LooseWord-Ref b.pointer (holds A) t w in (y, x)) made
     ]
   where
     some : (n : ℕ) → 0 < n → ((A : ℕ → ℕ → Bool) (w : Word) → LooseBytes (holds A) t.0 0 n w ↔ (w ≡ [])) → ⊥
@@ -153,14 +157,18 @@ drop_one ts at t pos l e =
     drop-cons ts (at - 1) t (omega arith) ∙ ap (λ (z : Tree). z ∷ drop (suc (at - 1)) ts) (sym e) ∙ ap (λ (k : ℕ). t ∷ drop k ts) next
 
 -- what a call of the builder tells, of trees with references of the size that they had before
-pub said_before : (p : ℕ) (t : Tree) (target : ℕ) (d e : Building) → d.pointer ≡ p → MakesTree t target d e → MakesBy Begins (HasNoChoice t) (leaves_of p t) (λ A. LooseWord p (holds A) t) target d e
-said_before p t target d e same h = subst (λ (z : ℕ). MakesBy Begins (HasNoChoice t) (leaves_of z t) (λ A. LooseWord z (holds A) t) target d e) same h
+pub said_before : (p : ℕ) (t : Tree) (target : ℕ) (d e : Building) → d.pointer ≡ p → MakesTree t target d e → MakesBy (of_tree p t target) d e
+said_before p t target d e same h = subst (λ (z : ℕ). MakesBy (of_tree z t target) d e) same h
 
 -- ---- one after another
 
+-- the words of trees in turn
+abbrev pub of_trees : ℕ → List Tree → ℕ → Piece
+of_trees pointer ts target = record { words = λ A. LooseInTurn pointer (holds A) ts; target = target; opens = Begins; room = all_leaves pointer ts; line = NoneHasChoice ts }
+
 -- the last trees stand
 abbrev pub TurnFront : List Tree → ℕ → Building → Building → ℕ → Type 0
-TurnFront ts target b c next = Front Begins (NoneHasChoice ts) (all_leaves b.pointer ts) (λ A. LooseInTurn b.pointer (holds A) ts) target b c next
+TurnFront ts target b c next = Front (of_trees b.pointer ts target) b c next
 
 pub turn_none : (ts : List Tree) (target : ℕ) (b c : Building) → ts ≡ [] → IsSame b c → TurnFront ts target b c target
 turn_none ts target b c e same = rw e (inl (refl, same, λ A w. (λ h. h, λ h. h)))
@@ -192,31 +200,31 @@ module _ (ts : List Tree) (at : ℕ) (t : Tree) (target : ℕ) (b : Building) (p
   even_here = subst (λ (z : Tree). AreEven (LooseWord b.pointer (holds any) z)) (sym et) (even_at b.pointer can.ready.pointer.0 ts (at - 1) t (live ts grow.long) grow.even (omega arith))
 
   pub turn_room : (mark : ℕ) (c : Building) (next : ℕ) → mark ≡ length b.head.items → TurnFront (drop at ts) target b c next → mark < length c.head.items → c.states + 1 ≤ 2 ^ 31
-  turn_room mark c next em h = let x = leaves_left in front_room {room = all_leaves b.pointer (drop at ts)} mark (leaves_of b.pointer (Seq ts)) em (omega arith) can.room h
+  turn_room mark c next em h = let x = leaves_left in front_room (of_trees b.pointer (drop at ts) target) mark (leaves_of b.pointer (Seq ts)) em (omega arith) can.room h
 
-  pub turn_placed : (mark : ℕ) (c d : Building) (next state : ℕ) → mark ≡ length b.head.items → TurnFront (drop at ts) target b c next → IsSealed mark next c d state → IsPlacedBy Begins (NoneHasChoice (drop at ts)) (all_leaves b.pointer (drop at ts)) (λ A. LooseInTurn b.pointer (holds A) (drop at ts)) target b d state
-  turn_placed mark c d next state em h sealed = front_placed mark d state em can.ready can.ready.plain h sealed
+  pub turn_placed : (mark : ℕ) (c d : Building) (next state : ℕ) → mark ≡ length b.head.items → TurnFront (drop at ts) target b c next → IsSealed mark next c d state → IsPlacedBy (of_trees b.pointer (drop at ts) target) b d state
+  turn_placed mark c d next state em h sealed = front_placed (of_trees b.pointer (drop at ts) target) mark d state em can.ready can.ready.plain h sealed
 
-  pub turn_can : (d : Building) (state : ℕ) → extent_of t ≡ Long → IsPlacedBy Begins (NoneHasChoice (drop at ts)) (all_leaves b.pointer (drop at ts)) (λ A. LooseInTurn b.pointer (holds A) (drop at ts)) target b d state → CanGrow t state d
+  pub turn_can : (d : Building) (state : ℕ) → extent_of t ≡ Long → IsPlacedBy (of_trees b.pointer (drop at ts) target) b d state → CanGrow t state d
   turn_can d state long h =
       let x = leaves_left in
       let few = h.few in
       let room : d.states + leaves_of b.pointer t ≤ 2 ^ 31 = (let y = can.room in omega arith) in
       record {
-        growable = rw h.pointer (record { public = rw et (public_at ts (at - 1) t grow.public (omega arith)); long = long; even = even_here });
-        ready = placed_ready can.ready h;
-        room = rw h.pointer room;
+        growable = rw h.extended.pointer (record { public = rw et (public_at ts (at - 1) t grow.public (omega arith)); long = long; even = even_here });
+        ready = placed_ready (of_trees b.pointer (drop at ts) target) (λ l o. o) can.ready h;
+        room = rw h.extended.pointer room;
       }
 
-  pub turn_long : (d e : Building) (state : ℕ) → IsPlacedBy Begins (NoneHasChoice (drop at ts)) (all_leaves b.pointer (drop at ts)) (λ A. LooseInTurn b.pointer (holds A) (drop at ts)) target b d state → MakesTree t state d e → TurnFront (drop (at - 1) ts) target b e state
+  pub turn_long : (d e : Building) (state : ℕ) → IsPlacedBy (of_trees b.pointer (drop at ts) target) b d state → MakesTree t state d e → TurnFront (drop (at - 1) ts) target b e state
   turn_long d e state placed h =
-      let made : MakesBy Begins (NoneHasChoice (t ∷ drop at ts)) (all_leaves b.pointer (t ∷ drop at ts)) (λ A. LooseInTurn b.pointer (holds A) (t ∷ drop at ts)) target b e = makes_before placed (said_before b.pointer t state d e placed.pointer h) in
+      let made : MakesBy (of_trees b.pointer (t ∷ drop at ts) target) b e = makes_before (of_tree b.pointer t state) placed (said_before b.pointer t state d e placed.extended.pointer h) in
       subst (λ (z : List Tree). TurnFront z target b e state) (sym (drop_one ts at t pos within et)) (inr made)
 
   pub turn_empty : (c : Building) (next : ℕ) → extent_of t ≡ Empty → TurnFront (drop at ts) target b c next → TurnFront (drop (at - 1) ts) target b c next
   turn_empty c next empty h = subst (λ (z : List Tree). TurnFront z target b c next) (sym (drop_one ts at t pos within et)) (elim h [
     | inl (st, same, none) ↦ inl (st, same, λ A w. (λ k. (none A w).0 ((words A w).1 k), λ k. (words A w).0 ((none A w).1 k)))
-    | inr made ↦ inr (makes_as {line2 = NoneHasChoice (t ∷ drop at ts)} {room2 = all_leaves b.pointer (t ∷ drop at ts)} {Q = λ A. LooseInTurn b.pointer (holds A) (t ∷ drop at ts)} (omega arith) (λ l. l.1) words made)
+    | inr made ↦ inr (makes_as (of_trees b.pointer (drop at ts) target) {line = NoneHasChoice (t ∷ drop at ts)} {room = all_leaves b.pointer (t ∷ drop at ts)} {Q = λ A. LooseInTurn b.pointer (holds A) (t ∷ drop at ts)} (omega arith) (λ l. l.1) words made)
   ])
     where
       none_here : IsExtent Empty (λ A. LooseWord b.pointer (holds A) t)
@@ -240,4 +248,4 @@ turn_done ts target b c next can (inl (at, same, none)) =
     let (d, w, h) = subst (λ z. IsExtent z (λ A. LooseInTurn b.pointer (holds A) ts)) g.long (turn_is b.pointer can.ready.pointer.0 ts) in
     let e : d ∷ w ≡ [] = (none any (d ∷ w)).0 h in
     cc
-turn_done ts target b c next can (inr made) = let e = leaves_of-Seq b.pointer ts in makes_as (omega arith) (HasNoChoice-Seq ts).0 (λ A w. let (x, y) = LooseWord-Seq b.pointer (holds A) ts w in (y, x)) made
+turn_done ts target b c next can (inr made) = let e = leaves_of-Seq b.pointer ts in makes_as (of_trees b.pointer ts target) (omega arith) (HasNoChoice-Seq ts).0 (λ A w. let (x, y) = LooseWord-Seq b.pointer (holds A) ts w in (y, x)) made

@@ -9,7 +9,7 @@ use Rattle.tm_auto.specs.declared.build.Way.{Way}
 use Rattle.tm_auto.specs.declared.edge.Edge.{Edge}
 use Rattle.tm_auto.specs.declared.edge.Label.{Label}
 use Rattle.tm_auto.specs.declared.edge.Label.TheVariants.{Bytes, Free, Leaf}
-use Rattle.tm_auto.specs.Builds.{Words, edges_by, IsLedTo, IsForward, IsSound, IsReady, IsWay, Grows, MakesBy, IsPlacedBy, IsAdded, IsSealed}
+use Rattle.tm_auto.specs.Builds.{Words, Piece, edges_by, IsLedTo, IsForward, IsSound, IsReady, IsWay, Grows, IsExtended, MakesBy, IsPlacedBy, IsAdded, IsSealed}
 use Rattle.tm_auto.specs.Labels.{CanTake, Begins, Joins}
 use Rattle.tm_auto.specs.Paths.{Among, here}
 use Rattle.tm_auto.proofs.AmongLemmas.{among_left, among_right, among_either, none_among, among_edges, edges_among, ordered-append, ordered-edges_by, length-edges_by}
@@ -36,36 +36,35 @@ pub record IsSame (b c : Building) : Type 0 where
   pub edges : c.edges.items ≡ b.edges.items
   pub head : c.head.items ≡ b.head.items
 
-module _ {q : Label → Type 0} {line : Type 0} {room : ℕ} {P : Words} {target : ℕ} {b c : Building} where
-  pub kept : MakesBy q line room P target b c → Kept b.edges.items c.edges.items
+-- other words in the place of a piece
+abbrev pub in_place : Piece → Words → ℕ → Type 0 → Piece
+in_place p Q room line = record { words = Q; target = p.target; opens = p.opens; room = room; line = line }
+
+module _ {b c : Building} where
+  pub kept : IsExtended b c → Kept b.edges.items c.edges.items
   kept h e a = subst (λ (xs : List Edge). Among e xs) (sym h.longer) (among_left h.more a)
 
-  pub new : MakesBy q line room P target b c → New b.states b.edges.items c.edges.items
+  pub new : IsExtended b c → New b.states b.edges.items c.edges.items
   new h e a l = elim (among_either b.edges.items h.more (subst (λ (xs : List Edge). Among e xs) h.longer a)) [ inl d ↦ d | inr d ↦ (let k = h.fresh e d in absurd (omega arith)) ]
 
   -- said of other words that are the same
-  pub makes_as : {line2 : Type 0} {room2 : ℕ} {Q : Words} → room ≤ room2 → (line2 → line) → ((A : ℕ → ℕ → Bool) (u : Word) → P A u ↔ Q A u) → MakesBy q line room P target b c → MakesBy q line2 room2 Q target b c
-  makes_as le f same h = record {
-    pointer = h.pointer;
-    later = h.later;
+  pub makes_as : (p : Piece) {line : Type 0} {room : ℕ} {Q : Words} → p.room ≤ room → (line → p.line) → ((A : ℕ → ℕ → Bool) (u : Word) → p.words A u ↔ Q A u) → MakesBy p b c → MakesBy (in_place p Q room line) b c
+  makes_as p le f same h = record {
+    extended = h.extended;
     few = let x = h.few in omega arith;
-    more = h.more;
-    longer = h.longer;
-    fresh = h.fresh;
     ways = h.ways;
     head = h.head;
     some = h.some;
     linear = let x = h.linear in omega arith;
-    sound = h.sound;
     each = h.each;
     into = h.into;
     covers = h.covers;
     forward = λ l. h.forward (f l);
-    grows = λ A. grows_same (holds A) (P A) _ b.edges.items c.edges.items h.ways target (λ u. (same A u).0) (λ u. (same A u).1) (h.grows A);
+    grows = λ A. grows_same (holds A) (p.words A) _ b.edges.items c.edges.items h.ways p.target (λ u. (same A u).0) (λ u. (same A u).1) (h.grows A);
   }
 
   -- the target is still ready to be built in front of
-  pub ready_still : MakesBy q line room P target b c → IsReady b target → IsReady c target
+  pub ready_still : {target : ℕ} → IsExtended b c → IsReady b target → IsReady c target
   ready_still h r = record {
     pointer = rw h.pointer r.pointer;
     sound = h.sound;
@@ -73,43 +72,64 @@ module _ {q : Label → Type 0} {line : Type 0} {room : ℕ} {P : Words} {target
     plain = λ e a f. r.plain e (new h e a (let x = r.below in omega arith)) f;
   }
 
--- what is built from the same
-pub makes_from : {q : Label → Type 0} {line : Type 0} {room : ℕ} {P : Words} {target : ℕ} {a b c : Building} → IsSame a b → MakesBy q line room P target b c → MakesBy q line room P target a c
-makes_from {P = P} {target = target} {c = c} same h = record {
-  pointer = h.pointer ∙ same.pointer;
-  later = let x = h.later in let y = same.states in omega arith;
-  few = let x = h.few in let y = same.states in omega arith;
-  more = h.more;
-  longer = h.longer ∙ ap (λ (z : List Edge). z ++ h.more) same.edges;
-  fresh = λ e m. let x = h.fresh e m in let y = same.states in omega arith;
-  ways = h.ways;
-  head = h.head ∙ ap (λ (z : List Way). z ++ h.ways) same.head;
-  some = h.some;
-  linear = h.linear;
-  sound = h.sound;
-  each = h.each;
-  into = λ s lo hi. h.into s (let y = same.states in omega arith) hi;
-  covers = h.covers;
-  forward = λ l f. h.forward l (rw same.edges f);
-  grows = λ A. subst (λ (z : List Edge). Grows (holds A) (P A) z c.edges.items h.ways target) same.edges (h.grows A);
+-- nothing was put
+extended_none : {b c : Building} → IsSame b c → IsSound b.pointer b.edges.items b.states → IsExtended b c
+extended_none {b} {c} same sound = record {
+  pointer = same.pointer;
+  later = let x = same.states in omega arith;
+  more = [];
+  longer = same.edges ∙ sym (append-nil b.edges.items);
+  fresh = λ e a. absurd (none_among a);
+  sound = rw (same.pointer, same.edges, same.states) sound;
 }
+
+extended_both : {b c d : Building} → IsExtended b c → IsExtended c d → IsExtended b d
+extended_both {b} h k = record {
+  pointer = k.pointer ∙ h.pointer;
+  later = let x = h.later in let y = k.later in omega arith;
+  more = h.more ++ k.more;
+  longer = k.longer ∙ ap (λ z. z ++ k.more) h.longer ∙ append_assoc b.edges.items h.more k.more;
+  fresh = λ e a. elim (among_either h.more k.more a) [ inl m ↦ h.fresh e m | inr m ↦ (let x = k.fresh e m in let y = h.later in omega arith) ];
+  sound = k.sound;
+}
+
+-- what is built from the same
+pub makes_from : {p : Piece} {a b c : Building} → IsSame a b → MakesBy p b c → MakesBy p a c
+makes_from {p} {c = c} same h =
+    let x = h.extended in
+    record {
+      extended = record {
+        pointer = x.pointer ∙ same.pointer;
+        later = let y = x.later in let z = same.states in omega arith;
+        more = x.more;
+        longer = x.longer ∙ ap (λ (z : List Edge). z ++ x.more) same.edges;
+        fresh = λ e m. let y = x.fresh e m in let z = same.states in omega arith;
+        sound = x.sound;
+      };
+      few = let y = h.few in let z = same.states in omega arith;
+      ways = h.ways;
+      head = h.head ∙ ap (λ (z : List Way). z ++ h.ways) same.head;
+      some = h.some;
+      linear = h.linear;
+      each = h.each;
+      into = λ s lo hi. h.into s (let y = same.states in omega arith) hi;
+      covers = h.covers;
+      forward = λ l f. h.forward l (rw same.edges f);
+      grows = λ A. subst (λ (z : List Edge). Grows (holds A) (p.words A) z c.edges.items h.ways p.target) same.edges (h.grows A);
+    }
 
 -- ---- sealing
 
 -- nothing was put: words go on at the target
-pub placed_none : (q : Label → Type 0) (line : Type 0) (room : ℕ) (P : Words) (target : ℕ) (b c : Building) (state : ℕ) → ((A : ℕ → ℕ → Bool) (w : Word) → P A w ↔ (w ≡ [])) → IsSame b c → state ≡ target → IsSound b.pointer b.edges.items b.states → target < b.states
-    → ((e : Edge) → Among e b.edges.items → e.from ≡ target → q e.label) → IsPlacedBy q line room P target b c state
-placed_none q line room P target b c state none same at sound below opens = record {
-  pointer = same.pointer;
-  later = let x = same.states in omega arith;
+pub placed_none : (p : Piece) (b c : Building) (state : ℕ) → ((A : ℕ → ℕ → Bool) (w : Word) → p.words A w ↔ (w ≡ [])) → IsSame b c → state ≡ p.target → IsReady b p.target
+    → ((e : Edge) → Among e b.edges.items → e.from ≡ p.target → p.opens e.label) → IsPlacedBy p b c state
+unfolding extended_none
+placed_none p b c state none same at ready opens = record {
+  extended = extended_none same ready.sound;
   few = let x = same.states in omega arith;
-  more = [];
-  longer = same.edges ∙ sym (append-nil b.edges.items);
-  fresh = λ e a. absurd (none_among a);
   head = same.head;
   linear = omega arith;
-  sound = rw (same.pointer, same.edges, same.states) sound;
-  below = let x = same.states in omega arith;
+  below = let x = same.states in let y = ready.below in omega arith;
   opens = λ e a f. opens e (subst (λ (xs : List Edge). Among e xs) same.edges a) (f ∙ at);
   into = λ s lo hi. let x = same.states in absurd (omega arith);
   covers = inl (sym at);
@@ -170,8 +190,8 @@ sealed_forward q c ways sound one f d e a b w = elim (among_either c.edges.items
     same (w ∷ []) l x y a b = only_way x w a ∙ sym (only_way y w b)
     same (w ∷ v ∷ ws) l x y a b = absurd (omega arith)
 
-pub placed_some : {q : Label → Type 0} {line : Type 0} {room : ℕ} {P : Words} {target : ℕ} {b c : Building} (next : ℕ) (d : Building) (state : ℕ) → MakesBy q line room P target b c → IsSealed (length b.head.items) next c d state → IsPlacedBy q line room P target b d state
-placed_some {q = q} {target = target} {b = b} {c = c} next d state h sealed =
+pub placed_some : {p : Piece} {b c : Building} (next : ℕ) (d : Building) (state : ℕ) → MakesBy p b c → IsSealed (length b.head.items) next c d state → IsPlacedBy p b d state
+placed_some {p} {b} {c} next d state h sealed =
     let size : length c.head.items ≡ length b.head.items + length ways = ap length h.head ∙ length-append b.head.items ways in
     let pos = length_some ways h.some in
     let (ed0, sd, ss) = sealed.put (omega arith) in
@@ -181,27 +201,30 @@ placed_some {q = q} {target = target} {b = b} {c = c} next d state h sealed =
     let keep : Kept c.edges.items d.edges.items = (λ e a. subst (λ (xs : List Edge). Among e xs) (sym ed) (among_left news a)) in
     let by_way : (way : Way) → Among way ways → (e : Edge) × Among e d.edges.items × (e.to ≡ way.to) = (λ way a. (record { from = c.states; to = way.to; label = way.label }, subst (λ (xs : List Edge). Among (record { from = c.states; to = way.to; label = way.label }) xs) (sym ed) (among_right c.edges.items (edges_among c.states way ways a)), refl)) in
     let led : (s : ℕ) → IsLedTo ways c.edges.items s → (e : Edge) × Among e d.edges.items × (e.to ≡ s) = (λ s l. elim l [ inl (way, a, t) ↦ (let (e, m, f) = by_way way a in (e, m, f ∙ t)) | inr (e, a, t) ↦ (e, keep e a, t) ]) in
-    let made = sealed_sound q c ways h.sound h.some h.each in
+    let x = h.extended in
+    let made = sealed_sound p.opens c ways x.sound h.some h.each in
     record {
-      pointer = sealed.pointer ∙ h.pointer;
-      later = let x = h.later in omega arith;
-      few = let x = h.few in omega arith;
-      more = h.more ++ news;
-      longer = ed ∙ ap (λ (z : List Edge). z ++ news) h.longer ∙ append_assoc b.edges.items h.more news;
-      fresh = λ e a. elim (among_either h.more news a) [ inl m ↦ h.fresh e m | inr m ↦ (let x = (among_edges c.states ways e m).1 in let y = h.later in omega arith) ];
+      extended = record {
+        pointer = sealed.pointer ∙ x.pointer;
+        later = let y = x.later in omega arith;
+        more = x.more ++ news;
+        longer = ed ∙ ap (λ (z : List Edge). z ++ news) x.longer ∙ append_assoc b.edges.items x.more news;
+        fresh = λ e a. elim (among_either x.more news a) [ inl m ↦ x.fresh e m | inr m ↦ (let y = (among_edges c.states ways e m).1 in let z = x.later in omega arith) ];
+        sound = rw (sealed.pointer, ed, sd) made;
+      };
+      few = let y = h.few in omega arith;
       head = front;
-      linear = let x = h.linear in let y = length-append h.more news in let z = length-edges_by c.states ways in omega arith;
-      sound = rw (sealed.pointer, ed, sd) made;
+      linear = let y = h.linear in let z = length-append x.more news in let w = length-edges_by c.states ways in omega arith;
       below = omega arith;
       opens = λ e a f. elim (among_either c.edges.items news (subst (λ (xs : List Edge). Among e xs) ed a)) [
-        | inl m ↦ (let x = h.sound.from e m in absurd (omega arith))
+        | inl m ↦ (let y = x.sound.from e m in absurd (omega arith))
         | inr m ↦ (h.each _ (among_edges c.states ways e m).0).opens
       ];
       into = λ s lo hi. elim (cases_lt s c.states) [ inl lt ↦ inr (led s (h.into s lo lt)) | inr ge ↦ inl (omega arith) ];
-      covers = inr (led target h.covers);
-      forward = λ l f. let (f2, one) = h.forward l f in rw ed (sealed_forward q c ways h.sound one f2);
-      forth = λ A w r. (h.grows A).forth w (sealed_forth (holds A) c.edges.items c.states ways h.sound (λ way a. (h.each way a).below) w (rw (ed, ss) at r));
-      back = λ A u v p r. rw (ed, ss) (sealed_back (holds A) c.edges.items c.states ways (u ++ v) ((h.grows A).back u v p r));
+      covers = inr (led p.target h.covers);
+      forward = λ l f. let (f2, one) = h.forward l f in rw ed (sealed_forward p.opens c ways x.sound one f2);
+      forth = λ A w r. (h.grows A).forth w (sealed_forth (holds A) c.edges.items c.states ways x.sound (λ way a. (h.each way a).below) w (rw (ed, ss) at r));
+      back = λ A u v k r. rw (ed, ss) (sealed_back (holds A) c.edges.items c.states ways (u ++ v) ((h.grows A).back u v k r));
     }
   where
     ways : List Way
@@ -212,20 +235,26 @@ placed_some {q = q} {target = target} {b = b} {c = c} next d state h sealed =
 
 -- ---- one way
 
+-- one cell that the label takes
+abbrev pub of_label : (Label → Type 0) → Label → ℕ → Piece
+of_label opens label target = record { words = CellWords label; target = target; opens = opens; room = 1; line = Unit {0} }
+
 pub makes_way : (q r : Label → Type 0) (label : Label) (target : ℕ) (b c : Building) → CanTake b.pointer label → r label → ((l : Label) → q l → Joins label l) → IsSound b.pointer b.edges.items b.states → target < b.states
-    → ((e : Edge) → Among e b.edges.items → e.from ≡ target → q e.label) → IsAdded label target b c → MakesBy r (Unit {0}) 1 (CellWords label) target b c
+    → ((e : Edge) → Among e b.edges.items → e.from ≡ target → q e.label) → IsAdded label target b c → MakesBy (of_label r label target) b c
 makes_way q r label target b c can mine follow sound below opens added = record {
-  pointer = added.pointer;
-  later = let x = added.states in omega arith;
+  extended = record {
+    pointer = added.pointer;
+    later = let x = added.states in omega arith;
+    more = [];
+    longer = added.edges ∙ sym (append-nil b.edges.items);
+    fresh = λ e a. absurd (none_among a);
+    sound = rw (added.pointer, added.edges, added.states) sound;
+  };
   few = let x = added.states in omega arith;
-  more = [];
-  longer = added.edges ∙ sym (append-nil b.edges.items);
-  fresh = λ e a. absurd (none_among a);
   ways = way ∷ [];
   head = added.head;
   some = λ e. cc;
   linear = omega arith;
-  sound = rw (added.pointer, added.edges, added.states) sound;
   each = λ y a. let e = only_way y way a in rw e (record {
     below = let x = added.states in omega arith;
     takes = rw added.pointer can;
@@ -243,68 +272,64 @@ makes_way q r label target b c can mine follow sound below opens added = record 
 
 -- ---- one after another
 
-pub makes_before : {q r : Label → Type 0} {line1 line2 : Type 0} {room1 room2 : ℕ} {P Q : Words} {target state : ℕ} {b d e : Building} → IsPlacedBy q line2 room2 Q target b d state → MakesBy r line1 room1 P state d e → MakesBy r (line1 × line2) (room1 + room2) (Both P Q) target b e
-makes_before {P = P} {Q = Q} {target = target} {state = state} {b = b} {d = d} {e = e} h p = record {
-  pointer = p.pointer ∙ h.pointer;
-  later = let x = h.later in let y = p.later in omega arith;
-  few = let x = h.few in let y = p.few in omega arith;
-  more = h.more ++ p.more;
-  longer = p.longer ∙ ap (λ z. z ++ p.more) h.longer ∙ append_assoc b.edges.items h.more p.more;
-  fresh = λ f a. elim (among_either h.more p.more a) [ inl m ↦ h.fresh f m | inr m ↦ (let x = p.fresh f m in let y = h.later in omega arith) ];
-  ways = p.ways;
-  head = p.head ∙ ap (λ (z : List Way). z ++ p.ways) h.head;
-  some = p.some;
-  linear = let x = h.linear in let y = p.linear in let z = length-append h.more p.more in omega arith;
-  sound = p.sound;
-  each = p.each;
+-- the first in front of the second
+abbrev pub in_front : Piece → Piece → Piece
+in_front p r = record { words = Both p.words r.words; target = r.target; opens = p.opens; room = p.room + r.room; line = p.line × r.line }
+
+pub makes_before : (p : Piece) {r : Piece} {b d e : Building} → IsPlacedBy r b d p.target → MakesBy p d e → MakesBy (in_front p r) b e
+unfolding extended_both
+makes_before p {r} {b} {d} {e} h k = record {
+  extended = extended_both h.extended k.extended;
+  few = let x = h.few in let y = k.few in omega arith;
+  ways = k.ways;
+  head = k.head ∙ ap (λ (z : List Way). z ++ k.ways) h.head;
+  some = k.some;
+  linear = let x = h.linear in let y = k.linear in let z = length-append h.extended.more k.extended.more in omega arith;
+  each = k.each;
   into = λ s lo hi. elim (cases_lt s d.states) [
-    | inl lt ↦ elim (h.into s lo lt) [ inl w ↦ subst (λ (z : ℕ). IsLedTo p.ways e.edges.items z) (sym w) p.covers | inr m ↦ onward s m ]
-    | inr ge ↦ p.into s ge hi
+    | inl lt ↦ elim (h.into s lo lt) [ inl w ↦ subst (λ (z : ℕ). IsLedTo k.ways e.edges.items z) (sym w) k.covers | inr m ↦ onward s m ]
+    | inr ge ↦ k.into s ge hi
   ];
-  covers = elim h.covers [ inl w ↦ subst (λ (z : ℕ). IsLedTo p.ways e.edges.items z) (sym w) p.covers | inr m ↦ onward target m ];
-  forward = λ (l1, l2) f. p.forward l1 (h.forward l2 f);
-  grows = λ A. grows_before (holds A) (P A) (Q A) b.edges.items d.edges.items e.edges.items p.ways target state (h.forth A) (h.back A) (p.grows A);
+  covers = elim h.covers [ inl w ↦ subst (λ (z : ℕ). IsLedTo k.ways e.edges.items z) (sym w) k.covers | inr m ↦ onward r.target m ];
+  forward = λ (l1, l2) f. k.forward l1 (h.forward l2 f);
+  grows = λ A. grows_before (holds A) (p.words A) (r.words A) b.edges.items d.edges.items e.edges.items k.ways r.target p.target (h.forth A) (h.back A) (k.grows A);
 }
   where
-    onward : (s : ℕ) → (f : Edge) × Among f d.edges.items × (f.to ≡ s) → IsLedTo p.ways e.edges.items s
-    onward s (f, a, w) = inr (f, kept p f a, w)
+    onward : (s : ℕ) → (f : Edge) × Among f d.edges.items × (f.to ≡ s) → IsLedTo k.ways e.edges.items s
+    onward s (f, a, w) = inr (f, kept k.extended f a, w)
 
 -- ---- one or the other
 
-pub makes_either : {line1 line2 : Type 0} {room1 room2 : ℕ} {P Q : Words} {target : ℕ} {b c d : Building} → IsReady b target → MakesBy Begins line1 room1 P target b c → MakesBy Begins line2 room2 Q target c d → MakesBy Begins ⊥ (room1 + room2) (Either P Q) target b d
-makes_either {P = P} {Q = Q} {target = target} {b = b} {c = c} {d = d} ready p q = record {
-  pointer = q.pointer ∙ p.pointer;
-  later = let x = p.later in let y = q.later in omega arith;
-  few = let x = p.few in let y = q.few in omega arith;
-  more = p.more ++ q.more;
-  longer = q.longer ∙ ap (λ z. z ++ q.more) p.longer ∙ append_assoc b.edges.items p.more q.more;
-  fresh = λ e a. elim (among_either p.more q.more a) [ inl m ↦ p.fresh e m | inr m ↦ (let x = q.fresh e m in let y = p.later in omega arith) ];
-  ways = p.ways ++ q.ways;
-  head = q.head ∙ ap (λ z. z ++ q.ways) p.head ∙ append_assoc b.head.items p.ways q.ways;
-  some = λ e. let x = length_some p.ways p.some in let y = ap length e in let z = length-append p.ways q.ways in omega arith;
-  linear = let x = p.linear in let y = q.linear in let z = length-append p.more q.more in let w = length-append p.ways q.ways in omega arith;
-  sound = q.sound;
-  each = λ way a. elim (among_either p.ways q.ways a) [
+pub makes_either : (p : Piece) {line : Type 0} {room : ℕ} {Q : Words} {b c d : Building} → IsReady b p.target → MakesBy p b c → MakesBy (in_place p Q room line) c d → MakesBy (in_place p (Either p.words Q) (p.room + room) ⊥) b d
+unfolding extended_both
+makes_either p {Q = Q} {b = b} {c = c} {d = d} ready h k = record {
+  extended = extended_both h.extended k.extended;
+  few = let x = h.few in let y = k.few in omega arith;
+  ways = h.ways ++ k.ways;
+  head = k.head ∙ ap (λ z. z ++ k.ways) h.head ∙ append_assoc b.head.items h.ways k.ways;
+  some = λ e. let x = length_some h.ways h.some in let y = ap length e in let z = length-append h.ways k.ways in omega arith;
+  linear = let x = h.linear in let y = k.linear in let z = length-append h.extended.more k.extended.more in let w = length-append h.ways k.ways in omega arith;
+  each = λ way a. elim (among_either h.ways k.ways a) [
     | inl m ↦ (
-        let x = p.each way m in
+        let x = h.each way m in
         record {
-          below = let y = x.below in let z = q.later in omega arith;
-          takes = rw q.pointer x.takes;
+          below = let y = x.below in let z = k.extended.later in omega arith;
+          takes = rw k.extended.pointer x.takes;
           opens = x.opens;
-          joins = λ e f w. x.joins e (new q e f (let y = x.below in omega arith)) w;
+          joins = λ e f w. x.joins e (new k.extended e f (let y = x.below in omega arith)) w;
         })
-    | inr m ↦ q.each way m
+    | inr m ↦ k.each way m
   ];
-  into = λ s lo hi. elim (cases_lt s c.states) [ inl lt ↦ left s (p.into s lo lt) | inr ge ↦ right s (q.into s ge hi) ];
-  covers = left target p.covers;
+  into = λ s lo hi. elim (cases_lt s c.states) [ inl lt ↦ left s (h.into s lo lt) | inr ge ↦ right s (k.into s ge hi) ];
+  covers = left p.target h.covers;
   forward = λ l f. absurd l;
-  grows = λ A. grows_either (holds A) (P A) (Q A) b.edges.items c.edges.items d.edges.items b.states c.states p.ways q.ways target ready.sound p.sound ready.below (λ way a. (p.each way a).below) (kept p) (new p) (kept q) (new q) (p.grows A) (q.grows A);
+  grows = λ A. grows_either (holds A) (p.words A) (Q A) b.edges.items c.edges.items d.edges.items b.states c.states h.ways k.ways p.target ready.sound h.extended.sound ready.below (λ way a. (h.each way a).below) (kept h.extended) (new h.extended) (kept k.extended) (new k.extended) (h.grows A) (k.grows A);
 }
   where
-    left : (s : ℕ) → IsLedTo p.ways c.edges.items s → IsLedTo (p.ways ++ q.ways) d.edges.items s
-    left s (inl (way, a, w)) = inl (way, among_left q.ways a, w)
-    left s (inr (e, a, w)) = inr (e, kept q e a, w)
+    left : (s : ℕ) → IsLedTo h.ways c.edges.items s → IsLedTo (h.ways ++ k.ways) d.edges.items s
+    left s (inl (way, a, w)) = inl (way, among_left k.ways a, w)
+    left s (inr (e, a, w)) = inr (e, kept k.extended e a, w)
 
-    right : (s : ℕ) → IsLedTo q.ways d.edges.items s → IsLedTo (p.ways ++ q.ways) d.edges.items s
-    right s (inl (way, a, w)) = inl (way, among_right p.ways a, w)
-    right s (inr h) = inr h
+    right : (s : ℕ) → IsLedTo k.ways d.edges.items s → IsLedTo (h.ways ++ k.ways) d.edges.items s
+    right s (inl (way, a, w)) = inl (way, among_right h.ways a, w)
+    right s (inr m) = inr m

@@ -8,14 +8,15 @@ use Rattle.tm_base.specs.Transmutes.{holds}
 use Rattle.tm_auto.specs.declared.build.Building.{Building}
 use Rattle.tm_auto.specs.declared.extent.Extent.{Extent}
 use Rattle.tm_auto.specs.declared.extent.Extent.TheVariants.{Dead, Empty, Long}
-use Rattle.tm_auto.specs.Builds.{IsGrowable, CanGrow, MakesBy, MakesTree, AreEven, any}
+use Rattle.tm_auto.specs.Builds.{Piece, of_tree, IsGrowable, CanGrow, MakesBy, MakesTree, AreEven, any}
 use Rattle.tm_auto.specs.Labels.{Begins}
 use Rattle.tm_auto.specs.Loose.{LooseWord, LooseOneOf}
 use Rattle.tm_auto.specs.Shapes.{extent_of}
 use Rattle.tm_auto.proofs.CaseLemmas.{public_at, all_leaves-take, all_leaves-more, said_before}
 use Rattle.tm_auto.proofs.ExtentLemmas.{IsExtent, extent_is, even_member, no_empty}
+use Rattle.tm_auto.proofs.GrowLemmas.{Either}
 use Rattle.tm_auto.proofs.LooseLemmas.{LooseWord-Alt, LooseOneOf-more}
-use Rattle.tm_auto.proofs.MakeLemmas.{IsSame, makes_as, makes_from, makes_either, ready_still}
+use Rattle.tm_auto.proofs.MakeLemmas.{IsSame, in_place, makes_as, makes_from, makes_either, ready_still}
 use Rattle.tm_auto.proofs.ShapeLemmas.{extent_of-Alt}
 use Rattle.tm_base.proofs.ShapeLemmas.{leaves_of-Alt, HasNoChoice-Alt, HasNoPrivate-Alt}
 
@@ -23,11 +24,15 @@ use Rattle.tm_base.proofs.ShapeLemmas.{leaves_of-Alt, HasNoChoice-Alt, HasNoPriv
 abbrev Line : List Tree → Type 0
 Line ts = (length ts ≤ 1) × NoneHasChoice ts
 
+-- the words of one of some trees
+abbrev pub of_members : ℕ → List Tree → ℕ → Piece
+of_members pointer ts target = record { words = λ A. LooseOneOf pointer (holds A) ts; target = target; opens = Begins; room = all_leaves pointer ts; line = Line ts }
+
 -- no word yet, and nothing was put; or ways stand
 abbrev pub OneFront : List Tree → ℕ → Building → Building → Type 0
 OneFront ts target b c =
     (IsSame b c × ((A : ℕ → ℕ → Bool) (w : Word) → LooseOneOf b.pointer (holds A) ts w → ⊥))
-    ⊎ ((ts ≢ []) × MakesBy Begins (Line ts) (all_leaves b.pointer ts) (λ A. LooseOneOf b.pointer (holds A) ts) target b c)
+    ⊎ ((ts ≢ []) × MakesBy (of_members b.pointer ts target) b c)
 
 pub one_none : (target : ℕ) (b c : Building) → IsSame b c → OneFront [] target b c
 one_none target b c same = inl (same, λ A w h. h)
@@ -95,7 +100,7 @@ module _ (ts : List Tree) (i : ℕ) (t : Tree) (target : ℕ) (b c : Building) (
             })
         | inr (some, made) ↦ (
             let room : c.states + leaves_of b.pointer t ≤ 2 ^ 31 = (let s = made.few in omega arith) in
-            record { growable = rw made.pointer grow; ready = ready_still made can.ready; room = rw made.pointer room })
+            record { growable = rw made.extended.pointer grow; ready = ready_still made.extended can.ready; room = rw made.extended.pointer room })
       ]
 
   onward : (d : Building) → OneFront (take i ts ++ t ∷ []) target b d → OneFront (take (i + 1) ts) target b d
@@ -108,14 +113,15 @@ module _ (ts : List Tree) (i : ℕ) (t : Tree) (target : ℕ) (b c : Building) (
         let size = all_leaves-more b.pointer (take i ts) t in
         inr (
           more_some (take i ts) t,
-          makes_as (omega arith) (last_line (take i ts) t) (λ A w.
+          makes_as (of_tree b.pointer t target) (omega arith) (last_line (take i ts) t) (λ A w.
               let (x, y) = LooseOneOf-more b.pointer (holds A) (take i ts) t w in
               (λ k. y (inr k), λ k. elim (x k) [ inl z ↦ absurd (none A w z) | inr z ↦ z ])) one,
         ))
     | inr (some, before) ↦ (
-        let two = makes_either can.ready before (said_before b.pointer t target c d before.pointer made) in
+        let firsts = of_members b.pointer (take i ts) target in
+        let two = makes_either firsts can.ready before (said_before b.pointer t target c d before.extended.pointer made) in
         let size = all_leaves-more b.pointer (take i ts) t in
-        inr (more_some (take i ts) t, makes_as (omega arith) (no_line (take i ts) t some) (λ A w. let (x, y) = LooseOneOf-more b.pointer (holds A) (take i ts) t w in (y, x)) two))
+        inr (more_some (take i ts) t, makes_as (in_place firsts (Either firsts.words (λ A. LooseWord b.pointer (holds A) t)) (firsts.room + leaves_of b.pointer t) ⊥) (omega arith) (no_line (take i ts) t some) (λ A w. let (x, y) = LooseOneOf-more b.pointer (holds A) (take i ts) t w in (y, x)) two))
   ])
 
   pub one_dead : extent_of t ≡ Dead → OneFront (take (i + 1) ts) target b c
@@ -127,7 +133,7 @@ module _ (ts : List Tree) (i : ℕ) (t : Tree) (target : ℕ) (b c : Building) (
             let size = all_leaves-more b.pointer (take i ts) t in
             inr (
               more_some (take i ts) t,
-              makes_as (omega arith) (less_line (take i ts) t) (λ A w.
+              makes_as (of_members b.pointer (take i ts) target) (omega arith) (less_line (take i ts) t) (λ A w.
                   let (x, y) = LooseOneOf-more b.pointer (holds A) (take i ts) t w in
                   (λ k. y (inl k), λ k. elim (x k) [ inl z ↦ z | inr z ↦ absurd (never A w z) ])) before,
             ))
@@ -140,4 +146,4 @@ pub one_done : (ts : List Tree) (target : ℕ) (b c : Building) → CanGrow (Alt
 one_done ts target b c can (inl (same, none)) =
     let (d, w, h) = subst (λ (z : Extent). IsExtent z (λ A. LooseWord b.pointer (holds A) (Alt ts))) can.growable.long (extent_is b.pointer can.ready.pointer.0 (Alt ts)) in
     absurd (none any (d ∷ w) ((LooseWord-Alt b.pointer (holds any) ts (d ∷ w)).0 h))
-one_done ts target b c can (inr (some, made)) = let e = leaves_of-Alt b.pointer ts in makes_as (omega arith) (HasNoChoice-Alt ts).0 (λ A w. let (x, y) = LooseWord-Alt b.pointer (holds A) ts w in (y, x)) made
+one_done ts target b c can (inr (some, made)) = let e = leaves_of-Alt b.pointer ts in makes_as (of_members b.pointer ts target) (omega arith) (HasNoChoice-Alt ts).0 (λ A w. let (x, y) = LooseWord-Alt b.pointer (holds A) ts w in (y, x)) made

@@ -7,20 +7,24 @@ use Rattle.tm_base.specs.Transmutes.{holds}
 use Rattle.tm_auto.specs.declared.build.Building.{Building}
 use Rattle.tm_auto.specs.declared.extent.Extent.{Extent}
 use Rattle.tm_auto.specs.declared.extent.Extent.TheVariants.{Dead, Empty, Long}
-use Rattle.tm_auto.specs.Builds.{IsGrowable, CanGrow, MakesBy, MakesTree, IsPlacedBy, IsSealed, any}
+use Rattle.tm_auto.specs.Builds.{Piece, of_tree, IsGrowable, CanGrow, MakesBy, MakesTree, IsPlacedBy, IsSealed, any}
 use Rattle.tm_auto.specs.Labels.{Begins}
 use Rattle.tm_auto.specs.Loose.{LooseWord}
 use Rattle.tm_auto.specs.Shapes.{extent_of}
 use Rattle.tm_auto.proofs.CaseLemmas.{Front, front_room, front_placed, placed_ready, said_before}
 use Rattle.tm_auto.proofs.ExtentLemmas.{IsExtent, extent_is, even_part}
 use Rattle.tm_auto.proofs.LooseLemmas.{LooseWord-Repeat}
-use Rattle.tm_auto.proofs.MakeLemmas.{IsSame, makes_as, makes_before}
+use Rattle.tm_auto.proofs.MakeLemmas.{IsSame, in_front, in_place, makes_as, makes_before}
 use Rattle.tm_auto.proofs.ShapeLemmas.{extent_of-no_turn, extent_of-turns}
 use Rattle.tm_base.proofs.ShapeLemmas.{leaves_of-Repeat, HasNoChoice-Repeat, HasNoPrivate-Repeat}
 
+-- the words of so many turns
+abbrev pub of_turns : ℕ → ℕ → Tree → ℕ → Piece
+of_turns pointer k t target = record { words = λ A. Times k (LooseWord pointer (holds A) t); target = target; opens = Begins; room = k * leaves_of pointer t; line = HasNoChoice t }
+
 -- so many turns stand
 abbrev pub TimesFront : ℕ → Tree → ℕ → Building → Building → ℕ → Type 0
-TimesFront k t target b c next = Front Begins (HasNoChoice t) (k * leaves_of b.pointer t) (λ A. Times k (LooseWord b.pointer (holds A) t)) target b c next
+TimesFront k t target b c next = Front (of_turns b.pointer k t target) b c next
 
 pub times_none : (t : Tree) (target : ℕ) (b c : Building) → IsSame b c → TimesFront 0 t target b c target
 times_none t target b c same = inl (refl, same, λ A w. (λ h. h, λ h. h))
@@ -56,28 +60,30 @@ module _ (count : ℕ) (t : Tree) (target : ℕ) (b : Building) (can : CanGrow (
       omega arith
 
   pub times_room : (k mark : ℕ) (c : Building) (next : ℕ) → k < count → mark ≡ length b.head.items → TimesFront k t target b c next → mark < length c.head.items → c.states + 1 ≤ 2 ^ 31
-  times_room k mark c next lt em h = let x = leaves_left k lt in front_room {room = k * leaves_of b.pointer t} mark (leaves_of b.pointer (Repeat count t)) em (omega arith) can.room h
+  times_room k mark c next lt em h = let x = leaves_left k lt in front_room (of_turns b.pointer k t target) mark (leaves_of b.pointer (Repeat count t)) em (omega arith) can.room h
 
-  pub times_placed : (k mark : ℕ) (c d : Building) (next state : ℕ) → mark ≡ length b.head.items → TimesFront k t target b c next → IsSealed mark next c d state → IsPlacedBy Begins (HasNoChoice t) (k * leaves_of b.pointer t) (λ A. Times k (LooseWord b.pointer (holds A) t)) target b d state
-  times_placed k mark c d next state em h sealed = front_placed mark d state em can.ready can.ready.plain h sealed
+  pub times_placed : (k mark : ℕ) (c d : Building) (next state : ℕ) → mark ≡ length b.head.items → TimesFront k t target b c next → IsSealed mark next c d state → IsPlacedBy (of_turns b.pointer k t target) b d state
+  times_placed k mark c d next state em h sealed = front_placed (of_turns b.pointer k t target) mark d state em can.ready can.ready.plain h sealed
 
-  pub times_can : (k : ℕ) (d : Building) (state : ℕ) → k < count → IsPlacedBy Begins (HasNoChoice t) (k * leaves_of b.pointer t) (λ A. Times k (LooseWord b.pointer (holds A) t)) target b d state → CanGrow t state d
+  pub times_can : (k : ℕ) (d : Building) (state : ℕ) → k < count → IsPlacedBy (of_turns b.pointer k t target) b d state → CanGrow t state d
   times_can k d state lt h =
       let x = leaves_left k lt in
       let few = h.few in
       let room : d.states + leaves_of b.pointer t ≤ 2 ^ 31 = (let y = can.room in omega arith) in
-      record { growable = rw h.pointer growable; ready = placed_ready can.ready h; room = rw h.pointer room }
+      record { growable = rw h.extended.pointer growable; ready = placed_ready (of_turns b.pointer k t target) (λ l o. o) can.ready h; room = rw h.extended.pointer room }
 
-  pub times_more : (k : ℕ) (d e : Building) (state : ℕ) → IsPlacedBy Begins (HasNoChoice t) (k * leaves_of b.pointer t) (λ A. Times k (LooseWord b.pointer (holds A) t)) target b d state → MakesTree t state d e → TimesFront (k + 1) t target b e state
+  pub times_more : (k : ℕ) (d e : Building) (state : ℕ) → IsPlacedBy (of_turns b.pointer k t target) b d state → MakesTree t state d e → TimesFront (k + 1) t target b e state
   times_more k d e state placed h =
       let next : suc k ≡ k + 1 = omega arith in
       let one = one_more k (leaves_of b.pointer t) in
-      let made : MakesBy Begins (HasNoChoice t) ((k + 1) * leaves_of b.pointer t) (λ A. Times (suc k) (LooseWord b.pointer (holds A) t)) target b e = makes_as (omega arith) (λ l. (l, l)) (λ A w. (λ h. h, λ h. h)) (makes_before placed (said_before b.pointer t state d e placed.pointer h)) in
-      inr (subst (λ (z : ℕ). MakesBy Begins (HasNoChoice t) ((k + 1) * leaves_of b.pointer t) (λ A. Times z (LooseWord b.pointer (holds A) t)) target b e) next made)
+      let turn = of_tree b.pointer t state in
+      let made : MakesBy (in_place (of_turns b.pointer k t target) (λ A. Times (suc k) (LooseWord b.pointer (holds A) t)) ((k + 1) * leaves_of b.pointer t) (HasNoChoice t)) b e =
+      makes_as (in_front turn (of_turns b.pointer k t target)) (omega arith) (λ l. (l, l)) (λ A w. (λ h. h, λ h. h)) (makes_before turn placed (said_before b.pointer t state d e placed.extended.pointer h)) in
+      inr (subst (λ (z : ℕ). MakesBy (in_place (of_turns b.pointer k t target) (λ A. Times z (LooseWord b.pointer (holds A) t)) ((k + 1) * leaves_of b.pointer t) (HasNoChoice t)) b e) next made)
 
   pub times_done : (c : Building) (next : ℕ) → TimesFront count t target b c next → MakesTree (Repeat count t) target b c
   times_done c next (inl (at, same, none)) =
       let (d, w, h) = subst (λ (z : Extent). IsExtent z (λ A. LooseWord b.pointer (holds A) (Repeat count t))) can.growable.long (extent_is b.pointer can.ready.pointer.0 (Repeat count t)) in
       let e : d ∷ w ≡ [] = (none any (d ∷ w)).0 ((LooseWord-Repeat b.pointer (holds any) count t (d ∷ w)).0 h) in
       cc
-  times_done c next (inr made) = let e = leaves_of-Repeat b.pointer count t in makes_as (omega arith) (HasNoChoice-Repeat count t).0 (λ A w. let (x, y) = LooseWord-Repeat b.pointer (holds A) count t w in (y, x)) made
+  times_done c next (inr made) = let e = leaves_of-Repeat b.pointer count t in makes_as (of_turns b.pointer count t target) (omega arith) (HasNoChoice-Repeat count t).0 (λ A w. let (x, y) = LooseWord-Repeat b.pointer (holds A) count t w in (y, x)) made

@@ -94,52 +94,71 @@ pub record Grows (A : ℕ → ℕ → Type 0) (P : Word → Type 0) (es fs : Lis
   pub forth : (w : Word) → Opens A fs ways w → (u : Word) × (v : Word) × (w ≡ u ++ v) × P u × Spells A es v target
   pub back : (u v : Word) → P u → Spells A es v target → Opens A fs ways (u ++ v)
 
--- What is built for the words of P in front of the target: at most `room` edges and ways are new, and
--- fewer states. q holds of the labels of the new ways. Where `line` holds, what led forward in one line
--- still does.
-pub record MakesBy (q : Label → Type 0) (line : Type 0) (room : ℕ) (P : Words) (target : ℕ) (b c : Building) : Type 0 where
+-- What is grown: words in front of a target. They begin with labels of which `opens` holds and take at most
+-- `room` edges, and where `line` holds they lead on in one line.
+pub record Piece : Type 1 where
+  pub words : Words
+  pub target : ℕ
+  pub opens : Label → Type 0
+  pub room : ℕ
+  pub line : Type 0
+
+-- the words of a tree
+abbrev pub of_tree : ℕ → Tree → ℕ → Piece
+of_tree pointer t target = record {
+  words = λ A. LooseWord pointer (holds A) t;
+  target = target;
+  opens = Begins;
+  room = leaves_of pointer t;
+  line = HasNoChoice t;
+}
+
+-- c has the edges of b, and more, which leave new states
+pub record IsExtended (b c : Building) : Type 0 where
   pub pointer : c.pointer ≡ b.pointer
   pub later : b.states ≤ c.states
-  pub few : c.states < b.states + room
   pub more : List Edge
   pub longer : c.edges.items ≡ b.edges.items ++ more
   pub fresh : (e : Edge) → Among e more → b.states ≤ e.from
+  pub sound : IsSound c.pointer c.edges.items c.states
+
+-- The piece is put: the ways by which its words begin are added to the head.
+pub record MakesBy (p : Piece) (b c : Building) : Type 0 where
+  pub extended : IsExtended b c
+  pub few : c.states < b.states + p.room
   pub ways : List Way
   pub head : c.head.items ≡ b.head.items ++ ways
   pub some : ways ≢ []
-  pub linear : length more + length ways ≤ room
-  pub sound : IsSound c.pointer c.edges.items c.states
-  pub each : (way : Way) → Among way ways → IsWay q c way
+  pub linear : length extended.more + length ways ≤ p.room
+  pub each : (way : Way) → Among way ways → IsWay p.opens c way
   pub into : (s : ℕ) → b.states ≤ s → s < c.states → IsLedTo ways c.edges.items s
-  pub covers : IsLedTo ways c.edges.items target
-  pub forward : line → IsForward b.edges.items → IsForward c.edges.items × (length ways ≤ 1)
-  pub grows : (A : ℕ → ℕ → Bool) → Grows (holds A) (P A) b.edges.items c.edges.items ways target
+  pub covers : IsLedTo ways c.edges.items p.target
+  pub forward : p.line → IsForward b.edges.items → IsForward c.edges.items × (length ways ≤ 1)
+  pub grows : (A : ℕ → ℕ → Bool) → Grows (holds A) (p.words A) b.edges.items c.edges.items ways p.target
 
--- The same once the ways have a state: words of P begin there. Where nothing was put, it is the target.
-pub record IsPlacedBy (q : Label → Type 0) (line : Type 0) (room : ℕ) (P : Words) (target : ℕ) (b c : Building) (state : ℕ) : Type 0 where
-  pub pointer : c.pointer ≡ b.pointer
-  pub later : b.states ≤ c.states
-  pub few : c.states ≤ b.states + room
-  pub more : List Edge
-  pub longer : c.edges.items ≡ b.edges.items ++ more
-  pub fresh : (e : Edge) → Among e more → b.states ≤ e.from
+-- The piece is put, and its words begin at the state. Where nothing was put, that is the target.
+pub record IsPlacedBy (p : Piece) (b c : Building) (state : ℕ) : Type 0 where
+  pub extended : IsExtended b c
+  pub few : c.states ≤ b.states + p.room
   pub head : c.head.items ≡ b.head.items
-  pub linear : length more ≤ room
-  pub sound : IsSound c.pointer c.edges.items c.states
+  pub linear : length extended.more ≤ p.room
   pub below : state < c.states
-  pub opens : (e : Edge) → Among e c.edges.items → e.from ≡ state → q e.label
+  pub opens : (e : Edge) → Among e c.edges.items → e.from ≡ state → p.opens e.label
   pub into : (s : ℕ) → b.states ≤ s → s < c.states → (s ≡ state) ⊎ ((e : Edge) × Among e c.edges.items × (e.to ≡ s))
-  pub covers : (target ≡ state) ⊎ ((e : Edge) × Among e c.edges.items × (e.to ≡ target))
-  pub forward : line → IsForward b.edges.items → IsForward c.edges.items
-  pub forth : (A : ℕ → ℕ → Bool) (w : Word) → Spells (holds A) c.edges.items w state → (u : Word) × (v : Word) × (w ≡ u ++ v) × P A u × Spells (holds A) b.edges.items v target
-  pub back : (A : ℕ → ℕ → Bool) (u v : Word) → P A u → Spells (holds A) b.edges.items v target → Spells (holds A) c.edges.items (u ++ v) state
+  pub covers : (p.target ≡ state) ⊎ ((e : Edge) × Among e c.edges.items × (e.to ≡ p.target))
+  pub forward : p.line → IsForward b.edges.items → IsForward c.edges.items
+  pub forth : (A : ℕ → ℕ → Bool) (w : Word) → Spells (holds A) c.edges.items w state
+      → (u : Word) × (v : Word) × (w ≡ u ++ v) × p.words A u × Spells (holds A) b.edges.items v p.target
+  pub back : (A : ℕ → ℕ → Bool) (u v : Word) → p.words A u → Spells (holds A) b.edges.items v p.target
+      → Spells (holds A) c.edges.items (u ++ v) state
 
--- what is built for a tree
+-- the tree is put in front of the target
 abbrev pub MakesTree : Tree → ℕ → Building → Building → Type 0
-MakesTree t target b c = MakesBy Begins (HasNoChoice t) (leaves_of b.pointer t) (λ A. LooseWord b.pointer (holds A) t) target b c
+MakesTree t target b c = MakesBy (of_tree b.pointer t target) b c
 
+-- and its words begin at the state
 abbrev pub IsPlacedTree : Tree → ℕ → Building → Building → ℕ → Type 0
-IsPlacedTree t target b c state = IsPlacedBy Begins (HasNoChoice t) (leaves_of b.pointer t) (λ A. LooseWord b.pointer (holds A) t) target b c state
+IsPlacedTree t target b c state = IsPlacedBy (of_tree b.pointer t target) b c state
 
 -- there is room for a tree that may be grown in front of the target
 pub record CanGrow (t : Tree) (target : ℕ) (b : Building) : Type 0 where

@@ -1,19 +1,19 @@
 use Rattle.std.proofs.Common.{◌≡◌, ◌<◌, ◌^◌, ◌-◌, arith, rules, length, refl, subst, ℕ}
 use Rattle.tm_base.specs.Shapes.{leaves_of}
-use Rattle.tm_auto.proofs.CaseLemmas.{RefFront, ref_none, ref_turn, ref_done, front_mark, front_room}
+use Rattle.tm_auto.proofs.CaseLemmas.{RefFront, of_bytes, ref_none, ref_turn, ref_done, front_mark, front_room}
 use Rattle.tm_auto.proofs.build.Building.grow_ref.Goals as goal
 
 pub loop-place-init : goal.loop-place-init
 loop-place-init c = ref_none c.args.reference c.args.target _ _ (record { pointer = refl; states = refl; edges = refl; head = refl })
 
 pub seal-requires-clause-mark : goal.seal-requires-clause-mark
-seal-requires-clause-mark c = let mark : c.len-mark.result ≡ length c.args.self.now.head.items = search rules in front_mark c.len-mark.result mark c.loop-place.invariant
+seal-requires-clause-mark c = let mark : c.len-mark.result ≡ length c.args.self.now.head.items = search rules in front_mark (of_bytes c.args.reference c.loop-place.place (c.args.self.now.pointer - c.loop-place.place) c.args.target) c.len-mark.result mark c.loop-place.invariant
 
 pub seal-requires-clause-room : goal.seal-requires-clause-room
 unfolding leaves_of
 seal-requires-clause-room c =
     let mark : c.len-mark.result ≡ length c.args.self.now.head.items = search rules in
-    front_room {room = c.args.self.now.pointer - c.loop-place.place} c.len-mark.result c.args.self.now.pointer mark (omega arith) c.requires.room c.loop-place.invariant
+    front_room (of_bytes c.args.reference c.loop-place.place (c.args.self.now.pointer - c.loop-place.place) c.args.target) c.len-mark.result c.args.self.now.pointer mark (omega arith) c.requires.room c.loop-place.invariant
 
 pub loop-place-preserved : goal.loop-place-preserved
 loop-place-preserved c =
