@@ -30,9 +30,23 @@ impl Model for Auto {
 
     ghost Value = { Automaton };
 
-    ghost view = { λ auto. record { states = auto.states; edges = auto.edges; starts = auto.starts; size = auto.size; pointer = auto.pointer } };
+    ghost view = { λ auto.
+        record {
+          states = auto.states;
+          edges = auto.edges;
+          starts = auto.starts;
+          size = auto.size;
+          pointer = auto.pointer;
+        } };
 
-    ghost invariant = { λ auto. IsAutomaton (record { states = auto.states; edges = auto.edges; starts = auto.starts; size = auto.size; pointer = auto.pointer }) };
+    ghost invariant = { λ auto. IsAutomaton
+        (record {
+          states = auto.states;
+          edges = auto.edges;
+          starts = auto.starts;
+          size = auto.size;
+          pointer = auto.pointer;
+        }) };
 }
 
 impl Auto {
@@ -121,7 +135,8 @@ impl Auto {
         requires { AreStates self.now from.now }
         ensures step { IfOk result (λ set. IsStep (M.test refs.now) self.now from.now symbol set) }
         ensures states { IfOk result (λ set. AreStates self.now set) }
-        ensures layer { (k : ℕ) → AreInLayer self.now k from.now → IfOk result (λ set. AreInLayer self.now (k + 1) set) }
+        ensures layer { (k : ℕ) → AreInLayer self.now k from.now
+            → IfOk result (λ set. AreInLayer self.now (k + 1) set) }
     {
         let mut reached = StateSet::new(alloc);
         for state in from.as_slice() {

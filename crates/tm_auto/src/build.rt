@@ -46,7 +46,8 @@ impl Building {
     /// where it has none.
     pub(crate) fn whole(&mut self, tree: &Tree) -> Result<Option<u32>, Memory>
         requires { CanBegin tree.now self.old }
-        ensures start { IfOk result (λ start. IfSome start (λ state. IsPlacedTree tree.now 0 self.old self.new state)) }
+        ensures start { IfOk result
+            (λ start. IfSome start (λ state. IsPlacedTree tree.now 0 self.old self.new state)) }
         ensures none { IfOk result (λ start. IfNone start (HasNoLoose self.old.pointer tree.now)) }
     {
         match Extent::of(tree) {

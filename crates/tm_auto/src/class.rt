@@ -158,7 +158,8 @@ fn add_uninit(symbols: &mut List<Symbol>, labels: &[Label]) -> Result<(), Memory
 
 // Adds the bytes of references that the labels take, in order. A reference has at most 8.
 fn add_references(alloc: Global, symbols: &mut List<Symbol>, labels: &[Label]) -> Result<(), Memory>
-    ensures { OnOk result (symbols.new ≡ symbols.old ++ references_of labels.now (with_ids labels.now [])) }
+    ensures { OnOk result
+        (symbols.new ≡ symbols.old ++ references_of labels.now (with_ids labels.now [])) }
 {
     let ids = ids_of(alloc, labels)?;
     for id in ids.as_slice() {

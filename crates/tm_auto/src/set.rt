@@ -80,7 +80,8 @@ impl StateSet {
 fn place_of(states: &[u32], state: u32) -> Option<usize>
     requires { IsStrictlyIncreasing states.now }
     ensures bound { IfSome result (λ place. place ≤ length states.now) }
-    ensures place { IfSome result (λ place. insert states.now place state ≡ with_state state states.now) }
+    ensures place { IfSome result
+        (λ place. insert states.now place state ≡ with_state state states.now) }
     ensures there { IfNone result (with_state state states.now ≡ states.now) }
 {
     let place = states.partition_point(|other| *other < state);
