@@ -9,8 +9,8 @@ use Rattle.tm_parse.specs.Bounds.{HasFewItems}
 use Rattle.tm_parse.specs.Definitions.{headed_any, definition}
 use Rattle.tm_parse.specs.Files.{item, sorted, file}
 use Rattle.tm_parse.specs.Counting.{none_yet}
-use Rattle.tm_parse.specs.declared.items.Item.{Item}
-use Rattle.tm_parse.specs.declared.items.Item.TheVariants as sort
+use Rattle.tm_parse.specs.declared.reader.items.Item.{Item}
+use Rattle.tm_parse.specs.declared.reader.items.Item.TheVariants as sort
 use Rattle.tm_parse.specs.declared.parsed.Parsed.{Parsed}
 use Rattle.tm_parse.specs.declared.terminal.Terminal.{Terminal}
 

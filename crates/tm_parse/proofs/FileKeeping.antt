@@ -7,8 +7,8 @@ use Rattle.tm_parse.proofs.LimitLemmas.{is-counted}
 use Rattle.tm_parse.specs.Definitions.{definition}
 use Rattle.tm_parse.specs.Files.{question, item, with_item, sorted, file}
 use Rattle.tm_parse.specs.Counting.{none_yet}
-use Rattle.tm_parse.specs.declared.items.Item.{Item}
-use Rattle.tm_parse.specs.declared.items.Item.TheVariants as sort
+use Rattle.tm_parse.specs.declared.reader.items.Item.{Item}
+use Rattle.tm_parse.specs.declared.reader.items.Item.TheVariants as sort
 use Rattle.tm_parse.specs.declared.parsed.Decl.{Decl}
 use Rattle.tm_parse.specs.declared.parsed.DeclAsk.{DeclAsk}
 use Rattle.tm_parse.specs.declared.parsed.DeclBound.{DeclBound}

@@ -5,8 +5,8 @@ use Rattle.tm_parse.specs.Combinators.{mapped, to, read_all}
 use Rattle.tm_parse.specs.Files.{appended, item, sorted, with_item}
 use Rattle.tm_parse.specs.Parts.{Outcome, Done}
 use Rattle.tm_parse.specs.declared.counts.Counts.{Counts}
-use Rattle.tm_parse.specs.declared.items.Item.{Item}
-use Rattle.tm_parse.specs.declared.items.Item.TheVariants as sort
+use Rattle.tm_parse.specs.declared.reader.items.Item.{Item}
+use Rattle.tm_parse.specs.declared.reader.items.Item.TheVariants as sort
 use Rattle.tm_parse.specs.declared.parsed.Parsed.{Parsed}
 use Rattle.tm_parse.specs.declared.terminal.Terminal.{Terminal}
 

@@ -12,7 +12,7 @@ use Rattle.tm_parse.specs.declared.class.Class.{Class}
 use Rattle.tm_parse.specs.declared.class.Class.TheVariants as c
 use Rattle.tm_parse.specs.declared.counts.Counts.{Counts}
 use Rattle.tm_base.specs.declared.limit.LimitKind.TheVariants as limit
-use Rattle.tm_parse.specs.declared.items.Item.TheVariants as sort
+use Rattle.tm_parse.specs.declared.reader.items.Item.TheVariants as sort
 use Rattle.tm_parse.specs.declared.parsed.Expr.TheVariants as expr
 use Rattle.tm_parse.specs.declared.terminal.Terminal.{Terminal}
 

@@ -11,8 +11,8 @@ use Rattle.tm_parse.specs.Shapes.{any, the, optional, many, listed1}
 use Rattle.tm_parse.specs.Types.{type_at}
 use Rattle.tm_parse.specs.declared.class.Class.{Class}
 use Rattle.tm_parse.specs.declared.class.Class.TheVariants as c
-use Rattle.tm_parse.specs.declared.items.Item.{Item}
-use Rattle.tm_parse.specs.declared.items.Item.TheVariants as sort
+use Rattle.tm_parse.specs.declared.reader.items.Item.{Item}
+use Rattle.tm_parse.specs.declared.reader.items.Item.TheVariants as sort
 use Rattle.tm_parse.specs.declared.parsed.Parsed.{Parsed}
 use Rattle.tm_parse.specs.declared.terminal.Terminal.{Terminal}
 

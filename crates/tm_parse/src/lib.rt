@@ -2,28 +2,16 @@
 //! a list stops that begins no file.
 #![tactic(auto)]
 
-mod attributes;
 mod class;
 mod classify;
 mod counts;
-mod definitions;
-mod fields;
-mod items;
 mod laws;
 mod mark;
-mod names;
-mod numbers;
-mod parameters;
 mod parsed;
 mod parsing;
-mod questions;
 mod reader;
-mod rule;
 mod stop;
 mod terminal;
-mod type_lists;
-mod types;
-mod variants;
 mod vocabulary;
 
 pub use class::Class;

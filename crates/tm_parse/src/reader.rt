@@ -4,6 +4,19 @@ ghost use Rattle.tm_parse.specs.Counting.{none_yet};
 ghost use Rattle.tm_parse.specs.Reads.{Begins, Reads};
 ghost use Rattle.tm_parse.specs.Shapes.{any, is_there, optional, the};
 
+mod attributes;
+mod definitions;
+mod fields;
+mod items;
+mod names;
+mod numbers;
+mod parameters;
+mod questions;
+mod rule;
+mod type_lists;
+mod types;
+mod variants;
+
 use crate::class::Class;
 use crate::counts::Counts;
 use crate::mark::Mark;

@@ -9,10 +9,10 @@ ghost use Rattle.tm_parse.specs.Types.{
 };
 
 use crate::class::Class;
-use crate::parameters::places;
 use crate::parsed::Expr;
 use crate::reader::Reader;
-use crate::rule::AnyOf;
+use crate::reader::parameters::places;
+use crate::reader::rule::AnyOf;
 use crate::stop::Stop;
 use crate::terminal::Terminal;
 use tm_base::List;

@@ -7,7 +7,7 @@ ghost use Rattle.tm_parse.specs.Types.{definition_names, names};
 
 use crate::class::Class;
 use crate::reader::Reader;
-use crate::rule::Rule;
+use crate::reader::rule::Rule;
 use crate::stop::Stop;
 use crate::terminal::Terminal;
 

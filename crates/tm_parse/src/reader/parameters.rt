@@ -11,7 +11,7 @@ ghost use Rattle.tm_parse.specs.Types.{places as places_of};
 use crate::class::Class;
 use crate::mark::Mark;
 use crate::reader::Reader;
-use crate::rule::Rule;
+use crate::reader::rule::Rule;
 use crate::stop::Stop;
 use crate::terminal::Terminal;
 use std::alloc::Global;

@@ -15,10 +15,10 @@ ghost use Rattle.tm_parse.specs.Reads.{Reads};
 ghost use Rattle.tm_parse.specs.Shapes.{many as many_rule, optional};
 
 use crate::class::Class;
-use crate::names::Word;
 use crate::parsed::{DeclRepr, ReprItem};
 use crate::reader::Reader;
-use crate::rule::Rule;
+use crate::reader::names::Word;
+use crate::reader::rule::Rule;
 use crate::stop::Stop;
 use std::alloc::Global;
 use tm_base::{List, Memory};

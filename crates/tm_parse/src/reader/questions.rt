@@ -10,11 +10,11 @@ ghost use Rattle.tm_parse.specs.Files.{
 ghost use Rattle.tm_parse.specs.Reads.{Reads};
 
 use crate::class::Class;
-use crate::items::Item;
 use crate::mark::Mark;
 use crate::parsed::DeclAsk;
 use crate::reader::Reader;
-use crate::rule::AnyOf;
+use crate::reader::items::Item;
+use crate::reader::rule::AnyOf;
 use crate::stop::Stop;
 use crate::terminal::Terminal;
 use tm_base::Assume;

@@ -12,11 +12,11 @@ ghost use Rattle.tm_parse.specs.Shapes.{optional};
 ghost use Rattle.tm_parse.specs.Types.{or_none as or_none_of};
 
 use crate::class::Class;
-use crate::fields::{Field, Place, VariantField, VariantPlace};
 use crate::mark::Mark;
 use crate::parsed::{DeclField, DeclVariant};
 use crate::reader::Reader;
-use crate::rule::Rule;
+use crate::reader::fields::{Field, Place, VariantField, VariantPlace};
+use crate::reader::rule::Rule;
 use crate::stop::Stop;
 use std::alloc::Global;
 use tm_base::{List, Memory};

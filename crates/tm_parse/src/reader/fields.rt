@@ -14,10 +14,10 @@ ghost use Rattle.tm_parse.specs.Reads.{Reads};
 
 use crate::class::Class;
 use crate::mark::Mark;
-use crate::names::{NARROWER, is_public};
 use crate::parsed::{DeclField, Expr};
 use crate::reader::Reader;
-use crate::rule::Rule;
+use crate::reader::names::{NARROWER, is_public};
+use crate::reader::rule::Rule;
 use crate::stop::Stop;
 
 /// A field with a name.
