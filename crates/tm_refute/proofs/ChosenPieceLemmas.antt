@@ -13,6 +13,7 @@ use Rattle.tm_base.specs.Valid.{Valid}
 use Rattle.tm_base.specs.Viable.{HasWord, RefusesAt, Viable}
 use Rattle.tm_auto.specs.Automata.{Automaton, AutoWord, IsViable, equal}
 use Rattle.tm_refs.specs.declared.compat.Compat.{Compat}
+use Rattle.tm_refs.specs.Leaves.{leaf_of}
 use Rattle.tm_refs.specs.Pointees.{IsAutomatonOf}
 use Rattle.tm_refs.specs.Solved.{IsDepthAnswer, IsSolvedFor, depth_in}
 use Rattle.tm_walk.specs.Meanings as walk
@@ -41,8 +42,8 @@ module _ (tables : Tables) (assume : Assume) where
     abbrev A : ℕ → ℕ → Type 0
     A = HoldsBelow tables assume limit
 
-    same : (r t : ℕ) → holds test r t ↔ A r t
-    same r t = stands-below r t limit (depth_in compat r t) (solved.depth r t)
+    same : (g : Ground) (r t : ℕ) → IsTrue (leaf_of tables g t) → holds test r t ↔ A r t
+    same g r t leaf = stands-below r t limit (depth_in compat r t) (solved.depth r t)
 
     module _ (from to : Ground) (src dst : Automaton) (of_source : IsAutomatonOf tables true from src) (of_target : IsAutomatonOf tables assume.safety to dst) where
       abbrev s : Expanded
@@ -52,22 +53,22 @@ module _ (tables : Tables) (assume : Assume) where
       t = expanded_in tables to
 
       value-same : (w : Word) → sought.IsSourceWord src w ↔ IsSourceWord s w
-      value-same w = word-valid tables true from src of_source equal Same (λ x u. (λ e. (Decides-eqb x u).0 e, λ e. (Decides-eqb x u).1 e)) w
+      value-same w = word-valid tables true from src of_source equal Same (λ x u leaf. (λ e. (Decides-eqb x u).0 e, λ e. (Decides-eqb x u).1 e)) w
 
       fits-same : (w : Word) → walk.Fits test src dst w ↔ Fits A assume.safety t w
       fits-same w =
           subst (λ (n : ℕ). AutoWord (holds test) dst (fit w n) ↔ Valid A assume.safety t (fit w (size_of t))) (sym of_target.size)
-          (word-valid tables assume.safety to dst of_target test A same (fit w (size_of t)))
+          (word-valid tables assume.safety to dst of_target test A (same to) (fit w (size_of t)))
 
       inhabited-same : walk.IsInhabited test src dst ↔ HasWord A assume.safety t
       inhabited-same =
-          let both = own_word-valid tables assume.safety to dst of_target test A same in
+          let both = own_word-valid tables assume.safety to dst of_target test A (same to) in
           (λ (w, h). (w, (both w).0 h), λ (w, h). (w, (both w).1 h))
 
       viable_to-same : (w : Word) (place : ℕ) → sought.IsViableTo test dst w place ↔ Viable A assume.safety t (take place (fit w (size_of t)))
       viable_to-same w place =
           subst (λ (n : ℕ). IsViable (holds test) dst (take place (fit w n)) ↔ Viable A assume.safety t (take place (fit w (size_of t)))) (sym of_target.size)
-          (viable-same tables assume.safety to dst of_target test A same (take place (fit w (size_of t))))
+          (viable-same tables assume.safety to dst of_target test A (same to) (take place (fit w (size_of t))))
 
       refused-same : (w : Word) (o : ℕ) → walk.IsRefusedAt test src dst w o ↔ RefusesAt A assume.safety t w o
       refused-same w o =
