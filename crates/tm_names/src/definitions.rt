@@ -8,7 +8,7 @@ ghost use Rattle.tm_names.specs.Source.{names_in};
 
 use crate::indexed::Definitions;
 use crate::meaning::Meaning;
-use crate::source::{Source, first_among, name};
+use crate::source::Source;
 use indexmap::IndexMap;
 use std::alloc::Global;
 use tm_base::Memory;
@@ -45,7 +45,7 @@ pub fn indexed<'a>(
 {
     let mut firsts = IndexMap::new(alloc);
     'definitions: for (number, decl) in decls.iter().enumerate() {
-        match note(&mut firsts, name(source, decl.name), number) {
+        match note(&mut firsts, source.name(decl.name), number) {
             Ok(()) => {}
             Err(_) => return Err(Memory),
         }
@@ -53,32 +53,28 @@ pub fn indexed<'a>(
     Ok(Definitions { decls, firsts })
 }
 
-/// The number of the first definition that has the name of the token at a place.
-pub fn first_named(source: &Source, definitions: &Definitions, place: u32) -> Option<usize>
-    requires { IsIndexed (names_in source.now) definitions.now }
-    ensures first { result ≡ first_named (names_in source.now) definitions.now.decls.now place }
-    ensures within { IfSome result (λ number. number < length definitions.now.decls.now) }
-{
-    definitions.firsts.get(name(source, place)).copied()
-}
-
-/// What the name of the token at a place means, where these type parameters are in sight.
-pub fn meaning(
-    source: &Source,
-    definitions: &Definitions,
-    types: &[u32],
-    place: u32,
-) -> Option<Meaning>
-    requires { IsIndexed (names_in source.now) definitions.now }
-    ensures meant { result ≡ meaning_of (names_in source.now)
-        definitions.now.decls.now types.now place }
-    ensures within { IfSome result (IsAtPlace definitions.now.decls.now types.now) }
-{
-    if let Some(number) = first_among(source, types, place) {
-        return Some(Meaning::Parameter(number));
+impl Definitions<'_> {
+    /// The number of the first definition that has the name of the token at a place.
+    pub fn first_named(&self, source: &Source, place: u32) -> Option<usize>
+        requires { IsIndexed (names_in source.now) self.now }
+        ensures first { result ≡ first_named (names_in source.now) self.now.decls.now place }
+        ensures within { IfSome result (λ number. number < length self.now.decls.now) }
+    {
+        self.firsts.get(source.name(place)).copied()
     }
-    match first_named(source, definitions, place) {
-        None => None,
-        Some(number) => Some(Meaning::Definition(number)),
+
+    /// What the name of the token at a place means, where these type parameters are in sight.
+    pub fn meaning(&self, source: &Source, types: &[u32], place: u32) -> Option<Meaning>
+        requires { IsIndexed (names_in source.now) self.now }
+        ensures meant { result ≡ meaning_of (names_in source.now) self.now.decls.now types.now place }
+        ensures within { IfSome result (IsAtPlace self.now.decls.now types.now) }
+    {
+        if let Some(number) = source.first_among(types, place) {
+            return Some(Meaning::Parameter(number));
+        }
+        match self.first_named(source, place) {
+            None => None,
+            Some(number) => Some(Meaning::Definition(number)),
+        }
     }
 }

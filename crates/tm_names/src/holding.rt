@@ -7,7 +7,6 @@ ghost use Rattle.tm_names.specs.Source.{names_in};
 
 use crate::adding::add;
 use crate::closure::{bit, row_at};
-use crate::definitions::meaning;
 use crate::indexed::Definitions;
 use crate::meaning::Meaning;
 use crate::source::Source;
@@ -65,7 +64,7 @@ fn add_held(
             add_held(found, source, definitions, own, types, argument.get())
         }
         Expr::Named(place, _, arguments) => {
-            let Some(meaning) = meaning(source, definitions, types, *place) else {
+            let Some(meaning) = definitions.meaning(source, types, *place) else {
                 return Ok(());
             };
             add(found, meaning)?;

@@ -5,7 +5,7 @@ ghost use Rattle.tm_names.specs.Source.{names_in};
 
 use crate::resolved::Life;
 use crate::sight::{Names, Sight};
-use crate::source::{Source, first_among, is_static};
+use crate::source::Source;
 use tm_base::{Bound, RegionId};
 use tm_parse::DeclBound;
 
@@ -13,15 +13,15 @@ use tm_parse::DeclBound;
 pub fn life(source: &Source, sight: &Sight, place: u32) -> Life
     ensures { result ≡ life_in (names_in source.now) sight.now place }
 {
-    if is_static(source, place) {
+    if source.is_static(place) {
         return Life::Static;
     }
     match sight {
-        Sight::Params(params, _) => match first_among(source, params.places, place) {
+        Sight::Params(params, _) => match source.first_among(params.places, place) {
             None => Life::Static,
             Some(number) => Life::Param(number as u32),
         },
-        Sight::Declared(lifetimes) => match first_among(source, lifetimes.places, place) {
+        Sight::Declared(lifetimes) => match source.first_among(lifetimes.places, place) {
             None => Life::Static,
             Some(number) => Life::Declared(number as u32 + 1),
         },
@@ -32,10 +32,10 @@ pub fn life(source: &Source, sight: &Sight, place: u32) -> Life
 fn region(source: &Source, lifetimes: &Names, place: u32) -> RegionId
     ensures { result ≡ region_of (names_in source.now) lifetimes.now.places.now place }
 {
-    if is_static(source, place) {
+    if source.is_static(place) {
         return RegionId(0);
     }
-    match first_among(source, lifetimes.places, place) {
+    match source.first_among(lifetimes.places, place) {
         None => RegionId(0),
         Some(number) => RegionId(number as u32 + 1),
     }

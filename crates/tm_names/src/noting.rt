@@ -6,19 +6,18 @@ ghost use Rattle.tm_names.specs.Scopes.{is_in_sight};
 ghost use Rattle.tm_names.specs.Indexing.{IsIndexed};
 ghost use Rattle.tm_names.specs.Source.{names_in};
 
-use crate::definitions::meaning;
 use crate::indexed::Definitions;
 use crate::least::Faults;
 use crate::meaning::Meaning;
 use crate::mentions::{Mention, NameMention};
-use crate::source::{Source, is_among, is_reserved, is_static};
+use crate::source::Source;
 use tm_base::NameWhy;
 
 /// Whether the lifetime at a place is in sight.
 fn is_in_sight(source: &Source, sight: &[u32], place: u32) -> bool
     ensures { result ≡ is_in_sight (names_in source.now) sight.now place }
 {
-    is_static(source, place) || is_among(source, sight, place)
+    source.is_static(place) || source.is_among(sight, place)
 }
 
 /// Whether what is given to a name is what it takes.
@@ -43,7 +42,7 @@ impl Faults {
             (repeats (names_in source.now) places.now) }
     {
         for (number, place) in places.iter().enumerate() {
-            let again = is_among(source, &places[..number], *place);
+            let again = source.is_among(&places[..number], *place);
             self.note(again, NameWhy::Twice, *place);
         }
     }
@@ -54,7 +53,7 @@ impl Faults {
             (reserved (names_in source.now) places.now) }
     {
         for place in places {
-            self.note(is_reserved(source, *place), NameWhy::Lifetime, *place);
+            self.note(source.is_reserved(*place), NameWhy::Lifetime, *place);
         }
     }
 
@@ -71,7 +70,7 @@ impl Faults {
             (name_faults definitions.now.decls.now mention (meaning_of (names_in source.now)
             definitions.now.decls.now types.now mention.place)) }
     {
-        match meaning(source, definitions, types, mention.place) {
+        match definitions.meaning(source, types, mention.place) {
             None => self.note(true, NameWhy::Unknown, mention.place),
             Some(meaning) => {
                 let differs = !takes(definitions, meaning, mention);

@@ -23,58 +23,60 @@ fn piece(text: &str, start: u32, end: u32) -> &[u8]
     &bytes[start..end]
 }
 
-/// The bytes of the token at a place; none where there is no token.
-pub fn name<'a>(source: &Source<'a>, place: u32) -> &'a [u8]
-    ensures { result.now ≡ names_in source.now place }
-{
-    match source.tokens.get(place as usize) {
-        None => &[],
-        Some(token) => piece(source.text, token.start, token.end),
-    }
-}
-
-/// Whether the tokens at two places have one name.
-pub fn is_same(source: &Source, place: u32, other: u32) -> bool
-    ensures { result ≡ is_same (names_in source.now) place other }
-{
-    name(source, place) == name(source, other)
-}
-
-/// Whether one of these places has the name of the token at a place.
-pub fn is_among(source: &Source, places: &[u32], place: u32) -> bool
-    ensures { result ≡ is_among (names_in source.now) places.now place }
-{
-    for other in places {
-        if is_same(source, *other, place) {
-            return true;
+impl<'a> Source<'a> {
+    /// The bytes of the token at a place; none where there is no token.
+    pub fn name(&self, place: u32) -> &'a [u8]
+        ensures { result.now ≡ names_in self.now place }
+    {
+        match self.tokens.get(place as usize) {
+            None => &[],
+            Some(token) => piece(self.text, token.start, token.end),
         }
     }
-    false
-}
 
-/// The number of the first of these places that has the name of the token at a place.
-pub fn first_among(source: &Source, places: &[u32], place: u32) -> Option<usize>
-    ensures first { result ≡ first_among (names_in source.now) places.now place }
-    ensures within { IfSome result (λ number. number < length places.now) }
-{
-    for (number, other) in places.iter().enumerate() {
-        if is_same(source, *other, place) {
-            return Some(number);
-        }
+    /// Whether the tokens at two places have one name.
+    pub fn is_same(&self, place: u32, other: u32) -> bool
+        ensures { result ≡ is_same (names_in self.now) place other }
+    {
+        self.name(place) == self.name(other)
     }
-    None
-}
 
-/// Whether the token at a place is `'static`.
-pub fn is_static(source: &Source, place: u32) -> bool
-    ensures { result ≡ is_static (names_in source.now) place }
-{
-    name(source, place) == "'static".as_bytes()
-}
+    /// Whether one of these places has the name of the token at a place.
+    pub fn is_among(&self, places: &[u32], place: u32) -> bool
+        ensures { result ≡ is_among (names_in self.now) places.now place }
+    {
+        for other in places {
+            if self.is_same(*other, place) {
+                return true;
+            }
+        }
+        false
+    }
 
-/// Whether the token at a place is `'static` or `'_`, which can't be declared.
-pub fn is_reserved(source: &Source, place: u32) -> bool
-    ensures { result ≡ is_reserved (names_in source.now) place }
-{
-    is_static(source, place) || name(source, place) == "'_".as_bytes()
+    /// The number of the first of these places that has the name of the token at a place.
+    pub fn first_among(&self, places: &[u32], place: u32) -> Option<usize>
+        ensures first { result ≡ first_among (names_in self.now) places.now place }
+        ensures within { IfSome result (λ number. number < length places.now) }
+    {
+        for (number, other) in places.iter().enumerate() {
+            if self.is_same(*other, place) {
+                return Some(number);
+            }
+        }
+        None
+    }
+
+    /// Whether the token at a place is `'static`.
+    pub fn is_static(&self, place: u32) -> bool
+        ensures { result ≡ is_static (names_in self.now) place }
+    {
+        self.name(place) == "'static".as_bytes()
+    }
+
+    /// Whether the token at a place is `'static` or `'_`, which can't be declared.
+    pub fn is_reserved(&self, place: u32) -> bool
+        ensures { result ≡ is_reserved (names_in self.now) place }
+    {
+        self.is_static(place) || self.name(place) == "'_".as_bytes()
+    }
 }

@@ -6,7 +6,6 @@ ghost use Rattle.tm_names.specs.Indexing.{IsIndexed};
 ghost use Rattle.tm_names.specs.Source.{names_in};
 
 use crate::adding::add;
-use crate::definitions::meaning;
 use crate::indexed::Definitions;
 use crate::lives::life;
 use crate::meaning::Meaning;
@@ -41,7 +40,7 @@ fn named(
     ensures { result ≡ named (meaning_of (names_in source.now) definitions.now.decls.now
         (types_in sight.now) place) lives types }
 {
-    match meaning(source, definitions, types_in(sight), place) {
+    match definitions.meaning(source, types_in(sight), place) {
         None => Open::Named(DefId(0), lives, types),
         Some(Meaning::Definition(number)) => Open::Named(DefId(number as u32), lives, types),
         Some(Meaning::Parameter(number)) => Open::Param(number as u32),

@@ -4,14 +4,14 @@ use Rattle.std.specs.Str.{bytes_eq}
 use Rattle.tm_names.proofs.KnownLemmas.{each_found}
 use Rattle.tm_names.specs.Source.{names_in}
 use Rattle.tm_names.specs.Written.{is_same}
-use Rattle.tm_names.proofs.definitions.first_named.Goals as goal
+use Rattle.tm_names.proofs.indexed.Definitions.first_named.Goals as goal
 
 pub returns-clause-first : goal.returns-clause-first
 returns-clause-first c =
     c.copied.ensures ∙ (c.get.ensures.value
-    ∙ (ap (λ bytes. get_by (λ key. bytes_eq bytes key.now) c.args.definitions.now.firsts) c.name.ensures
+    ∙ (ap (λ bytes. get_by (λ key. bytes_eq bytes key.now) c.args.self.now.firsts) c.name.ensures
     ∙ c.requires.found (names_in c.args.source.now c.args.place)))
 
 pub returns-clause-within : goal.returns-clause-within
 returns-clause-within c =
-    each_found (λ d. is_same (names_in c.args.source.now) d.name c.args.place) c.args.definitions.now.decls.now c.copied.result (returns-clause-first c)
+    each_found (λ d. is_same (names_in c.args.source.now) d.name c.args.place) c.args.self.now.decls.now c.copied.result (returns-clause-first c)
