@@ -77,8 +77,10 @@ fn in_text_order(
 ) -> Result<TypeSet, Memory>
     requires numbers { HaveNumbersIn found.now (closed_types set.now) }
     requires distinct { AreDistinct (closed_types set.now) }
-    ensures moved { IfOk result (λ ordered. IsPermutation (closed_types set.now) (closed_types ordered)) }
-    ensures sorted { IfOk result (λ ordered. AreSortedIn found.now world.now (closed_types ordered)) }
+    ensures moved { IfOk result
+        (λ ordered. IsPermutation (closed_types set.now) (closed_types ordered)) }
+    ensures sorted { IfOk result
+        (λ ordered. AreSortedIn found.now world.now (closed_types ordered)) }
 {
     let mut all = with_texts(alloc, found, world, set.types())?;
     all.sort_unstable_by(|some, other| some.text.as_str().cmp(other.text.as_str()));

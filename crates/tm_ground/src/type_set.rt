@@ -80,7 +80,8 @@ impl TypeSet {
         ensures found { IfOk result (λ place. IfSome place (λ k. slice_get (closed_types self.now) k
             ≡ Some (put_in regions.now (closed_types args.now) ty.now))) }
         ensures absent { IfOk result (λ place. IfNone place
-            (¬ Contains (closed_types self.now) (put_in regions.now (closed_types args.now) ty.now))) }
+            (¬ Contains (closed_types self.now)
+            (put_in regions.now (closed_types args.now) ty.now))) }
     {
         let code = Code::of(alloc, regions, args, ty)?;
         Ok(self.place(&code))

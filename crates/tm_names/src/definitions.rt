@@ -66,7 +66,8 @@ impl Definitions<'_> {
     /// What the name of the token at a place means, where these type parameters are in sight.
     pub fn meaning(&self, source: &Source, types: &[u32], place: u32) -> Option<Meaning>
         requires { IsIndexed (names_in source.now) self.now }
-        ensures meant { result ≡ meaning_of (names_in source.now) self.now.decls.now types.now place }
+        ensures meant { result
+            ≡ meaning_of (names_in source.now) self.now.decls.now types.now place }
         ensures within { IfSome result (IsAtPlace self.now.decls.now types.now) }
     {
         if let Some(number) = source.first_among(types, place) {
