@@ -20,7 +20,7 @@ use Rattle.tm_refute.specs.Asking.{AsksAll, AsksToo, HasSource, IsAskedBy, is_as
 use Rattle.tm_refute.specs.Chosen.{shown}
 use Rattle.tm_refute.specs.Depths.{stands}
 use Rattle.tm_refute.specs.Refutes.{IsBelow}
-use Rattle.tm_refute.specs.declared.asked.Asked.{Asked}
+use Rattle.tm_refute.specs.declared.refuting.asked.Asked.{Asked}
 use Rattle.tm_refute.specs.declared.refutation.Piece.{Piece}
 use Rattle.tm_refute.proofs.ChosenLeafLemmas.{known, shown-leaf}
 use Rattle.tm_refute.proofs.ChosenOrderLemmas.{first, other}

@@ -27,8 +27,8 @@ use Rattle.tm_refute.specs.Chosen.{AreInOrder, Asks, EntryAsks, IsAnswered, IsAs
 use Rattle.tm_base.specs.declared.cell.RefId.{RefId}
 use Rattle.tm_refute.specs.Entries.{AreAskedBy, AreEntriesFor, AreJudgedPair, AsksMore, failing_of}
 use Rattle.tm_refute.specs.Failing.{AreFailing, AreSorted, fails_before}
-use Rattle.tm_refute.specs.declared.asked.Asked.{Asked}
-use Rattle.tm_refute.specs.declared.failing.Failing.{Failing}
+use Rattle.tm_refute.specs.declared.refuting.asked.Asked.{Asked}
+use Rattle.tm_refute.specs.declared.refuting.failing.Failing.{Failing}
 use Rattle.tm_refute.specs.declared.refutation.Entry.{Entry}
 use Rattle.tm_refute.specs.declared.refutation.Proof.{Proof}
 use Rattle.tm_refute.specs.declared.refutation.Proof.TheVariants.{Local, Forward, Reverse}

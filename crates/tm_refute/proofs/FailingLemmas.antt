@@ -12,7 +12,7 @@ use Rattle.tm_base.specs.Tables.{Tables}
 use Rattle.tm_refs.specs.declared.compat.Compat.{Compat}
 use Rattle.tm_refs.specs.Solved.{depth_in}
 use Rattle.tm_refs.proofs.ListLemmas.{filter-at}
-use Rattle.tm_refute.specs.declared.failing.Failing.{Failing}
+use Rattle.tm_refute.specs.declared.refuting.failing.Failing.{Failing}
 use Rattle.tm_refute.specs.Failing.{AreFailing, AreSorted, fails_before}
 
 abbrev pair_of : ℕ → ℕ → ℕ → Failing

@@ -9,9 +9,9 @@ use Rattle.tm_refute.specs.Runs.{as_part, IsPartText, run_cells, IsRunText, IsTi
 use Rattle.tm_refute.specs.Taken.{IsUpTo, Stops, but, IsWholeNumber}
 use Rattle.tm_refute.specs.WordForms as form
 use Rattle.tm_refute.specs.WordForms.{IsOnce, IsPiece, IsTimes, most_cells, part_cells, repeated}
-use Rattle.tm_refute.specs.declared.part.Part.{Part}
-use Rattle.tm_refute.specs.declared.part.Part.TheVariants.{Byte, Uninit, Reference}
-use Rattle.tm_refute.specs.declared.part.Run.{Run}
+use Rattle.tm_refute.specs.declared.text.part.Part.{Part}
+use Rattle.tm_refute.specs.declared.text.part.Part.TheVariants.{Byte, Uninit, Reference}
+use Rattle.tm_refute.specs.declared.text.part.Run.{Run}
 use Rattle.tm_refute.proofs.TextLemmas.{cut}
 use Rattle.tm_refute.proofs.WordFormLemmas.{part-whole}
 

@@ -7,7 +7,7 @@ use Rattle.tm_base.specs.Cells.{Word}
 use Rattle.tm_refute.specs.Runs.{AddsRun, Reads, run_cells, IsRunText}
 use Rattle.tm_refute.specs.Taken.{IsUpTo, Stops, but}
 use Rattle.tm_refute.specs.WordForms.{ArePieces, IsPiece, IsWordText, more, most_cells, one}
-use Rattle.tm_refute.specs.declared.part.Run.{Run}
+use Rattle.tm_refute.specs.declared.text.part.Run.{Run}
 use Rattle.tm_refute.specs.declared.stop.Stop.{Stop}
 use Rattle.tm_refute.specs.declared.stop.Stop.TheVariants.{Form, Memory}
 use Rattle.tm_refute.proofs.TextLemmas.{cut}

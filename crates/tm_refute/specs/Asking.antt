@@ -10,7 +10,7 @@ use Rattle.tm_base.specs.Cells.{Word}
 use Rattle.tm_base.specs.Tables.{Tables, expanded_in}
 use Rattle.tm_base.specs.Transmutes.{IsSourceWord}
 use Rattle.tm_base.specs.Worlds.{IsTypeOver}
-use Rattle.tm_refute.specs.declared.asked.Asked.{Asked}
+use Rattle.tm_refute.specs.declared.refuting.asked.Asked.{Asked}
 use Rattle.tm_refute.specs.declared.refutation.Piece.{Piece}
 use Rattle.tm_refs.specs.declared.compat.Compat.{Compat}
 use Rattle.tm_refs.specs.Solved.{depth_in}

@@ -7,9 +7,9 @@ use Rattle.tm_refs.specs.Local.{AreJudged}
 use Rattle.tm_refute.specs.Asking.{is_asked}
 use Rattle.tm_refute.specs.Chosen.{AreInOrder, EntryAsks, IsAnswered, IsChosenEntry, SomeAsks}
 use Rattle.tm_refute.specs.TextForms.{most_cells_together, proof_cells}
-use Rattle.tm_refute.specs.declared.asked.Asked.{Asked}
-use Rattle.tm_refute.specs.declared.entries.Made.{Made}
-use Rattle.tm_refute.specs.declared.failing.Failing.{Failing}
+use Rattle.tm_refute.specs.declared.refuting.asked.Asked.{Asked}
+use Rattle.tm_refute.specs.declared.refuting.entries.Made.{Made}
+use Rattle.tm_refute.specs.declared.refuting.failing.Failing.{Failing}
 use Rattle.tm_refute.specs.declared.refutation.Entry.{Entry}
 
 -- the pair of an entry, and its depth

@@ -3,7 +3,7 @@ use Rattle.std.specs.Prelude.{◌≡◌, ℕ, ◌<◌, ◌==◌, ◌&&◌, ◌||
 use Rattle.tm_base.specs.Tables.{Tables}
 use Rattle.tm_refs.specs.declared.compat.Compat.{Compat}
 use Rattle.tm_refs.specs.Solved.{depth_in}
-use Rattle.tm_refute.specs.declared.failing.Failing.{Failing}
+use Rattle.tm_refute.specs.declared.refuting.failing.Failing.{Failing}
 
 -- falling by depth, then rising by source, then by target
 abbrev pub fails_before : Failing → Failing → Bool

@@ -7,7 +7,7 @@ use Rattle.tm_base.specs.Transmutes.{EveryWordFits}
 use Rattle.tm_base.specs.Worlds.{tables_of}
 use Rattle.tm_layout.specs.Made.{IsMadeFor}
 use Rattle.tm_refs.specs.Solved.{IsSolvedFor}
-use Rattle.tm_refute.specs.declared.maker.Maker.{Maker}
+use Rattle.tm_refute.specs.declared.refuting.maker.Maker.{Maker}
 use Rattle.tm_refute.specs.declared.refutation.Piece.{Piece}
 use Rattle.tm_refute.specs.Chosen.{HoldsBelow, IsFirstRefused}
 

@@ -2,7 +2,7 @@
 use Rattle.tm_base.specs.Worlds.{tables_of}
 use Rattle.tm_layout.specs.Made.{IsMadeFor}
 use Rattle.tm_region.specs.Order.{IsOrderOf}
-use Rattle.tm_refute.specs.declared.verifier.Verifier.{Verifier}
+use Rattle.tm_refute.specs.declared.verifying.verifier.Verifier.{Verifier}
 use Rattle.tm_refute.specs.Depths.{AreDepthsOf}
 use Rattle.tm_refute.specs.Judged.{AreJudgedRefs}
 

@@ -4,9 +4,9 @@ use Rattle.std.specs.Fmt.{decimal, digit_glyph}
 use Rattle.tm_base.specs.Cells.{Word}
 use Rattle.tm_refute.specs.WordForms as form
 use Rattle.tm_refute.specs.WordForms.{IsPart, most_cells, part_cells, part_text, repeated}
-use Rattle.tm_refute.specs.declared.part.Part.{Part}
-use Rattle.tm_refute.specs.declared.part.Part.TheVariants.{Byte, Uninit, Reference}
-use Rattle.tm_refute.specs.declared.part.Run.{Run}
+use Rattle.tm_refute.specs.declared.text.part.Part.{Part}
+use Rattle.tm_refute.specs.declared.text.part.Part.TheVariants.{Byte, Uninit, Reference}
+use Rattle.tm_refute.specs.declared.text.part.Run.{Run}
 use Rattle.tm_refute.specs.declared.stop.Stop.{Stop}
 use Rattle.tm_refute.specs.declared.stop.Stop.TheVariants.{Form, Memory}
 

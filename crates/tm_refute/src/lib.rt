@@ -10,33 +10,17 @@
 //! is read back.
 #![tactic(auto)]
 
-mod asked;
-mod asking;
-mod below;
 mod depths;
-mod entries;
-mod entry;
-mod failing;
 mod fitted;
-mod header;
 mod judged;
 mod law;
-mod maker;
-mod part;
-mod piece_text;
-mod pieces;
-mod reader;
 mod refutation;
 mod refuting;
-mod rule;
 mod showing;
 mod standing;
 mod stop;
 mod text;
-mod verifier;
 mod verifying;
-mod word;
-mod writing;
 
 pub use law::{
     questions_have_one_refutation, refutations_are_true, refutations_of_questions_hold,
@@ -45,6 +29,5 @@ pub use law::{
 pub use refutation::{Entry, Piece, Proof, Refutation};
 pub use refuting::refute;
 pub use stop::{RefuteErr, TextErr};
-pub use text::read_text;
+pub use text::{read_text, write_text};
 pub use verifying::verify;
-pub use writing::write_text;

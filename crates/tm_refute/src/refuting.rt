@@ -9,11 +9,18 @@ ghost use Rattle.tm_refute.specs.TextForms.{cells_of, most_cells_together};
 ghost use Rattle.tm_refute.specs.declared.refutation.Refutation.{Refutation};
 ghost use Rattle.tm_refute.specs.declared.stop.RefuteErr.TheVariants.{TooLong};
 
-use crate::asked::Asked;
-use crate::entries::Made;
+mod asked;
+mod asking;
+mod below;
+mod entries;
+mod failing;
+mod maker;
+
 use crate::judged::is_judged;
-use crate::maker::Maker;
 use crate::refutation::Refutation;
+use crate::refuting::asked::Asked;
+use crate::refuting::entries::Made;
+use crate::refuting::maker::Maker;
 use crate::stop::RefuteErr;
 use std::alloc::Global;
 use tm_base::{Ask, List, World};

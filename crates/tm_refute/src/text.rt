@@ -6,13 +6,23 @@ ghost use Rattle.tm_refute.specs.TextForms.{IsBadLine, IsRefutationText, proof_c
 ghost use Rattle.tm_refute.specs.Written.{IsWritable};
 ghost use Rattle.tm_refute.specs.declared.refutation.Refutation.{Refutation};
 
-use crate::entry::entry;
-use crate::header::header;
-use crate::reader::Reader;
+mod entry;
+mod header;
+mod part;
+mod piece_text;
+mod reader;
+mod rule;
+mod word;
+mod writing;
+
 use crate::refutation::{Entry, Proof, Refutation};
 use crate::stop::{Stop, TextErr};
+use crate::text::entry::entry;
+use crate::text::header::header;
+use crate::text::reader::Reader;
 use std::alloc::Global;
 use tm_base::List;
+pub use writing::write_text;
 
 /// Reads the text of a refutation, where a reference has so many bytes: the question's number, the
 /// refutation, and the place, in bytes from 0, behind the line `end`. What stands there is no part of it.

@@ -4,10 +4,13 @@ ghost use Rattle.tm_layout.specs.Made.{IsMadeFor};
 ghost use Rattle.tm_refute.specs.Refutes.{Refutes};
 ghost use Rattle.tm_region.specs.Order.{IsOrderOf};
 
+mod pieces;
+mod verifier;
+
 use crate::depths::Depths;
 use crate::judged::{Judged, is_judged};
 use crate::refutation::Refutation;
-use crate::verifier::Verifier;
+use crate::verifying::verifier::Verifier;
 use std::alloc::Global;
 use tm_base::{Ask, Memory, World};
 use tm_layout::Layouts;

@@ -1,5 +1,0 @@
-use Rattle.tm_refute.proofs.maker.Maker.piece.Given as goal
-
--- the ledger of the one counter
-abbrev pub ghosts-refusal : goal.ghosts-refusal
-ghosts-refusal a = record { name = a.blank.name; parts = a.blank.parts }

@@ -1,0 +1,5 @@
+use Rattle.tm_refute.proofs.refuting.maker.Maker.piece.Given as goal
+
+-- the ledger of the one counter
+abbrev pub ghosts-refusal : goal.ghosts-refusal
+ghosts-refusal a = record { name = a.blank.name; parts = a.blank.parts }
