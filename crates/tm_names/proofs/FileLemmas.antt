@@ -12,8 +12,8 @@ use Rattle.tm_names.proofs.Members.{Member, behind, either, from_flat_map, from_
 use Rattle.tm_names.proofs.PartLemmas.{fault, from_where, into_repeats, into_where}
 use Rattle.tm_names.proofs.PlaceLemmas.{at_infinite, at_lifetimes, at_list, at_repr, at_scope, at_values, in_row}
 use Rattle.tm_names.proofs.StandingLemmas.{Stands, repeats_stand, repr_stands, reserved_stand, scope_stands}
-use Rattle.tm_names.specs.declared.least.NameFault.{NameFault}
-use Rattle.tm_names.specs.declared.mentions.Mention.TheVariants.{Name, Life}
+use Rattle.tm_names.specs.declared.faults.least.NameFault.{NameFault}
+use Rattle.tm_names.specs.declared.faults.mentions.Mention.TheVariants.{Name, Life}
 use Rattle.tm_names.specs.declared.value.Value.TheVariants.{AtLeastZero}
 use Rattle.tm_names.specs.Closures.{TellsInfinite, infinite_fault, infinite_faults}
 use Rattle.tm_names.specs.Faults.{IsNameFault, IsTwice, IsUnknown, IsArity, IsOutOfSight, IsReserved, IsDiscriminant, IsInfinite, IsBadRepr, decl_lists, lifetime_lists, name_lists}

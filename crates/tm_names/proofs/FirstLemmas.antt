@@ -7,7 +7,7 @@ use Rattle.tm_base.specs.declared.profile.Profile.{Profile}
 use Rattle.tm_names.proofs.FileLemmas.{listed_stands, standing_listed}
 use Rattle.tm_names.proofs.LeastLaws.{NoLater, earliest_is_least, no_earliest}
 use Rattle.tm_names.proofs.PartLemmas.{fault}
-use Rattle.tm_names.specs.declared.least.NameFault.{NameFault}
+use Rattle.tm_names.specs.declared.faults.least.NameFault.{NameFault}
 use Rattle.tm_names.specs.Closures.{TellsInfinite}
 use Rattle.tm_names.specs.Faults.{IsFirstFault}
 use Rattle.tm_names.specs.FileFaults.{IsFirst, file_faults}

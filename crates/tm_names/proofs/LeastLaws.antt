@@ -5,7 +5,7 @@ use Rattle.std.proofs.lemmas.Bool.{cases_Bool}
 use Rattle.std.proofs.lemmas.Bool.Decides.{nat_tests}
 use Rattle.std.proofs.lemmas.Option.{none-some, same_Some}
 use Rattle.tm_names.proofs.Members.{Member}
-use Rattle.tm_names.specs.declared.least.NameFault.{NameFault}
+use Rattle.tm_names.specs.declared.faults.least.NameFault.{NameFault}
 use Rattle.tm_names.specs.Least.{earliest, is_no_later}
 use Rattle.tm_names.specs.Ranks.{rank}
 

@@ -2,7 +2,7 @@
 use Rattle.std.proofs.Common.{◌≡◌, ℕ, zero, suc, ◌<◌, refl, sym, ap, ◌∙◌, arith, List, [], ◌∷◌, ◌++◌, length, drop, get_or}
 use Rattle.std.specs.List.{flat_map}
 use Rattle.std.specs.Prelude.{Option}
-use Rattle.tm_names.specs.declared.least.NameFault.{NameFault}
+use Rattle.tm_names.specs.declared.faults.least.NameFault.{NameFault}
 use Rattle.tm_names.specs.Least.{earliest, keep}
 
 pub earliest_append : (first : Option NameFault) (xs ys : List NameFault) → earliest first (xs ++ ys) ≡ earliest (earliest first xs) ys

@@ -6,8 +6,8 @@ use Rattle.tm_base.specs.declared.limit.NameWhy.TheVariants as why
 use Rattle.tm_names.proofs.Members.{Member, into_flat_map}
 use Rattle.tm_names.proofs.PartLemmas.{fault, into_where}
 use Rattle.tm_names.specs.declared.meaning.Meaning.{Meaning}
-use Rattle.tm_names.specs.declared.mentions.Mention.TheVariants.{Name, Life}
-use Rattle.tm_names.specs.declared.mentions.NameMention.{NameMention}
+use Rattle.tm_names.specs.declared.faults.mentions.Mention.TheVariants.{Name, Life}
+use Rattle.tm_names.specs.declared.faults.mentions.NameMention.{NameMention}
 use Rattle.tm_names.specs.Found.{first_repr, mention_faults, name_faults, repr_faults, reserved, scope_faults}
 use Rattle.tm_names.specs.Least.{fault_where}
 use Rattle.tm_names.specs.Meanings.{meaning_of, takes}

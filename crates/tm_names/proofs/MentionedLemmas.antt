@@ -2,9 +2,9 @@
 use Rattle.std.proofs.Common.{◌≡◌, ℕ, refl, sym, subst, inl, inr, ⊎_elim, Some, List, length, map}
 use Rattle.std.proofs.lemmas.Option.{none-some, same_Some}
 use Rattle.tm_names.proofs.Members.{Member, behind, either, front}
-use Rattle.tm_names.specs.declared.mentions.Mention.{Mention}
-use Rattle.tm_names.specs.declared.mentions.Mention.TheVariants.{Name, Life}
-use Rattle.tm_names.specs.declared.mentions.NameMention.{NameMention}
+use Rattle.tm_names.specs.declared.faults.mentions.Mention.{Mention}
+use Rattle.tm_names.specs.declared.faults.mentions.Mention.TheVariants.{Name, Life}
+use Rattle.tm_names.specs.declared.faults.mentions.NameMention.{NameMention}
 use Rattle.tm_names.specs.Holding.{name_of}
 use Rattle.tm_names.specs.Mentions.{mentions_of, row_items, row_mentions}
 use Rattle.tm_parse.specs.Written.{written, row_written}

@@ -5,7 +5,7 @@ use Rattle.std.proofs.lemmas.Bool.{false≢true}
 use Rattle.tm_base.specs.declared.limit.NameWhy.{NameWhy}
 use Rattle.tm_base.specs.declared.limit.NameWhy.TheVariants.{Twice}
 use Rattle.tm_names.proofs.Members.{Member, behind, either, front}
-use Rattle.tm_names.specs.declared.least.NameFault.{NameFault}
+use Rattle.tm_names.specs.declared.faults.least.NameFault.{NameFault}
 use Rattle.tm_names.specs.Found.{repeats_behind}
 use Rattle.tm_names.specs.Least.{fault_where}
 use Rattle.tm_names.specs.Written.{is_among}

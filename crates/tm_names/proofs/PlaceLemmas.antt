@@ -3,7 +3,7 @@ use Rattle.std.proofs.Common.{ℕ, sym, subst, ⊎_elim, Bool, List, [], ◌∷�
 use Rattle.std.specs.List.{flat_map}
 use Rattle.tm_base.specs.declared.profile.Profile.{Profile}
 use Rattle.tm_names.proofs.Members.{Member, behind, either, front, from_flat_map, from_map, into_flat_map}
-use Rattle.tm_names.specs.declared.least.NameFault.{NameFault}
+use Rattle.tm_names.specs.declared.faults.least.NameFault.{NameFault}
 use Rattle.tm_names.specs.declared.value.Value.TheVariants.{AtLeastZero}
 use Rattle.tm_names.specs.Closures.{infinite_faults}
 use Rattle.tm_names.specs.Faults.{decl_lists, lifetime_lists, name_lists}

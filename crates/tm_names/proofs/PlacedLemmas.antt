@@ -9,8 +9,8 @@ use Rattle.tm_base.specs.declared.profile.Profile.{Profile}
 use Rattle.tm_names.proofs.DefFormLemmas.{variant_among}
 use Rattle.tm_names.proofs.Members.{Member, behind, either, from_flat_map, from_map, front, member, member_from_get}
 use Rattle.tm_names.proofs.TypeFormLemmas.{of_member}
-use Rattle.tm_names.specs.declared.mentions.Mention.{Mention}
-use Rattle.tm_names.specs.declared.mentions.Mention.TheVariants.{Name, Life}
+use Rattle.tm_names.specs.declared.faults.mentions.Mention.{Mention}
+use Rattle.tm_names.specs.declared.faults.mentions.Mention.TheVariants.{Name, Life}
 use Rattle.tm_names.specs.Faults.{IsBadRepr, IsDiscriminant, IsMentioned, IsNameFault, IsReserved, IsTwice, decl_lists, field_names, lifetime_lists, name_lists, variant_names}
 use Rattle.tm_names.specs.Mentions.{mentions_of, row_mentions}
 use Rattle.tm_names.specs.Scopes.{Scope, ask_mentions, bound_mentions, decl_mentions, decl_scope, outer_scope, scopes_of, variant_mentions}

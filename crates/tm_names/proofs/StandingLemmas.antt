@@ -6,11 +6,11 @@ use Rattle.tm_base.specs.declared.limit.NameWhy.TheVariants as why
 use Rattle.tm_base.specs.declared.profile.Profile.{Profile}
 use Rattle.tm_names.proofs.Members.{Member, contained, from_flat_map}
 use Rattle.tm_names.proofs.PartLemmas.{from_repeats, from_where}
-use Rattle.tm_names.specs.declared.least.NameFault.{NameFault}
+use Rattle.tm_names.specs.declared.faults.least.NameFault.{NameFault}
 use Rattle.tm_names.specs.declared.meaning.Meaning.{Meaning}
-use Rattle.tm_names.specs.declared.mentions.Mention.{Mention}
-use Rattle.tm_names.specs.declared.mentions.Mention.TheVariants.{Name, Life}
-use Rattle.tm_names.specs.declared.mentions.NameMention.{NameMention}
+use Rattle.tm_names.specs.declared.faults.mentions.Mention.{Mention}
+use Rattle.tm_names.specs.declared.faults.mentions.Mention.TheVariants.{Name, Life}
+use Rattle.tm_names.specs.declared.faults.mentions.NameMention.{NameMention}
 use Rattle.tm_names.specs.Faults.{IsNameFault, IsMentioned, name_lists, lifetime_lists}
 use Rattle.tm_names.specs.Found.{first_repr, mention_faults, name_faults, repeats, repr_faults, reserved, scope_faults}
 use Rattle.tm_names.specs.Meanings.{meaning_of, takes}

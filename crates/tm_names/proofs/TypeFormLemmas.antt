@@ -14,8 +14,8 @@ use Rattle.tm_names.proofs.MentionedLemmas.{named_mentioned}
 use Rattle.tm_names.proofs.WrittenLemmas.{no_more_written, written_from}
 use Rattle.tm_names.specs.declared.meaning.Meaning.{Meaning}
 use Rattle.tm_names.specs.declared.meaning.Meaning.TheVariants.{Definition, Parameter}
-use Rattle.tm_names.specs.declared.mentions.Mention.TheVariants.{Name}
-use Rattle.tm_names.specs.declared.mentions.NameMention.{NameMention}
+use Rattle.tm_names.specs.declared.faults.mentions.Mention.TheVariants.{Name}
+use Rattle.tm_names.specs.declared.faults.mentions.NameMention.{NameMention}
 use Rattle.tm_names.specs.declared.resolved.Life.{Life}
 use Rattle.tm_names.specs.declared.resolved.Open.{Open}
 use Rattle.tm_names.specs.declared.resolved.Resolved.{Resolved}

@@ -11,7 +11,7 @@ use Rattle.tm_base.specs.declared.limit.NameWhy.TheVariants.{Discriminant}
 use Rattle.tm_base.specs.declared.profile.Profile.{Profile}
 use Rattle.tm_base.specs.declared.profile.Profile.TheVariants.{Le64, Be64, Le32}
 use Rattle.tm_base.specs.Integers.{fits_integer, is_tag_type}
-use Rattle.tm_names.specs.declared.least.NameFault.{NameFault}
+use Rattle.tm_names.specs.declared.faults.least.NameFault.{NameFault}
 use Rattle.tm_names.specs.declared.value.Value.{Value}
 use Rattle.tm_names.specs.declared.value.Value.TheVariants.{AtLeastZero, BelowZero}
 use Rattle.tm_names.specs.Discriminants.{Valued, is_in_range, signed, value_of, valued_from, written_or}

@@ -9,7 +9,7 @@ use Rattle.tm_base.specs.declared.limit.NameWhy.TheVariants.{Twice, Unknown, Ari
 use Rattle.tm_base.specs.declared.profile.Profile.TheVariants.{Le64, Be64, Le32}
 use Rattle.tm_names.proofs.PartLemmas.{fault}
 use Rattle.tm_base.specs.declared.profile.Profile.{Profile}
-use Rattle.tm_names.specs.declared.least.NameFault.{NameFault}
+use Rattle.tm_names.specs.declared.faults.least.NameFault.{NameFault}
 use Rattle.tm_names.specs.Closures.{closure, joined_rows}
 use Rattle.tm_names.specs.FileFaults.{file_faults}
 use Rattle.tm_names.specs.Held.{bit_at, definition_flags, held_in, no_flags, parameter_flags, row_at}

@@ -3,7 +3,7 @@
 use Rattle.std.specs.Prelude.{◌≡◌, ℕ, zero, suc, ◌+◌, ◌<◌, Bool, true, ◌&&◌, ◌||◌, ◌↔◌, Option, List, length, map, flat_map}
 use Rattle.std.specs.List.{enumerate_from}
 use Rattle.tm_base.specs.declared.limit.NameWhy.TheVariants.{Infinite}
-use Rattle.tm_names.specs.declared.least.NameFault.{NameFault}
+use Rattle.tm_names.specs.declared.faults.least.NameFault.{NameFault}
 use Rattle.tm_names.specs.declared.meaning.Meaning.TheVariants.{Parameter}
 use Rattle.tm_names.specs.Held.{bit_at, row_at}
 use Rattle.tm_names.specs.Holding.{Holds, HoldsItself}

@@ -6,9 +6,9 @@ use Rattle.tm_base.specs.declared.limit.NameWhy.{NameWhy}
 use Rattle.tm_base.specs.declared.limit.NameWhy.TheVariants.{Twice, Unknown, Arity, Lifetime, Discriminant, Infinite, BadRepr}
 use Rattle.tm_base.specs.declared.profile.Profile.{Profile}
 use Rattle.tm_names.specs.declared.meaning.Meaning.{Meaning}
-use Rattle.tm_names.specs.declared.mentions.Mention.{Mention}
-use Rattle.tm_names.specs.declared.mentions.Mention.TheVariants.{Name, Life}
-use Rattle.tm_names.specs.declared.mentions.NameMention.{NameMention}
+use Rattle.tm_names.specs.declared.faults.mentions.Mention.{Mention}
+use Rattle.tm_names.specs.declared.faults.mentions.Mention.TheVariants.{Name, Life}
+use Rattle.tm_names.specs.declared.faults.mentions.NameMention.{NameMention}
 use Rattle.tm_names.specs.Discriminants.{Valued, valued, is_in_range}
 use Rattle.tm_names.specs.Holding.{HoldsItself}
 use Rattle.tm_names.specs.Meanings.{meaning_of, takes}

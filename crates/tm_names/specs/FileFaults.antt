@@ -2,7 +2,7 @@
 -- themselves.
 use Rattle.std.specs.Prelude.{ℕ, Bool, Option, Some, None, List, ◌++◌, map, flat_map}
 use Rattle.tm_base.specs.declared.profile.Profile.{Profile}
-use Rattle.tm_names.specs.declared.least.NameFault.{NameFault}
+use Rattle.tm_names.specs.declared.faults.least.NameFault.{NameFault}
 use Rattle.tm_names.specs.Faults.{HasNoFault, IsFirstFault}
 use Rattle.tm_names.specs.Closures.{infinite_faults}
 use Rattle.tm_names.specs.Found.{decl_faults, repeats, reserved, scope_faults}

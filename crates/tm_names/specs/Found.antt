@@ -6,11 +6,11 @@ use Rattle.tm_base.specs.declared.ground.Primitive.{Primitive}
 use Rattle.tm_base.specs.declared.limit.NameWhy.{NameWhy}
 use Rattle.tm_base.specs.declared.limit.NameWhy.TheVariants.{Twice, Unknown, Arity, Lifetime, Discriminant, BadRepr}
 use Rattle.tm_base.specs.declared.profile.Profile.{Profile}
-use Rattle.tm_names.specs.declared.least.NameFault.{NameFault}
+use Rattle.tm_names.specs.declared.faults.least.NameFault.{NameFault}
 use Rattle.tm_names.specs.declared.meaning.Meaning.{Meaning}
-use Rattle.tm_names.specs.declared.mentions.Mention.{Mention}
-use Rattle.tm_names.specs.declared.mentions.Mention.TheVariants.{Name, Life}
-use Rattle.tm_names.specs.declared.mentions.NameMention.{NameMention}
+use Rattle.tm_names.specs.declared.faults.mentions.Mention.{Mention}
+use Rattle.tm_names.specs.declared.faults.mentions.Mention.TheVariants.{Name, Life}
+use Rattle.tm_names.specs.declared.faults.mentions.NameMention.{NameMention}
 use Rattle.tm_names.specs.declared.value.Value.{Value}
 use Rattle.tm_names.specs.declared.value.Value.TheVariants.{AtLeastZero}
 use Rattle.tm_names.specs.Discriminants.{is_in_range}

@@ -2,7 +2,7 @@
 use Rattle.std.specs.Prelude.{ℕ, ◌==◌, nat_lt, nat_le, Bool, true, false, ◌&&◌, ◌||◌, if◌then◌else◌, Option, Some, None, List, [], ◌∷◌}
 use Rattle.std.specs.List.{fold}
 use Rattle.tm_base.specs.declared.limit.NameWhy.{NameWhy}
-use Rattle.tm_names.specs.declared.least.NameFault.{NameFault}
+use Rattle.tm_names.specs.declared.faults.least.NameFault.{NameFault}
 use Rattle.tm_names.specs.Ranks.{rank}
 
 -- the fault stands at an earlier token, or at the same one and is of no later kind

@@ -1,8 +1,8 @@
 -- What is mentioned in a file, and what is in sight there: in a definition its own parameters, in questions
 -- and `outlives` items all declared lifetimes of the file and no type parameter, and `'static` everywhere.
 use Rattle.std.specs.Prelude.{ℕ, Bool, ◌||◌, List, [], ◌∷◌, ◌++◌, map, flat_map}
-use Rattle.tm_names.specs.declared.mentions.Mention.{Mention}
-use Rattle.tm_names.specs.declared.mentions.Mention.TheVariants.{Life}
+use Rattle.tm_names.specs.declared.faults.mentions.Mention.{Mention}
+use Rattle.tm_names.specs.declared.faults.mentions.Mention.TheVariants.{Life}
 use Rattle.tm_names.specs.Mentions.{mentions_of}
 use Rattle.tm_names.specs.Written.{is_among, is_static}
 use Rattle.tm_parse.specs.declared.parsed.Decl.{Decl}

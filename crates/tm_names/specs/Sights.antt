@@ -1,8 +1,8 @@
 -- What a name and a lifetime mean in a definition, and outside.
 use Rattle.std.specs.Prelude.{ℕ, List, []}
 use Rattle.tm_names.specs.declared.resolved.Life.{Life}
-use Rattle.tm_names.specs.declared.sight.Sight.{Sight}
-use Rattle.tm_names.specs.declared.sight.Sight.TheVariants.{Params, Declared}
+use Rattle.tm_names.specs.declared.resolving.sight.Sight.{Sight}
+use Rattle.tm_names.specs.declared.resolving.sight.Sight.TheVariants.{Params, Declared}
 use Rattle.tm_names.specs.Resolutions.{param_of, declared_of}
 
 abbrev pub life_in : (ℕ → List ℕ) → Sight → ℕ → Life

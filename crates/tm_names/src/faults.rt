@@ -8,15 +8,25 @@ ghost use Rattle.tm_names.specs.Scopes.{ask_mentions, bound_mentions, outer_scop
 ghost use Rattle.tm_names.specs.Indexing.{IsIndexed};
 ghost use Rattle.tm_names.specs.Source.{names_in};
 
+mod closure;
+mod holding;
+pub mod least;
+mod listing;
+mod mentioning;
+mod mentions;
+mod noting;
+mod own;
+mod ranges;
+
 use crate::adding::add;
-use crate::closure::{closure, is_cyclic};
+use crate::faults::closure::{closure, is_cyclic};
+use crate::faults::least::{Faults, NameFault};
+use crate::faults::listing::decl_names;
+use crate::faults::mentioning::{add_mentions, mentions};
+use crate::faults::mentions::Mention;
+use crate::faults::own::{own_rows, rows};
 use crate::forms::{items, tag};
 use crate::indexed::Definitions;
-use crate::least::{Faults, NameFault};
-use crate::listing::decl_names;
-use crate::mentioning::{add_mentions, mentions};
-use crate::mentions::Mention;
-use crate::own::{own_rows, rows};
 use crate::source::Source;
 use std::alloc::Global;
 use tm_base::{List, Memory, NameWhy};

@@ -7,7 +7,7 @@ ghost use Rattle.tm_names.specs.Least.{earliest};
 ghost use Rattle.tm_names.specs.Representations.{has_field, is_enum_form, is_form, is_struct_form, is_union_form, items_of, tag_in, tag_of_item};
 
 use crate::adding::add;
-use crate::least::Faults;
+use crate::faults::least::Faults;
 use std::alloc::Global;
 use tm_base::{Kind, List, Memory, NameWhy, Primitive};
 use tm_parse::{Decl, DeclRepr, DeclVariant, ReprItem};

@@ -4,30 +4,16 @@
 
 mod adding;
 mod checking;
-mod closure;
-mod copying;
 mod counting;
 mod definitions;
 mod fault;
 mod faults;
 mod forms;
-mod holding;
 mod indexed;
-mod least;
-mod listing;
-mod lives;
 mod meaning;
-mod mentioning;
-mod mentions;
-mod noting;
-mod own;
-mod ranges;
-mod reprs;
 mod resolved;
 mod resolving;
-mod sight;
 mod source;
-mod typing;
 mod value;
 
 pub use checking::check;

@@ -6,16 +6,22 @@ ghost use Rattle.tm_names.specs.Indexing.{IsIndexed};
 ghost use Rattle.tm_names.specs.Narrow.{IsNarrow, is_value_narrow};
 ghost use Rattle.tm_names.specs.Source.{IsTokenized, names_in};
 
+mod copying;
+mod lives;
+mod reprs;
+mod sight;
+mod typing;
+
 use crate::adding::add;
-use crate::copying::token_text;
 use crate::counting::{narrow, next, value_in};
 use crate::indexed::Definitions;
-use crate::lives::bound;
-use crate::reprs::repr;
 use crate::resolved::{Open, OpenAsk, Resolved};
-use crate::sight::{Names, Sight};
+use crate::resolving::copying::token_text;
+use crate::resolving::lives::bound;
+use crate::resolving::reprs::repr;
+use crate::resolving::sight::{Names, Sight};
+use crate::resolving::typing::resolve;
 use crate::source::Source;
-use crate::typing::resolve;
 use crate::value::Value;
 use std::alloc::Global;
 use tm_base::{Bound, Def, Field, List, Memory, Text, Variant};

@@ -1,0 +1,7 @@
+use Rattle.std.proofs.Common.{◌≡◌, ◌++◌, drop}
+use Rattle.std.specs.List.{filter_map}
+use Rattle.tm_names.specs.Held.{parameter_number}
+use Rattle.tm_names.proofs.faults.holding.parameter_numbers.Given as goal
+
+abbrev pub invariant-loop-meaning : goal.invariant-loop-meaning
+invariant-loop-meaning l = l.numbers ++ filter_map parameter_number (drop l.meaning-index l.held) ≡ filter_map parameter_number l.fn.held

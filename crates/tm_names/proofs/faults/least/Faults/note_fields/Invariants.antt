@@ -1,0 +1,12 @@
+use Rattle.std.proofs.Common.{◌≡◌, drop, map}
+use Rattle.std.specs.List.{flat_map}
+use Rattle.tm_names.specs.Faults.{field_names}
+use Rattle.tm_names.specs.Found.{repeats}
+use Rattle.tm_names.specs.Least.{earliest}
+use Rattle.tm_names.specs.Source.{names_in}
+use Rattle.tm_names.proofs.faults.least.Faults.note_fields.Given as goal
+
+abbrev pub invariant-loop-variant : goal.invariant-loop-variant
+invariant-loop-variant l =
+    earliest l.self.first (flat_map (repeats (names_in l.source)) (map field_names (drop l.variant-index l.variants)))
+    ≡ earliest l.initial.self.first (flat_map (repeats (names_in l.fn.source)) (map field_names l.fn.variants))
