@@ -13,9 +13,9 @@ use std::alloc::Global;
 use std::marker::Model;
 use std::sync::ledger::{Blank, Ledger};
 use tm_base::{Answer, Ask, AskYes, Memory, Steps, World};
-use tm_judge::judge;
+use tm_judge::{judge_values, refusal};
 use tm_layout::Layouts;
-use tm_refs::Compat;
+use tm_refs::{Compat, holds_reference};
 use tm_refute::{Refutation, RefuteErr, refute};
 use tm_region::Order;
 
@@ -70,13 +70,28 @@ impl<'a, L: Ledger> Court<'a, L> {
         })
     }
 
-    /// The answer to a question.
+    /// The answer to a question. Only where it isn't refused, and its target holds a reference, is
+    /// there a table of references.
     pub fn answer(&mut self, alloc: Global, ask: &Ask) -> Result<Answer, Memory>
         requires source { IsTypeOver self.old ask.now.src }
         requires target { IsTypeOver self.old ask.now.dst }
         ensures answer { IfOk result (IsAnswer self.old ask.now) }
         ensures world { self.new ≡ self.old }
     {
+        if let Some(answer) = refusal(alloc, self.world, self.layouts, ask)? {
+            return Ok(answer);
+        }
+        if !holds_reference(self.world, &ask.dst) {
+            let empty = Compat::empty(alloc, ask.assume);
+            return judge_values(
+                alloc,
+                self.world,
+                self.layouts,
+                &empty,
+                ask,
+                &mut self.steps,
+            );
+        }
         let place = place_for(
             alloc,
             self.world,
@@ -86,11 +101,10 @@ impl<'a, L: Ledger> Court<'a, L> {
             ask.assume,
             &mut self.steps,
         )?;
-        judge(
+        judge_values(
             alloc,
             self.world,
             self.layouts,
-            &self.order,
             &self.solved[place],
             ask,
             &mut self.steps,
