@@ -19,4 +19,7 @@ pub mod RefuteLemmas
 pub mod RunLemmas
 pub mod ByteLemmas
 pub mod WordLemmas
+pub mod ClapFacts
+pub mod ClapWalk
+pub mod ClapReads
 mod Worked

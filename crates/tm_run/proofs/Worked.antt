@@ -6,7 +6,7 @@ use Rattle.tm_base.specs.declared.profile.Profile.TheVariants.{Be64}
 use Rattle.tm_report.specs.declared.fault.FileFault.TheVariants.{NotUtf8}
 use Rattle.tm_run.specs.Faults.{HasFault}
 use Rattle.tm_run.specs.Places.{at_byte}
-use Rattle.tm_run.specs.Words.{choices_of, options_of, with_choices}
+use Rattle.tm_run.specs.Words.{options, options_of, uses_of, with_uses}
 use Rattle.tm_run.specs.declared.options.Mode.TheVariants.{Needs, Matrix}
 use Rattle.tm_run.specs.declared.options.Options.{Options}
 
@@ -35,34 +35,34 @@ byte_outside_of_text options = (refl, record { short = omega arith; broken = no_
 
 -- each option in either form, in any order
 three_options : options_of (codes "--profile=be64" ∷ codes "--generate" ∷ codes "007" ∷ codes "--summary" ∷ []) ≡ Some (record { summary = true; generate = Some 7; profile = Some Be64; mode = None; verify = false })
-unfolding choices_of with_choices
+unfolding options uses_of with_uses
 three_options = refl
 
 option_twice : options_of (codes "--generate=1" ∷ codes "--generate" ∷ codes "2" ∷ []) ≡ None
-unfolding choices_of with_choices
+unfolding options uses_of with_uses
 option_twice = refl
 
 number_with_a_sign : options_of (codes "--generate" ∷ codes "+1" ∷ []) ≡ None
-unfolding choices_of with_choices
+unfolding options uses_of with_uses
 number_with_a_sign = refl
 
 -- a mode stands beside a profile alone
 mode_and_profile : options_of (codes "--needs" ∷ codes "--profile" ∷ codes "be64" ∷ []) ≡ Some (record { summary = false; generate = None; profile = Some Be64; mode = Some Needs; verify = false })
-unfolding choices_of with_choices
+unfolding options uses_of with_uses
 mode_and_profile = refl
 
 matrix_alone : options_of (codes "--matrix" ∷ []) ≡ Some (record { summary = false; generate = None; profile = None; mode = Some Matrix; verify = false })
-unfolding choices_of with_choices
+unfolding options uses_of with_uses
 matrix_alone = refl
 
 mode_and_summary : options_of (codes "--summary" ∷ codes "--needs" ∷ []) ≡ None
-unfolding choices_of with_choices
+unfolding options uses_of with_uses
 mode_and_summary = refl
 
 mode_twice : options_of (codes "--needs" ∷ codes "--needs" ∷ []) ≡ None
-unfolding choices_of with_choices
+unfolding options uses_of with_uses
 mode_twice = refl
 
 two_modes : options_of (codes "--needs" ∷ codes "--matrix" ∷ []) ≡ None
-unfolding choices_of with_choices
+unfolding options uses_of with_uses
 two_modes = refl

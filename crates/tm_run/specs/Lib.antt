@@ -1,5 +1,6 @@
 pub mod Answers
 pub mod Asking
+pub mod Commands
 pub mod Courts
 pub mod Examined
 pub mod Faults
@@ -12,7 +13,6 @@ pub mod Needs
 pub mod Matches
 pub mod Outcomes
 pub mod Places
-pub mod Reading
 pub mod Refutations
 pub mod Report
 pub mod Reported

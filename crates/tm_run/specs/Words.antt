@@ -1,15 +1,13 @@
 -- The words of a run: which options there are, how each is written, and what they ask for together.
-use Rattle.std.specs.Prelude.{String, ℕ, ◌==◌, ◌^◌, ◌&&◌, ◌||◌, nat_lt, nat_le, Bool, true, false, if◌then◌else◌, Option, Some, None, is_some, option_map, option_and_then, List, [], ◌∷◌, length, map, codes, bytes_eq, not, string_bytes, unwrap_or}
+use Rattle.std.specs.Prelude.{String, ℕ, ◌==◌, ◌^◌, ◌&&◌, ◌||◌, nat_lt, nat_le, Bool, true, false, if◌then◌else◌, Option, Some, None, is_some, option_map, option_and_then, List, [], ◌∷◌, ◌++◌, length, map, take, drop, find, codes, bytes_eq, not, string_bytes, unwrap_or}
 use Rattle.std.specs.Global.{Global}
-use Rattle.std.specs.List.{before_first, after_first, list_all}
+use Rattle.std.specs.List.{before_first, after_first, list_all, list_any}
 use Rattle.std.specs.Char.{is_ascii_digit}
 use Rattle.std.specs.Result.{result_ok}
 use Rattle.std.specs.Str.Parse.{digits_value}
 use Rattle.hex.specs.Hex.{decode_of}
 use Rattle.tm_base.specs.declared.profile.Profile.{Profile}
 use Rattle.tm_base.specs.declared.profile.Profile.TheVariants.{Le64, Be64, Le32}
-use Rattle.tm_run.specs.declared.options.Choice.{Choice}
-use Rattle.tm_run.specs.declared.options.Choice.TheVariants as choice
 use Rattle.tm_run.specs.declared.options.Mode.{Mode}
 use Rattle.tm_run.specs.declared.options.Mode.TheVariants.{Needs, Matrix, Bytes, Refute}
 use Rattle.tm_run.specs.declared.options.Options.{Options}
@@ -41,87 +39,112 @@ profile_of text =
 abbrev pub bytes_read : List ℕ → Option (List ℕ)
 bytes_read text = if are_digits text then result_ok (decode_of text) else None
 
--- what an option that has a value asks for
-abbrev pub choice_with : List ℕ → List ℕ → Option Choice
-choice_with name value =
-    if bytes_eq name (codes "--generate") then option_map choice.Generate (number_of value)
-    else (if bytes_eq name (codes "--profile") then option_map choice.Profile (profile_of value)
-    else (if bytes_eq name (codes "--bytes") then option_map (λ bytes. choice.Mode (Bytes bytes)) (bytes_read value)
-    else (if bytes_eq name (codes "--refute") then option_map (λ number. choice.Mode (Refute number)) (question_number value) else None)))
+-- the names of the options, and whether each has a value
+unfoldable pub options : List (List ℕ × Bool)
+options =
+    (codes "summary", false) ∷ (codes "generate", true) ∷ (codes "profile", true) ∷ (codes "needs", false)
+    ∷ (codes "matrix", false) ∷ (codes "bytes", true) ∷ (codes "refute", true) ∷ (codes "verify", false) ∷ []
+
+abbrev pub option_named : List ℕ → Option (List ℕ × Bool)
+option_named name = find (λ o. bytes_eq o.0 name) options
+
+-- a use of an option: its name, and the text of its value if it is given one
+abbrev pub Use : Type 0
+Use = List ℕ × Option (List ℕ)
 
 abbrev pub is_equals : ℕ → Bool
 is_equals b = b == 0x3D
 
--- what an option and its value ask for in one word, with `=` between them; where there is no `=` the value is
--- empty, which no option has
-abbrev pub joined_choice : List ℕ → Option Choice
-joined_choice word = choice_with (before_first is_equals word) (after_first is_equals word)
+-- a name, and behind the first `=` a value
+abbrev pub name_and_value : List ℕ → Use
+name_and_value text = (before_first is_equals text, if list_any is_equals text then Some (after_first is_equals text) else None)
 
--- what one word asks for by itself: `--summary`, a mode without a value, or an option that has one
-abbrev pub choice_of : List ℕ → Option Choice
-choice_of word =
-    if bytes_eq word (codes "--summary") then Some choice.Summary
-    else (if bytes_eq word (codes "--needs") then Some (choice.Mode Needs)
-    else (if bytes_eq word (codes "--matrix") then Some (choice.Mode Matrix)
-    else (if bytes_eq word (codes "--verify") then Some choice.Verify
-    else joined_choice word)))
+abbrev pub begins_with : List ℕ → List ℕ → Bool
+begins_with start word = bytes_eq start (take (length start) word)
 
--- one more choice before others
-abbrev pub before_choices : Choice → Option (List Choice) → Option (List Choice)
-before_choices choice = option_map (λ choices. choice ∷ choices)
+-- what `--name` and `--name=value` write
+abbrev pub written : List ℕ → Option Use
+written word = if begins_with (codes "--") word then Some (name_and_value (drop 2 word)) else None
 
--- a word that asks by itself comes before the choices of the words behind it; else it asks with the next one,
--- and comes before the choices of the words behind that
-abbrev pub one_or_two : Option Choice → Option Choice → Option (List Choice) → Option (List Choice) → Option (List Choice)
-one_or_two (Some choice) two behind behind_two = before_choices choice behind
-one_or_two None (Some choice) behind behind_two = before_choices choice behind_two
-one_or_two None None behind behind_two = None
+-- one use more before others
+abbrev pub before_uses : Use → Option (List Use) → Option (List Use)
+before_uses one = option_map (λ uses. one ∷ uses)
 
--- what the words ask for, one option after another; each stands in one word, or in two
-unfoldable pub choices_of : List (List ℕ) → Option (List Choice)
-choices_of [] = Some []
-choices_of (word ∷ []) = one_or_two (choice_of word) None (Some []) None
-choices_of (word ∷ next ∷ words) = one_or_two (choice_of word) (choice_with word next) (choices_of (next ∷ words)) (choices_of words)
+-- the uses of a word that writes an option and of those behind it, where the option has no value, where its value
+-- stands in the same word, and where it is to stand in the next one
+abbrev pub first_use : Option (List ℕ × Bool) → Use → Option (List Use) → Option (List Use) → Option (List Use)
+first_use None one behind behind_value = None
+first_use (Some (known, false)) (name, None) behind behind_value = before_uses (name, None) behind
+first_use (Some (known, false)) (name, Some value) behind behind_value = None
+first_use (Some (known, true)) (name, Some value) behind behind_value = before_uses (name, Some value) behind
+first_use (Some (known, true)) (name, None) behind behind_value = behind_value
 
--- an option that isn't chosen yet is
-abbrev pub with_summary : Options → Bool → Option Options
-with_summary options false = Some (record options { summary = true })
-with_summary options true = None
+-- the uses that the words are, one after another, where an option may wait for its value: one that stands in a
+-- word of its own doesn't begin with `-`
+unfoldable pub uses_of : Option (List ℕ) → List (List ℕ) → Option (List Use)
+uses_of None [] = Some []
+uses_of (Some name) [] = None
+uses_of None (word ∷ words) =
+    option_and_then (λ one. first_use (option_named one.0) one (uses_of None words) (uses_of (Some one.0) words)) (written word)
+uses_of (Some name) (word ∷ words) = if begins_with (codes "-") word then None else before_uses (name, Some word) (uses_of None words)
 
-abbrev pub with_number : ℕ → Options → Option ℕ → Option Options
-with_number number options None = Some (record options { generate = Some number })
-with_number number options (Some other) = None
+abbrev pub is_used : List ℕ → List Use → Bool
+is_used name uses = list_any (λ one. bytes_eq one.0 name) uses
 
-abbrev pub with_profile : Profile → Options → Option Profile → Option Options
-with_profile profile options None = Some (record options { profile = Some profile })
-with_profile profile options (Some other) = None
+-- one use more behind others, where its option isn't used yet
+abbrev pub with_use : List Use → Use → Option (List Use)
+with_use uses one = if is_used one.0 uses then None else Some (uses ++ one ∷ [])
 
-abbrev pub with_mode : Mode → Options → Option Mode → Option Options
-with_mode mode options None = Some (record options { mode = Some mode })
-with_mode mode options (Some other) = None
+-- further uses behind others, where no option is used twice
+unfoldable pub with_uses : List Use → List Use → Option (List Use)
+with_uses uses [] = Some uses
+with_uses uses (one ∷ more) = option_and_then (λ all. with_uses all more) (with_use uses one)
 
-abbrev pub with_verify : Options → Bool → Option Options
-with_verify options false = Some (record options { verify = true })
-with_verify options true = None
+-- which options are given, and with which value
+pub record Given : Type 0 where
+  pub is_given : List ℕ → Bool
+  pub value : List ℕ → Option (List ℕ)
 
-abbrev pub with_choice : Choice → Options → Option Options
-with_choice choice.Summary options = with_summary options options.summary
-with_choice (choice.Generate number) options = with_number number options options.generate
-with_choice (choice.Profile profile) options = with_profile profile options options.profile
-with_choice (choice.Mode mode) options = with_mode mode options options.mode
-with_choice choice.Verify options = with_verify options options.verify
+abbrev pub given_by : List Use → Given
+given_by uses = record { is_given = λ name. is_used name uses; value = λ name. option_and_then (λ one. one.1) (find (λ one. bytes_eq one.0 name) uses) }
 
--- some options and further choices, where no option is chosen twice, and no two modes are
-unfoldable pub with_choices : Options → List Choice → Option Options
-with_choices options [] = Some options
-with_choices options (choice ∷ choices) = option_and_then (λ more. with_choices more choices) (with_choice choice options)
+-- a value is in form if it is given
+abbrev pub in_form : {X : Type 0} → Option (Option X) → Option (Option X)
+in_form None = Some None
+in_form (Some None) = None
+in_form (Some (Some x)) = Some (Some x)
 
-abbrev pub no_options : Options
-no_options = record { summary = false; generate = None; profile = None; mode = None; verify = false }
+-- one of two modes, or none where neither is asked for; both aren't
+abbrev pub one_of : Option Mode → Option Mode → Option (Option Mode)
+one_of None other = Some other
+one_of (Some mode) None = Some (Some mode)
+one_of (Some mode) (Some other) = None
 
--- what the words choose, one option after another
-abbrev pub gathered : List (List ℕ) → Option Options
-gathered words = option_and_then (with_choices no_options) (choices_of words)
+abbrev pub if_given : Bool → Mode → Option Mode
+if_given given mode = if given then Some mode else None
+
+-- the values that the options are given, where they are in form
+abbrev pub number_given : Given → Option (Option ℕ)
+number_given given = in_form (option_map number_of (given.value (codes "generate")))
+
+abbrev pub profile_given : Given → Option (Option Profile)
+profile_given given = in_form (option_map profile_of (given.value (codes "profile")))
+
+abbrev pub bytes_given : Given → Option (Option (List ℕ))
+bytes_given given = in_form (option_map bytes_read (given.value (codes "bytes")))
+
+abbrev pub question_given : Given → Option (Option ℕ)
+question_given given = in_form (option_map question_number (given.value (codes "refute")))
+
+-- the mode that is asked for, if one is: by an option that has no value, and by one that has
+abbrev pub plain_mode : Given → Option (Option Mode)
+plain_mode given = one_of (if_given (given.is_given (codes "needs")) Needs) (if_given (given.is_given (codes "matrix")) Matrix)
+
+abbrev pub valued_mode : Given → Option (Option Mode)
+valued_mode given = option_and_then (λ bytes. option_and_then (λ number. one_of (option_map Bytes bytes) (option_map Refute number)) (question_given given)) (bytes_given given)
+
+abbrev pub mode_of : Given → Option (Option Mode)
+mode_of given = option_and_then (λ plain. option_and_then (one_of plain) (valued_mode given)) (plain_mode given)
 
 -- there is one mode at most, of which `--verify` is one, and with it neither a summary nor a generated file is asked for
 abbrev pub go_together : Options → Bool
@@ -132,10 +155,21 @@ go_together options =
 abbrev pub if_together : Options → Option Options
 if_together options = if go_together options then Some options else None
 
+-- what the given options ask for
+abbrev pub options_given : Given → Option Options
+options_given given =
+    option_and_then (λ number. option_and_then (λ profile. option_and_then (λ mode. if_together (record {
+      summary = given.is_given (codes "summary");
+      generate = number;
+      profile = profile;
+      mode = mode;
+      verify = given.is_given (codes "verify");
+    })) (mode_of given)) (profile_given given)) (number_given given)
+
 -- what the words ask for. They are in form where there is such an answer: each is a part of an option, no option
 -- stands twice and no two modes do, and a mode stands beside a profile alone.
 abbrev pub options_of : List (List ℕ) → Option Options
-options_of words = option_and_then if_together (gathered words)
+options_of words = option_and_then (λ uses. options_given (given_by uses)) (option_and_then (with_uses []) (uses_of None words))
 
 -- the bytes of each word
 abbrev pub texts_of : List (String Global) → List (List ℕ)

@@ -1,7 +1,7 @@
 ghost use Rattle.std.specs.Prelude.{◌≡◌, ◌⊎◌};
 ghost use Rattle.tm_run.specs.Asking.{number_asked};
 ghost use Rattle.tm_run.specs.Inputs.{input_limit, pointer_for, to_verify};
-ghost use Rattle.tm_run.specs.Words.{go_together, no_options, profile_for, with_choice};
+ghost use Rattle.tm_run.specs.Words.{go_together, if_together, profile_for};
 
 use crate::bytes::Bytes;
 use tm_base::{LimitKind, Profile};
@@ -37,57 +37,12 @@ pub struct Options {
     pub verify: bool,
 }
 
-/// What one option asks for.
-#[derive(Debug, Drop)]
-pub enum Choice {
-    Summary,
-    Generate(u64),
-    Profile(Profile),
-    Mode(Mode),
-    Verify,
-}
-
 impl Options {
-    /// What no word asks for.
-    pub fn none() -> Options
-        ensures { result ≡ no_options }
+    /// These options, or `None` where they don't go together.
+    pub fn if_together(self) -> Option<Options>
+        ensures { result ≡ if_together self }
     {
-        Options {
-            summary: false,
-            generate: None,
-            profile: None,
-            mode: None,
-            verify: false,
-        }
-    }
-
-    /// With one choice more, or `None` where its option, or another mode, is chosen already.
-    pub fn with(self, choice: Choice) -> Option<Options>
-        ensures { result ≡ with_choice choice self }
-    {
-        match choice {
-            Choice::Summary if !self.summary => Some(Options {
-                summary: true,
-                ..self
-            }),
-            Choice::Generate(number) if self.generate.is_none() => Some(Options {
-                generate: Some(number),
-                ..self
-            }),
-            Choice::Profile(profile) if self.profile.is_none() => Some(Options {
-                profile: Some(profile),
-                ..self
-            }),
-            Choice::Mode(mode) if self.mode.is_none() => Some(Options {
-                mode: Some(mode),
-                ..self
-            }),
-            Choice::Verify if !self.verify => Some(Options {
-                verify: true,
-                ..self
-            }),
-            _ => None,
-        }
+        if self.go_together() { Some(self) } else { None }
     }
 
     /// Whether there is one mode at most, and it stands with neither a summary nor a generated file.

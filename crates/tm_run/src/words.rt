@@ -1,47 +1,17 @@
-ghost use Rattle.std.specs.Prelude.{◌≡◌, ◌+◌, ◌≤◌, ◌∷◌, IfOk, length, option_to_list};
+ghost use Rattle.std.specs.Prelude.{◌≡◌, IfOk, false, string_bytes};
 ghost use Rattle.std.specs.Char.{is_ascii_digit};
-ghost use Rattle.std.specs.List.{list_all};
-ghost use Rattle.tm_run.specs.Reading.{IsFirstChoice, IsNextWord};
-ghost use Rattle.tm_run.specs.Words.{asked, choice_of, choice_with, gathered, joined_choice, number_of, profile_of, question_number, texts_of};
+ghost use Rattle.std.specs.List.{list_all, list_any};
+ghost use Rattle.clap.specs.Simple.{app_of};
+ghost use Rattle.clap.specs.Walk.{rule_of};
+ghost use Rattle.tm_run.specs.Commands.{command_app, given_in, is_stray, rule_with};
+ghost use Rattle.tm_run.specs.Words.{asked, bytes_given, mode_of, number_given, number_of, one_of, options_given, plain_mode, profile_given, profile_of, question_given, question_number, valued_mode};
 
 use crate::bytes::Bytes;
-use crate::options::{Choice, Mode, Options};
-use std::alloc::Global;
+use crate::options::{Mode, Options};
+use clap::error::ErrorKind;
+use clap::{Arg, ArgAction, ArgMatches, Command};
+use std::alloc::{AllocError, Global};
 use tm_base::{Memory, Profile};
-
-/// The words that are still to be read.
-#[derive(Drop)]
-struct Words<'a> {
-    rest: &'a [String],
-}
-
-impl<'a> Words<'a> {
-    /// The next word, behind which the others are left.
-    fn next(&mut self) -> Option<&'a str>
-        ensures word { IsNextWord (texts_of self.old.rest.now) result (texts_of self.new.rest.now) }
-        ensures shorter { length self.new.rest.now + length (option_to_list result)
-            ≡ length self.old.rest.now }
-    {
-        let (word, rest) = self.rest.split_first()?;
-        self.rest = rest;
-        Some(word.as_str())
-    }
-
-    /// What a word asks for that was taken, by itself or with the next one.
-    fn choice(&mut self, alloc: Global, word: &str) -> Result<Option<Choice>, Memory>
-        ensures first { IfOk result (λ choice. IsFirstChoice (word.now ∷ texts_of self.old.rest.now)
-            choice (texts_of self.new.rest.now)) }
-        ensures shorter { length self.new.rest.now ≤ length self.old.rest.now }
-    {
-        match choice_of(alloc, word)? {
-            Some(choice) => Ok(Some(choice)),
-            None => match self.next() {
-                Some(value) => choice_with(alloc, word, value),
-                None => Ok(None),
-            },
-        }
-    }
-}
 
 fn is_decimal(text: &str) -> bool
     ensures { result ≡ list_all is_ascii_digit text.now }
@@ -83,67 +53,168 @@ fn profile_of(name: &str) -> Option<Profile>
     }
 }
 
-/// What an option asks for that has a value.
-fn choice_with(alloc: Global, name: &str, value: &str) -> Result<Option<Choice>, Memory>
-    ensures { IfOk result (λ choice. choice ≡ choice_with name.now value.now) }
+/// One of two modes, if one is asked for, or `None` where both are.
+fn one_of(mode: Option<Mode>, other: Option<Mode>) -> Option<Option<Mode>>
+    ensures { result ≡ one_of mode other }
 {
-    let choice = match name {
-        "--generate" => number_of(value).map(Choice::Generate),
-        "--profile" => profile_of(value).map(Choice::Profile),
-        "--bytes" => Bytes::read(alloc, value)?.map(|bytes| Choice::Mode(Mode::Bytes(bytes))),
-        "--refute" => question_number(value).map(|number| Choice::Mode(Mode::Refute(number))),
-        _ => None,
+    match (mode, other) {
+        (Some(_), Some(_)) => None,
+        (Some(mode), None) => Some(Some(mode)),
+        (None, other) => Some(other),
+    }
+}
+
+/// The number of the file that is generated, if it is given, or `None` where it isn't in form.
+fn number_given(matches: &ArgMatches) -> Option<Option<u64>>
+    ensures { result ≡ number_given (given_in matches.now) }
+{
+    match matches.get_str("generate") {
+        Some(text) => number_of(text).map(Some),
+        None => Some(None),
+    }
+}
+
+/// The profile, if it is given, or `None` where it isn't in form.
+fn profile_given(matches: &ArgMatches) -> Option<Option<Profile>>
+    ensures { result ≡ profile_given (given_in matches.now) }
+{
+    match matches.get_str("profile") {
+        Some(name) => profile_of(name).map(Some),
+        None => Some(None),
+    }
+}
+
+/// The bytes, if they are given, or `None` where they aren't in form.
+fn bytes_given(alloc: Global, matches: &ArgMatches) -> Result<Option<Option<Bytes>>, Memory>
+    ensures { IfOk result (λ bytes. bytes ≡ bytes_given (given_in matches.now)) }
+{
+    match matches.get_str("bytes") {
+        Some(text) => Ok(Bytes::read(alloc, text)?.map(Some)),
+        None => Ok(Some(None)),
+    }
+}
+
+/// The number of the question that is refuted, if it is given, or `None` where it isn't in form.
+fn question_given(matches: &ArgMatches) -> Option<Option<u32>>
+    ensures { result ≡ question_given (given_in matches.now) }
+{
+    match matches.get_str("refute") {
+        Some(text) => question_number(text).map(Some),
+        None => Some(None),
+    }
+}
+
+/// The mode that an option without a value asks for.
+fn plain_mode(matches: &ArgMatches) -> Option<Option<Mode>>
+    ensures { result ≡ plain_mode (given_in matches.now) }
+{
+    let needs = matches.contains_id("needs").then_some(Mode::Needs);
+    let matrix = matches.contains_id("matrix").then_some(Mode::Matrix);
+    one_of(needs, matrix)
+}
+
+/// The mode that an option with a value asks for.
+fn valued_mode(alloc: Global, matches: &ArgMatches) -> Result<Option<Option<Mode>>, Memory>
+    ensures { IfOk result (λ mode. mode ≡ valued_mode (given_in matches.now)) }
+{
+    let Some(bytes) = bytes_given(alloc, matches)? else {
+        return Ok(None);
     };
-    Ok(choice)
+    let Some(number) = question_given(matches) else {
+        return Ok(None);
+    };
+    Ok(one_of(bytes.map(Mode::Bytes), number.map(Mode::Refute)))
 }
 
-/// What an option and its value ask for that stand in one word, with `=` between them.
-fn joined_choice(alloc: Global, word: &str) -> Result<Option<Choice>, Memory>
-    ensures { IfOk result (λ choice. choice ≡ joined_choice word.now) }
+/// The mode that is asked for, if one is, or `None` where two are or a value isn't in form.
+fn mode_of(alloc: Global, matches: &ArgMatches) -> Result<Option<Option<Mode>>, Memory>
+    ensures { IfOk result (λ mode. mode ≡ mode_of (given_in matches.now)) }
 {
-    match word.split_once('=') {
-        Some((name, value)) => choice_with(alloc, name, value),
-        None => Ok(None),
-    }
+    let Some(plain) = plain_mode(matches) else {
+        return Ok(None);
+    };
+    let Some(valued) = valued_mode(alloc, matches)? else {
+        return Ok(None);
+    };
+    Ok(one_of(plain, valued))
 }
 
-/// What a word asks for by itself.
-fn choice_of(alloc: Global, word: &str) -> Result<Option<Choice>, Memory>
-    ensures { IfOk result (λ choice. choice ≡ choice_of word.now) }
+/// What the options ask for that were found, or `None` where that isn't in form.
+fn options_given(alloc: Global, matches: &ArgMatches) -> Result<Option<Options>, Memory>
+    ensures { IfOk result (λ options. options ≡ options_given (given_in matches.now)) }
 {
-    match word {
-        "--summary" => Ok(Some(Choice::Summary)),
-        "--needs" => Ok(Some(Choice::Mode(Mode::Needs))),
-        "--matrix" => Ok(Some(Choice::Mode(Mode::Matrix))),
-        "--verify" => Ok(Some(Choice::Verify)),
-        _ => joined_choice(alloc, word),
-    }
+    let Some(generate) = number_given(matches) else {
+        return Ok(None);
+    };
+    let Some(profile) = profile_given(matches) else {
+        return Ok(None);
+    };
+    let Some(mode) = mode_of(alloc, matches)? else {
+        return Ok(None);
+    };
+    let options = Options {
+        summary: matches.contains_id("summary"),
+        generate,
+        profile,
+        mode,
+        verify: matches.contains_id("verify"),
+    };
+    Ok(options.if_together())
 }
 
-/// What the words choose, or `None` where one is no part of an option or an option stands twice.
-fn gathered(alloc: Global, words: &[String]) -> Result<Option<Options>, Memory>
-    ensures { IfOk result (λ options. options ≡ gathered (texts_of words.now)) }
+/// An option with so many values.
+fn option<'a>(alloc: Global, name: &'a str, values: usize) -> Arg<'a>
+    ensures rule { rule_of result ≡ rule_with name.entry.now values }
+    ensures local { result.global ≡ false }
 {
-    let mut words = Words { rest: words };
-    let mut options = Options::none();
-    while let Some(word) = words.next() {
-        let Some(choice) = words.choice(alloc, word)? else {
-            return Ok(None);
-        };
-        match options.with(choice) {
-            Some(more) => options = more,
-            None => return Ok(None),
-        }
-    }
-    Ok(Some(options))
+    Arg::new(alloc, name)
+        .long(name)
+        .action(ArgAction::Set)
+        .num_args(values)
+}
+
+/// The command: its options, with no help and no version.
+fn command<'a>(alloc: Global) -> Result<Command<'a>, AllocError>
+    ensures { IfOk result (λ command. app_of command ≡ command_app) }
+{
+    Command::new(alloc, "transmute_report")
+        .no_binary_name(true)
+        .disable_help_flag(true)
+        .disable_version_flag(true)
+        .arg(option(alloc, "summary", 0))?
+        .arg(option(alloc, "generate", 1))?
+        .arg(option(alloc, "profile", 1))?
+        .arg(option(alloc, "needs", 0))?
+        .arg(option(alloc, "matrix", 0))?
+        .arg(option(alloc, "bytes", 1))?
+        .arg(option(alloc, "refute", 1))?
+        .arg(option(alloc, "verify", 0))
+}
+
+/// Whether a word begins as an option does and is none: `--` alone, and any with one `-`.
+fn is_stray(word: &str) -> bool
+    ensures { result ≡ is_stray word.now }
+{
+    word.starts_with("-") && (word == "--" || !word.starts_with("--"))
+}
+
+/// Whether a word is a stray one.
+fn has_stray(words: &[String]) -> bool
+    ensures { result ≡ list_any (λ word. is_stray (string_bytes word)) words.now }
+{
+    words.iter().any(|word| is_stray(word.as_str()))
 }
 
 /// What the words ask for, or `None` where they aren't in form.
 pub fn chosen(alloc: Global, words: &[String]) -> Result<Option<Options>, Memory>
     ensures { IfOk result (λ options. options ≡ asked words.now) }
 {
-    match gathered(alloc, words)? {
-        Some(options) if options.go_together() => Ok(Some(options)),
-        _ => Ok(None),
+    if has_stray(words) {
+        return Ok(None);
+    }
+    match command(alloc)?.try_get_matches_from(words) {
+        Ok(matches) => options_given(alloc, &matches),
+        Err(error) if error.kind() == ErrorKind::OutOfMemory => Err(Memory),
+        Err(_) => Ok(None),
     }
 }
