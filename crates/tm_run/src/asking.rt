@@ -66,7 +66,8 @@ pub fn with_questions(
     requires form { IsInForm resolved }
     requires apart { HasApartNames resolved }
     requires decls { length parsed.now.decls ≡ length resolved.defs }
-    ensures asked { IfOk result (λ asked. asked ≡ with_questions options.now.mode parsed.now resolved) }
+    ensures asked { IfOk result
+        (λ asked. asked ≡ with_questions options.now.mode parsed.now resolved) }
     ensures form { IfOk result IsInForm }
     ensures apart { IfOk result HasApartNames }
 {

@@ -118,7 +118,8 @@ impl<'a, L: Ledger> Court<'a, L> {
         requires source { IsTypeOver self.old ask.now.src }
         requires target { IsTypeOver self.old ask.now.dst }
         ensures some { IfOk result (λ found. IfSome found (IsRefutationOf self.old ask.now)) }
-        ensures short { IfOk result (λ found. IfSome found (λ x. cells_of x ≤ most_cells_together)) }
+        ensures short { IfOk result
+            (λ found. IfSome found (λ x. cells_of x ≤ most_cells_together)) }
         ensures none { IfOk result (λ found. IfNone found (¬ IsRefutable self.old ask.now)) }
         ensures long { IfErr result (λ error. error ≡ TooLong
             → (x : Refutation) × IsRefutationOf self.old ask.now x

@@ -36,7 +36,8 @@ pub fn needs<L: Ledger>(
     court: &mut Court<L>,
 ) -> Result<Vec<Need>, Memory>
     requires { court.old ≡ tables_of world.now }
-    ensures { IfOk result (λ needs. AllZip (IsNeed (tables_of world.now)) world.now.questions needs.items) }
+    ensures { IfOk result
+        (λ needs. AllZip (IsNeed (tables_of world.now)) world.now.questions needs.items) }
 {
     let mut needs = Vec::new(alloc);
     for ask in world.questions.as_slice() {

@@ -15,7 +15,8 @@ use tm_report::{line, ref_line, summary};
 
 /// Adds the line of each reference type of a world.
 fn add_reference_lines(alloc: Global, text: &mut Text, world: &World) -> Result<(), Memory>
-    ensures { OnOk result (text.new ≡ text.old ++ reference_lines (tables_of world.now) 0 world.now.refs) }
+    ensures { OnOk result
+        (text.new ≡ text.old ++ reference_lines (tables_of world.now) 0 world.now.refs) }
 {
     for (number, _) in world.refs.as_slice().iter().enumerate() {
         let line = ref_line(alloc, world, RefId(number as u32))?;
@@ -33,7 +34,8 @@ fn add_answer_lines(
 ) -> Result<(), Memory>
     requires whole { All (HasWholeWord (pointer_size world.now.profile)) answers.now }
     requires few { length answers.now ≤ 256 }
-    ensures { OnOk result (text.new ≡ text.old ++ answer_lines (tables_of world.now) 1 answers.now) }
+    ensures { OnOk result
+        (text.new ≡ text.old ++ answer_lines (tables_of world.now) 1 answers.now) }
 {
     for (place, answer) in answers.iter().enumerate() {
         let line = line(alloc, place as u32 + 1, world, answer)?;

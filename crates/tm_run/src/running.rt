@@ -92,7 +92,8 @@ pub fn run<S: Source, K: Sink>(alloc: Global, words: &[String], src: &mut S, out
     // What is left of the source. It isn't read where the words aren't in form or a file is generated.
     ensures unread { is_read (asked words.now) ≡ false
         → (S.left src.new ≡ S.left src.old) × (S.faults src.new ≡ S.faults src.old) }
-    ensures taken { (input : List ℕ) → is_read (asked words.now) ≡ true → S.left src.old ≡ Some input
+    ensures taken { (input : List ℕ) → is_read (asked words.now) ≡ true → S.left src.old
+        ≡ Some input
         → result ≢ Status.ReadFault → result ≢ Status.Memory
         → S.left src.new ≡ Some (drop (most_read (asked words.now) + 1) input) }
 {
