@@ -18,13 +18,13 @@ use Rattle.tm_ground.specs.declared.fault.GroundErr.TheVariants as ground_err
 use Rattle.tm_report.specs.declared.fault.FileFault.{FileFault}
 use Rattle.tm_report.specs.declared.fault.FileFault.TheVariants.{NotUtf8, NoToken, BadNumber, OpenComment, Unexpected, EndOfFile, Passed, Names, BadRefutation, NoQuestion}
 use Rattle.tm_run.specs.Asking.{is_no_question, lacks_question, number_asked, passes_mode, question_at}
-use Rattle.tm_run.specs.declared.options.Mode.{Mode}
-use Rattle.tm_run.specs.declared.options.Mode.TheVariants.{Needs, Matrix, Bytes, Refute, Verify}
+use Rattle.tm_run.specs.declared.words.options.Mode.{Mode}
+use Rattle.tm_run.specs.declared.words.options.Mode.TheVariants.{Needs, Matrix, Bytes, Refute, Verify}
 use Rattle.tm_run.specs.Examined.{IsExamined, IsLateFault, IsMeaningOf, IsOnlyFault, IsStop, stop_of, too_long}
 use Rattle.tm_run.specs.Faults.{IsFirstLimit, LacksQuestion, PassesLimitOnTypes}
 use Rattle.tm_run.specs.Files.{IsAccepted, IsTooLong}
 use Rattle.tm_run.specs.Refutations.{PassesCells}
-use Rattle.tm_run.specs.declared.options.Options.{Options}
+use Rattle.tm_run.specs.declared.words.options.Options.{Options}
 
 -- what holds of each limit on closed types holds of each late fault
 by_late : (options : Options) (file : List ℕ) (P : FileFault → Type 0) → ((kind : LimitKind) → PassesLimitOnTypes options file kind → P (Passed kind None))

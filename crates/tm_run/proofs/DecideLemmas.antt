@@ -14,7 +14,7 @@ use Rattle.tm_run.specs.Refutations.{PassesCells}
 use Rattle.tm_run.specs.Outcomes.{IsFileOutcome, IsReport, IsSettled}
 use Rattle.tm_run.specs.Reported.{IsReported}
 use Rattle.tm_run.specs.Runs.{Decides}
-use Rattle.tm_run.specs.declared.options.Options.{Options}
+use Rattle.tm_run.specs.declared.words.options.Options.{Options}
 use Rattle.tm_run.specs.declared.status.Status.{Status}
 use Rattle.tm_run.specs.declared.status.Status.TheVariants.{AllYes, Mixed, Usage, BadText, Limit, IllFormed, NoQuestion as NoSuchQuestion}
 use Rattle.tm_run.specs.declared.stop.Stop.{Stop}

@@ -8,7 +8,7 @@ use Rattle.tm_report.specs.declared.fault.FileFault.TheVariants.{Passed}
 use Rattle.tm_run.specs.Inputs.{input_limit}
 use Rattle.tm_run.specs.Runs.{Answers, Declines, Did, GetsInput, IsSilent, failed_to_read, lacked_memory, overflowed, answered}
 use Rattle.tm_run.specs.Words.{is_read}
-use Rattle.tm_run.specs.declared.options.Options.{Options}
+use Rattle.tm_run.specs.declared.words.options.Options.{Options}
 use Rattle.tm_run.specs.declared.status.Status.{Status}
 use Rattle.tm_run.specs.declared.status.Status.TheVariants.{ReadFault, Memory}
 

@@ -22,7 +22,7 @@ use Rattle.tm_run.specs.Faults.{BeginsAt, EndsTooSoon, HasFault, HasNameFaultAt,
 use Rattle.tm_run.specs.Files.{HasSoundNames, IsResolved, IsSpelled, file_bytes}
 use Rattle.tm_run.specs.Places.{at_byte}
 use Rattle.tm_run.specs.Words.{profile_for}
-use Rattle.tm_run.specs.declared.options.Options.{Options}
+use Rattle.tm_run.specs.declared.words.options.Options.{Options}
 
 -- an error that is passed on as it is
 pub passed_on : {A E : Type 0} (P : E → Type 0) (result : Result A E) (err : E) → IsErrAnd result (λ passed. passed ≡ err) → P err → IfErr result P

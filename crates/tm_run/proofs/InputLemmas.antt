@@ -14,7 +14,7 @@ use Rattle.tm_run.specs.Held.{EachHolds, SomeDoesNot}
 use Rattle.tm_run.specs.Inputs.{AsksBy, AsksOf, HasInputFault, HasTextFault, IsFaultyInput, IsTextOf, OfInput, input_limit, limit_by, pointer_for, to_verify}
 use Rattle.tm_run.specs.Outcomes.{IsFileOutcome, IsInputOutcome, IsReport}
 use Rattle.tm_run.specs.Runs.{Answers, Decides, DecidesInput, Declines, IsInputStop}
-use Rattle.tm_run.specs.declared.options.Options.{Options}
+use Rattle.tm_run.specs.declared.words.options.Options.{Options}
 use Rattle.tm_run.specs.declared.status.Status.{Status}
 use Rattle.tm_run.specs.declared.status.Status.TheVariants.{BadText, Limit, IllFormed, NoQuestion}
 use Rattle.tm_run.specs.declared.stop.Stop.{Stop}

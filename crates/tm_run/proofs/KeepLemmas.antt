@@ -9,7 +9,7 @@ use Rattle.tm_run.specs.Inputs.{HasInputFault, IsFaultyInput, OfInput, most_read
 use Rattle.tm_run.specs.Outcomes.{IsInput, IsInputOf, IsInputReport, IsOutcome, IsRunOn, IsSettled, WritesFault, WritesOutcome, WritesPrefix, WritesReport}
 use Rattle.tm_run.specs.Runs.{DecidesInput, Finishes, IsSilent}
 use Rattle.tm_run.specs.Words.{is_read}
-use Rattle.tm_run.specs.declared.options.Options.{Options}
+use Rattle.tm_run.specs.declared.words.options.Options.{Options}
 use Rattle.tm_run.specs.declared.status.Status.{Status}
 use Rattle.tm_run.specs.declared.status.Status.TheVariants.{AllYes, Mixed, Usage, BadText, Limit, ReadFault, WriteFault, Memory, IllFormed, NoQuestion}
 

@@ -19,8 +19,8 @@ use Rattle.tm_needs.proofs.NumberLemmas.{number-small, subset-whole}
 use Rattle.tm_report.specs.AnswerLines.{HasWholeWord}
 use Rattle.tm_ground.proofs.ContainsLemmas.{contains-first}
 use Rattle.tm_run.specs.Needs.{HasRefusal, HoldsUnderSome, IsNeed, is_met}
-use Rattle.tm_run.specs.declared.need.Need.{Need}
-use Rattle.tm_run.specs.declared.need.Need.TheVariants.{Least, Refused}
+use Rattle.tm_run.specs.declared.reported.need.Need.{Need}
+use Rattle.tm_run.specs.declared.reported.need.Need.TheVariants.{Least, Refused}
 use Rattle.tm_run.proofs.AnswerLemmas.{refusal-unjudged}
 
 -- where no set is least, the answer is yes under none

@@ -9,7 +9,7 @@ use Rattle.tm_run.specs.Inputs.{input_limit}
 use Rattle.tm_run.specs.Outcomes.{IsInputIfTold, IsInputOf, usage_line}
 use Rattle.tm_run.specs.Runs.{Answered, DecidesInput, Did, FailedToRead, GetsInput, LackedMemory, Misused, Overflowed, misused, failed_to_read, lacked_memory, overflowed, answered}
 use Rattle.tm_run.specs.Words.{is_read}
-use Rattle.tm_run.specs.declared.options.Options.{Options}
+use Rattle.tm_run.specs.declared.words.options.Options.{Options}
 use Rattle.tm_run.specs.declared.status.Status.{Status}
 use Rattle.tm_run.specs.declared.status.Status.TheVariants.{Usage, Limit, ReadFault, Memory}
 use Rattle.tm_run.proofs.DoneLemmas.{read-so}

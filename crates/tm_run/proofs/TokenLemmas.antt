@@ -26,7 +26,7 @@ use Rattle.tm_run.specs.Faults.{BeginsAt, HasFault, LacksToken, start_of}
 use Rattle.tm_run.specs.Files.{HasSoundNames, IsResolved, IsSpelled}
 use Rattle.tm_run.specs.Places.{at_byte}
 use Rattle.tm_run.specs.Words.{profile_for}
-use Rattle.tm_run.specs.declared.options.Options.{Options}
+use Rattle.tm_run.specs.declared.words.options.Options.{Options}
 use Rattle.tm_run.proofs.FaultLemmas.{by_tokens, lacks_only, resolved_by, sound_by}
 
 -- the lexer's fault

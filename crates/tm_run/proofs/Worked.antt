@@ -7,8 +7,8 @@ use Rattle.tm_report.specs.declared.fault.FileFault.TheVariants.{NotUtf8}
 use Rattle.tm_run.specs.Faults.{HasFault}
 use Rattle.tm_run.specs.Places.{at_byte}
 use Rattle.tm_run.specs.Words.{options, options_of, uses_of, with_uses}
-use Rattle.tm_run.specs.declared.options.Mode.TheVariants.{Needs, Matrix}
-use Rattle.tm_run.specs.declared.options.Options.{Options}
+use Rattle.tm_run.specs.declared.words.options.Mode.TheVariants.{Needs, Matrix}
+use Rattle.tm_run.specs.declared.words.options.Options.{Options}
 
 -- the byte that ends a line stands on it, and the byte behind it on the next
 end_of_a_line : at_byte (0x41 ∷ 0x0A ∷ 0x42 ∷ []) 1 ≡ record { byte = 1; line = 1 }

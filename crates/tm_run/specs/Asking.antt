@@ -9,8 +9,8 @@ use Rattle.tm_names.specs.declared.resolved.OpenAsk.{OpenAsk}
 use Rattle.tm_names.specs.declared.resolved.Resolved.{Resolved}
 use Rattle.tm_parse.specs.declared.parsed.Decl.{Decl}
 use Rattle.tm_parse.specs.declared.parsed.Parsed.{Parsed}
-use Rattle.tm_run.specs.declared.options.Mode.{Mode}
-use Rattle.tm_run.specs.declared.options.Mode.TheVariants.{Needs, Matrix, Bytes, Refute, Verify}
+use Rattle.tm_run.specs.declared.words.options.Mode.{Mode}
+use Rattle.tm_run.specs.declared.words.options.Mode.TheVariants.{Needs, Matrix, Bytes, Refute, Verify}
 
 -- the type of a definition without parameters, by its number
 abbrev pub own_type : ℕ → Open

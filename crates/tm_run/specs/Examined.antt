@@ -30,8 +30,8 @@ use Rattle.tm_run.specs.Files.{HasSoundNames, IsAccepted, IsAnswerable, IsLexed,
 use Rattle.tm_run.specs.Refutations.{IsPast, PassesCells}
 use Rattle.tm_run.specs.Places.{at_byte}
 use Rattle.tm_run.specs.Words.{profile_for}
-use Rattle.tm_run.specs.declared.options.Mode.{Mode}
-use Rattle.tm_run.specs.declared.options.Options.{Options}
+use Rattle.tm_run.specs.declared.words.options.Mode.{Mode}
+use Rattle.tm_run.specs.declared.words.options.Options.{Options}
 use Rattle.tm_run.specs.declared.stop.Stop.{Stop}
 use Rattle.tm_run.specs.declared.stop.Stop.TheVariants.{Fault, Memory}
 

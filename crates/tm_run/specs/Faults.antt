@@ -22,7 +22,7 @@ use Rattle.tm_run.specs.Asking.{is_no_question, number_asked, passes_mode}
 use Rattle.tm_run.specs.Files.{file_bytes, IsLexed, IsResolved, IsSpelled, IsTooLong}
 use Rattle.tm_run.specs.Places.{IsPlaceIn, at_byte}
 use Rattle.tm_run.specs.Words.{profile_for}
-use Rattle.tm_run.specs.declared.options.Options.{Options}
+use Rattle.tm_run.specs.declared.words.options.Options.{Options}
 use Rattle.tm_run.specs.declared.status.Status.{Status}
 use Rattle.tm_run.specs.declared.status.Status.TheVariants.{BadText, Limit, IllFormed, NoQuestion as NoSuchQuestion}
 

@@ -18,7 +18,7 @@ use Rattle.tm_parse.specs.declared.parsed.Parsed.{Parsed}
 use Rattle.tm_run.specs.Asking.{lacks_question, number_asked, passes_mode, with_questions}
 use Rattle.tm_run.specs.Refutations.{PassesCells}
 use Rattle.tm_run.specs.Words.{profile_for}
-use Rattle.tm_run.specs.declared.options.Options.{Options}
+use Rattle.tm_run.specs.declared.words.options.Options.{Options}
 
 -- the greatest number of bytes that a file has
 abbrev pub file_bytes : ℕ

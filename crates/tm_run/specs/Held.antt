@@ -12,9 +12,9 @@ use Rattle.tm_run.specs.Files.{IsWorldOf}
 use Rattle.tm_run.specs.Marks.{matrix_questions}
 use Rattle.tm_run.specs.Matches.{AreValueOf}
 use Rattle.tm_run.specs.Needs.{HoldsUnderSome}
-use Rattle.tm_run.specs.declared.options.Mode.{Mode}
-use Rattle.tm_run.specs.declared.options.Mode.TheVariants.{Needs, Matrix, Bytes, Refute, Verify}
-use Rattle.tm_run.specs.declared.options.Options.{Options}
+use Rattle.tm_run.specs.declared.words.options.Mode.{Mode}
+use Rattle.tm_run.specs.declared.words.options.Mode.TheVariants.{Needs, Matrix, Bytes, Refute, Verify}
+use Rattle.tm_run.specs.declared.words.options.Options.{Options}
 
 -- Without a mode, that a question is to be answered yes; with `--needs`, that it is under some assumptions; with
 -- `--bytes`, that the bytes are a value of its target; with `--verify`, that it has the refutation.

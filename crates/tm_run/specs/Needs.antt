@@ -14,8 +14,8 @@ use Rattle.tm_needs.specs.Least.{AreLeast, HoldsUnder}
 use Rattle.tm_report.specs.AnswerLines.{answer_line}
 use Rattle.tm_report.specs.FaultLines.{line_end}
 use Rattle.tm_run.specs.Report.{status_when}
-use Rattle.tm_run.specs.declared.need.Need.{Need}
-use Rattle.tm_run.specs.declared.need.Need.TheVariants.{Least, Refused}
+use Rattle.tm_run.specs.declared.reported.need.Need.{Need}
+use Rattle.tm_run.specs.declared.reported.need.Need.TheVariants.{Least, Refused}
 use Rattle.tm_run.specs.declared.status.Status.{Status}
 
 -- the answer to the question is yes under some assumptions, whichever it makes itself

@@ -9,7 +9,7 @@ use Rattle.tm_run.specs.Faults.{HasFault, status_of_fault}
 use Rattle.tm_run.specs.Files.{IsWorldOf}
 use Rattle.tm_run.specs.Inputs.{HasInputFault, OfInput}
 use Rattle.tm_run.specs.Reported.{IsReported}
-use Rattle.tm_run.specs.declared.options.Options.{Options}
+use Rattle.tm_run.specs.declared.words.options.Options.{Options}
 use Rattle.tm_run.specs.declared.status.Status.{Status}
 use Rattle.tm_run.specs.declared.status.Status.TheVariants.{AllYes, Mixed, Usage, BadText, Limit, ReadFault, WriteFault, Memory, IllFormed, NoQuestion}
 

@@ -17,8 +17,8 @@ use Rattle.tm_report.specs.AnswerLines.{answer_line}
 use Rattle.tm_report.specs.FaultLines.{line_end}
 use Rattle.tm_run.specs.Asking.{question_at}
 use Rattle.tm_run.specs.Report.{status_when}
-use Rattle.tm_run.specs.declared.options.Mode.{Mode}
-use Rattle.tm_run.specs.declared.options.Mode.TheVariants.{Needs, Matrix, Bytes, Refute, Verify}
+use Rattle.tm_run.specs.declared.words.options.Mode.{Mode}
+use Rattle.tm_run.specs.declared.words.options.Mode.TheVariants.{Needs, Matrix, Bytes, Refute, Verify}
 use Rattle.tm_run.specs.declared.status.Status.{Status}
 use Rattle.tm_run.specs.declared.status.Status.TheVariants.{Mixed}
 

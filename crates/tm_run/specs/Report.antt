@@ -10,7 +10,7 @@ use Rattle.tm_base.specs.Worlds.{tables_of}
 use Rattle.tm_laws.specs.AnswerKinds.{is_no, is_refusal, is_yes}
 use Rattle.tm_report.specs.AnswerLines.{answer_line, reference_line, summary_line}
 use Rattle.tm_report.specs.FaultLines.{line_end}
-use Rattle.tm_run.specs.declared.options.Options.{Options}
+use Rattle.tm_run.specs.declared.words.options.Options.{Options}
 use Rattle.tm_run.specs.declared.status.Status.{Status}
 use Rattle.tm_run.specs.declared.status.Status.TheVariants.{AllYes, Mixed}
 

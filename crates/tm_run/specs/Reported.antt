@@ -9,9 +9,9 @@ use Rattle.tm_run.specs.Matches.{IsBytesReport}
 use Rattle.tm_run.specs.Needs.{IsNeedsReport}
 use Rattle.tm_run.specs.Refutations.{IsRefuteReport, IsVerifyReport}
 use Rattle.tm_run.specs.Report.{report_for, status_of}
-use Rattle.tm_run.specs.declared.options.Mode.{Mode}
-use Rattle.tm_run.specs.declared.options.Mode.TheVariants.{Needs, Matrix, Bytes, Refute, Verify}
-use Rattle.tm_run.specs.declared.options.Options.{Options}
+use Rattle.tm_run.specs.declared.words.options.Mode.{Mode}
+use Rattle.tm_run.specs.declared.words.options.Mode.TheVariants.{Needs, Matrix, Bytes, Refute, Verify}
+use Rattle.tm_run.specs.declared.words.options.Options.{Options}
 use Rattle.tm_run.specs.declared.status.Status.{Status}
 
 -- each question of the world has its answer, and the text is the report on these answers, in the form that the

@@ -13,7 +13,7 @@ use Rattle.tm_run.specs.Files.{IsAccepted}
 use Rattle.tm_run.specs.Inputs.{HasInputFault, IsFaultyInput, OfInput, input_limit}
 use Rattle.tm_run.specs.Outcomes.{IsFileOutcome, IsInputOutcome, IsInputReport, IsReport, IsSettled, usage_line}
 use Rattle.tm_run.specs.Words.{is_read}
-use Rattle.tm_run.specs.declared.options.Options.{Options}
+use Rattle.tm_run.specs.declared.words.options.Options.{Options}
 use Rattle.tm_run.specs.declared.status.Status.{Status}
 use Rattle.tm_run.specs.declared.status.Status.TheVariants.{AllYes, Mixed, Usage, BadText, Limit, ReadFault, WriteFault, Memory, IllFormed, NoQuestion}
 use Rattle.tm_run.specs.declared.stop.Stop.{Stop}

@@ -7,8 +7,10 @@ ghost use Rattle.tm_refute.specs.TextForms.{cells_of, most_cells_together};
 ghost use Rattle.tm_refute.specs.declared.refutation.Refutation.{Refutation};
 ghost use Rattle.tm_refute.specs.declared.stop.RefuteErr.TheVariants.{TooLong};
 
+mod solved;
+
+use crate::court::solved::place_for;
 use crate::kinds::is_yes;
-use crate::solved::place_for;
 use std::alloc::Global;
 use std::marker::Model;
 use std::sync::ledger::{Blank, Ledger};

@@ -5,13 +5,17 @@ ghost use Rattle.tm_run.specs.Examined.{AreTokensOf, IsExamined, IsMeaningOf, Is
 ghost use Rattle.tm_run.specs.Faults.{start_of};
 ghost use Rattle.tm_run.specs.Files.{file_bytes};
 ghost use Rattle.tm_run.specs.Places.{at_byte};
-ghost use Rattle.tm_run.specs.declared.options.Options.{Options};
+ghost use Rattle.tm_run.specs.declared.words.options.Options.{Options};
 
-use crate::asking::with_questions;
-use crate::closing::world;
-use crate::options::Options;
-use crate::places::at;
+mod asking;
+mod closing;
+mod places;
+
+use crate::examining::asking::with_questions;
+use crate::examining::closing::world;
+use crate::examining::places::at;
 use crate::stop::Stop;
+use crate::words::options::Options;
 use std::alloc::Global;
 use std::str;
 use tm_base::World;

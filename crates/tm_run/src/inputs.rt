@@ -5,10 +5,10 @@ ghost use Rattle.tm_run.specs.Inputs.{IsTextOf};
 ghost use Rattle.tm_run.specs.Runs.{Decides, DecidesInput, IsInputStop};
 
 use crate::examining::examine;
-use crate::options::Options;
 use crate::reported::reported;
 use crate::status::Status;
 use crate::stop::Stop;
+use crate::words::options::Options;
 use std::alloc::Global;
 use tm_base::{LimitKind, Text};
 use tm_refute::{Refutation, TextErr, read_text};

@@ -8,13 +8,13 @@ ghost use Rattle.tm_run.specs.Inputs.{HasInputFault, IsFaultyInput, OfInput, mos
 ghost use Rattle.tm_run.specs.Outcomes.{IsInputReport, IsRunOn, IsSettled, WritesFault, WritesOutcome, WritesPrefix, WritesReport};
 ghost use Rattle.tm_run.specs.Runs.{Answers, Declines, Did, Finishes};
 ghost use Rattle.tm_run.specs.Words.{asked, is_read};
-ghost use Rattle.tm_run.specs.declared.options.Options.{Options};
+ghost use Rattle.tm_run.specs.declared.words.options.Options.{Options};
 
 use crate::inputs::outcome;
-use crate::options::Options;
 use crate::status::{Status, fault_status};
 use crate::stop::Stop;
 use crate::words::chosen;
+use crate::words::options::Options;
 use std::alloc::Global;
 use tm_base::Memory;
 use tm_gen::generate;

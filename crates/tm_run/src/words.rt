@@ -6,8 +6,11 @@ ghost use Rattle.clap.specs.Walk.{rule_of};
 ghost use Rattle.tm_run.specs.Commands.{command_app, given_in, is_stray, rule_with};
 ghost use Rattle.tm_run.specs.Words.{asked, bytes_given, mode_of, number_given, number_of, one_of, options_given, plain_mode, profile_given, profile_of, question_given, question_number, valued_mode};
 
-use crate::bytes::Bytes;
-use crate::options::{Mode, Options};
+mod bytes;
+pub mod options;
+
+use crate::words::bytes::Bytes;
+use crate::words::options::{Mode, Options};
 use clap::error::ErrorKind;
 use clap::{Arg, ArgAction, ArgMatches, Command};
 use std::alloc::{AllocError, Global};

@@ -3,7 +3,7 @@ use Rattle.tm_lex.specs.declared.token.Token.{Token}
 use Rattle.tm_names.specs.declared.resolved.Resolved.{Resolved}
 use Rattle.tm_parse.specs.declared.parsed.Parsed.{Parsed}
 use Rattle.tm_run.specs.Examined.{IsMeaningOf, IsParsedOf, IsResolvedOf, IsStop}
-use Rattle.tm_run.specs.declared.options.Options.{Options}
+use Rattle.tm_run.specs.declared.words.options.Options.{Options}
 use Rattle.tm_run.specs.declared.stop.Stop.{Stop}
 use Rattle.tm_run.proofs.FaultLemmas.{passed_on}
 use Rattle.tm_run.proofs.TokenLemmas.{meaning}

@@ -1,7 +1,7 @@
 use Rattle.std.proofs.Common.{◌≤◌, All, List, length, subst, sym}
 use Rattle.tm_base.specs.Worlds.{tables_of}
 use Rattle.tm_run.specs.Needs.{HasRefusal, IsNeed}
-use Rattle.tm_run.specs.declared.need.Need.{Need}
+use Rattle.tm_run.specs.declared.reported.need.Need.{Need}
 use Rattle.tm_run.proofs.AnswerLemmas.{zip-few}
 use Rattle.tm_run.proofs.NeedLemmas.{need-refusal}
 use Rattle.tm_run.proofs.VerdictLemmas.{zip-all}

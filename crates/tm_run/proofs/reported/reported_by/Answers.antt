@@ -5,8 +5,8 @@ use Rattle.tm_refute.specs.declared.refutation.Refutation.{Refutation}
 use Rattle.tm_run.specs.Asking.{passes_mode}
 use Rattle.tm_run.specs.Matches.{IsBytesReport}
 use Rattle.tm_run.specs.Reported.{IsReported}
-use Rattle.tm_run.specs.declared.options.Mode.{Mode}
-use Rattle.tm_run.specs.declared.options.Mode.TheVariants.{Bytes, Matrix, Needs, Verify}
+use Rattle.tm_run.specs.declared.words.options.Mode.{Mode}
+use Rattle.tm_run.specs.declared.words.options.Mode.TheVariants.{Bytes, Matrix, Needs, Verify}
 use Rattle.tm_run.proofs.reported.reported_by.Goals as goal
 
 pub returns-in-None-clause-report : goal.returns-in-None-clause-report

@@ -1,8 +1,0 @@
-use Rattle.std.proofs.Common.{◌≡◌, ◌+◌, ◌++◌, drop}
-use Rattle.tm_base.specs.Worlds.{tables_of}
-use Rattle.tm_run.specs.Report.{answer_lines}
-use Rattle.tm_run.proofs.report.add_answer_lines.Given as goal
-
-abbrev pub invariant-loop-place : goal.invariant-loop-place
-invariant-loop-place l =
-    l.text ++ answer_lines (tables_of l.world) (l.place + 1) (drop l.place l.answers) ≡ l.initial.text ++ answer_lines (tables_of l.world) 1 l.answers
