@@ -18,8 +18,8 @@ use Rattle.tm_base.proofs.ValidLemmas.{Valid-grows}
 use Rattle.tm_laws.proofs.RefusedLemmas.{refused-once}
 use Rattle.tm_layout.specs.Named.{IsFirstRefused}
 use Rattle.tm_run.specs.Matches.{AreValueOf, IsMatch, is_valid}
-use Rattle.tm_run.specs.declared.reported.matched.Match.{Match}
-use Rattle.tm_run.specs.declared.reported.matched.Match.TheVariants.{Fits, Refused}
+use Rattle.tm_run.specs.declared.matched.Match.{Match}
+use Rattle.tm_run.specs.declared.matched.Match.TheVariants.{Fits, Refused}
 use Rattle.tm_validate.specs.Against.{AreTo, bytes_of}
 use Rattle.tm_validate.specs.declared.matching.Fits.{Fits as Fitting}
 use Rattle.tm_validate.specs.declared.matching.Fits.TheVariants.{Valid, NoWord, RefusedAt}

@@ -28,7 +28,7 @@ use Rattle.tm_run.specs.Outcomes.{IsReport}
 use Rattle.tm_run.specs.Refutations.{IsPast, IsRefuteReport, IsVerifyReport, PassesCells}
 use Rattle.tm_run.specs.Report.{generated_line, report_by, report_for, report_of, status_of, status_when, summary_of}
 use Rattle.tm_run.specs.Reported.{IsReported}
-use Rattle.tm_run.specs.declared.reported.matched.Match.{Match}
+use Rattle.tm_run.specs.declared.matched.Match.{Match}
 use Rattle.tm_run.specs.declared.reported.need.Need.{Need}
 use Rattle.tm_run.specs.declared.words.options.Mode.{Mode}
 use Rattle.tm_run.specs.declared.words.options.Mode.TheVariants.{Needs, Matrix, Bytes, Refute, Verify}

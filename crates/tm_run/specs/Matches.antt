@@ -14,8 +14,8 @@ use Rattle.tm_layout.specs.Named.{IsFirstRefused}
 use Rattle.tm_report.specs.AnswerLines.{answer_line}
 use Rattle.tm_report.specs.FaultLines.{line_end}
 use Rattle.tm_run.specs.Report.{status_when}
-use Rattle.tm_run.specs.declared.reported.matched.Match.{Match}
-use Rattle.tm_run.specs.declared.reported.matched.Match.TheVariants.{Fits, Refused}
+use Rattle.tm_run.specs.declared.matched.Match.{Match}
+use Rattle.tm_run.specs.declared.matched.Match.TheVariants.{Fits, Refused}
 use Rattle.tm_run.specs.declared.status.Status.{Status}
 use Rattle.tm_validate.specs.Against.{AreTo, bytes_of}
 use Rattle.tm_validate.specs.declared.matching.Fits.{Fits as Fitting}

@@ -5,6 +5,7 @@ mod court;
 mod examining;
 mod inputs;
 mod kinds;
+mod matched;
 mod reported;
 mod running;
 mod status;

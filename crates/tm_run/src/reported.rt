@@ -13,7 +13,6 @@ ghost use Rattle.tm_run.specs.Reported.{IsAnswersReport, IsReported};
 mod judging;
 mod marks;
 mod match_lines;
-mod matched;
 mod matching;
 mod need;
 mod need_lines;

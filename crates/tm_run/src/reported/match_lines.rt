@@ -2,7 +2,7 @@ ghost use Rattle.std.specs.Prelude.{◌≡◌, ◌≤◌, IfOk, length};
 ghost use Rattle.tm_base.specs.Worlds.{tables_of};
 ghost use Rattle.tm_run.specs.Matches.{fits_line, match_line, match_lines};
 
-use crate::reported::matched::Match;
+use crate::matched::Match;
 use std::alloc::Global;
 use tm_base::{Answer, Memory, Side, Text, World};
 use tm_report::line;

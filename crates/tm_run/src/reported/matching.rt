@@ -4,7 +4,7 @@ ghost use Rattle.tm_base.specs.Worlds.{IsTypeOver, tables_of};
 ghost use Rattle.tm_layout.specs.Made.{IsMadeFor};
 ghost use Rattle.tm_run.specs.Matches.{IsMatch, is_valid};
 
-use crate::reported::matched::Match;
+use crate::matched::Match;
 use std::alloc::Global;
 use tm_base::{Ask, Memory, World};
 use tm_layout::{Layouts, first_refused};

@@ -4,7 +4,7 @@ use Rattle.std.proofs.lemmas.List.{take_more}
 use Rattle.tm_base.specs.declared.ask.Ask.{Ask}
 use Rattle.tm_base.specs.Worlds.{tables_of}
 use Rattle.tm_run.specs.Matches.{IsMatch}
-use Rattle.tm_run.specs.declared.reported.matched.Match.{Match}
+use Rattle.tm_run.specs.declared.matched.Match.{Match}
 use Rattle.tm_run.proofs.OverLemmas.{asked-at}
 use Rattle.tm_run.proofs.VerdictLemmas.{zip-push}
 use Rattle.tm_run.proofs.reported.matching.matches.Goals as goal
