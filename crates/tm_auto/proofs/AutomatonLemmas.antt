@@ -6,13 +6,13 @@ use Rattle.tm_base.specs.declared.cell.Cell.{Cell}
 use Rattle.tm_base.specs.declared.cell.Cell.TheVariants.{Byte, Uninit, Ptr}
 use Rattle.tm_base.specs.declared.cell.RefId.{RefId}
 use Rattle.tm_base.specs.Cells.{Word, OrOwn, own}
-use Rattle.tm_base.specs.Transmutes.{holds}
+use Rattle.tm_base.specs.Transmutes.{holds, is_itself}
 use Rattle.tm_auto.specs.declared.edge.Edge.{Edge}
 use Rattle.tm_auto.specs.declared.edge.Label.{Label}
 use Rattle.tm_auto.specs.declared.edge.Label.TheVariants.{Bytes, Free, Leaf}
 use Rattle.tm_auto.specs.declared.edge.Symbol.{Symbol}
-use Rattle.tm_auto.specs.Automata.{Automaton, AutoWord, IsViable, IsInLayer, IsAutomaton, LiesOnWord, IsLayered, ReadsWords, IsStep, BeginsReference, IsOfReferences, reached, equal}
-use Rattle.tm_auto.specs.Joined.{Follows, JoinedAfter, IsJoined, IsNotOwn, HasNoOwn, IsWhole}
+use Rattle.tm_auto.specs.Automata.{Automaton, AutoWord, IsViable, IsInLayer, IsAutomaton, LiesOnWord, IsLayered, ReadsWords, IsStep, BeginsReference, IsOfReferences, reached}
+use Rattle.tm_auto.specs.Joined.{Follows, JoinedAfter, IsJoined, IsNotOwn, HasNoOwn, IsUnbroken}
 use Rattle.tm_auto.specs.Labels.{Takes, CanTake, Begins, Joins}
 use Rattle.tm_auto.specs.Paths.{Among, SpellsTo, IsPath}
 use Rattle.tm_auto.specs.Sets.{next, reached_from, symbol_of}
@@ -54,18 +54,18 @@ takes_no_own A (Leaf t k) c n (x, inl a, e) = (x, a, e)
 takes_no_own A (Leaf t k) c n (x, inr q, e) = let l : x < 2 ^ 32 = subst IsNotOwn e n in absurd (omega arith)
 
 -- under the test of equal references what two labels take that meet may meet
-joins_cell : (l m : Label) (c d : Cell) → Joins l m → Takes (holds equal) l c → Takes (holds equal) m d → Follows c d
+joins_cell : (l m : Label) (c d : Cell) → Joins l m → Takes (holds is_itself) l c → Takes (holds is_itself) m d → Follows c d
 joins_cell l (Bytes low high) c d j h (x, p, q, e) = subst (Follows c) (sym e) tt
 joins_cell l Free c (Byte b) j h k = tt
 joins_cell l Free c Uninit j h k = tt
 joins_cell l Free c (Ptr r i) j h k = absurd k
 joins_cell l (Leaf t zero) c d j h (x, p, e) = subst (Follows c) (sym e) tt
 joins_cell l (Leaf t (suc k)) c d j h (y, q, f) =
-    let (x, p, e) = subst (λ (z : Label). Takes (holds equal) z c) j h in
+    let (x, p, e) = subst (λ (z : Label). Takes (holds is_itself) z c) j h in
     let xy : x ≡ y = same_at x t.0 p ∙ sym (same_at y t.0 q) in
     subst (Follows c) (sym f) (e ∙ ap (λ (z : ℕ). Ptr (record { 0 = z }) k) xy)
 
-begins_cell : (p : Cell) (m : Label) (d : Cell) → Begins m → Takes (holds equal) m d → Follows p d
+begins_cell : (p : Cell) (m : Label) (d : Cell) → Begins m → Takes (holds is_itself) m d → Follows p d
 begins_cell p (Bytes low high) d j (x, q, r, e) = subst (Follows p) (sym e) tt
 begins_cell p Free (Byte b) j k = tt
 begins_cell p Free Uninit j k = tt
@@ -81,7 +81,7 @@ own_test : (A : ℕ → ℕ → Bool) (x t : ℕ) → OrOwn (holds A) x t → ho
 own_test A x t (inl a) = or_left (A x t) (x == own t) a
 own_test A x t (inr e) = or_right (A x t) (x == own t) (eq-eqb x (own t) e)
 
-whole_at : (p : ℕ) (w v : Word) (r : RefId) (k : ℕ) → IsWhole p ((w ++ Ptr r k ∷ []) ++ v) → suc k < p → (u : Word) × (v ≡ Ptr r (suc k) ∷ u)
+whole_at : (p : ℕ) (w v : Word) (r : RefId) (k : ℕ) → IsUnbroken p ((w ++ Ptr r k ∷ []) ++ v) → suc k < p → (u : Word) × (v ≡ Ptr r (suc k) ∷ u)
 whole_at p [] v r k h l = h.0 l
 whole_at p (c ∷ w) v r k h l = whole_at p w v r k h.1 l
 
@@ -293,31 +293,31 @@ module _ (auto : Automaton) (h : IsAutomaton auto) where
 
   -- ---- under the test of equal references
 
-  chained : (w : Word) (p : Cell) (a s : ℕ) → ((f : Edge) (d : Cell) → Among f auto.edges → f.from ≡ a → Takes (holds equal) f.label d → Follows p d) → SpellsTo (holds equal) auto.edges w a s → JoinedAfter p w
+  chained : (w : Word) (p : Cell) (a s : ℕ) → ((f : Edge) (d : Cell) → Among f auto.edges → f.from ≡ a → Takes (holds is_itself) f.label d → Follows p d) → SpellsTo (holds is_itself) auto.edges w a s → JoinedAfter p w
   chained [] p a s g q = tt
   chained (c ∷ w) p a s g (e, m, f, t, r) = (g e c m f t, chained w c e.to s (λ f2 d m2 q2 t2. joins_cell e.label f2.label c d (h.joins e f2 m m2 (sym q2)) t t2) r)
 
-  source_joined : (w : Word) (a s : ℕ) → Among a auto.starts → SpellsTo (holds equal) auto.edges w a s → IsJoined w
+  source_joined : (w : Word) (a s : ℕ) → Among a auto.starts → SpellsTo (holds is_itself) auto.edges w a s → IsJoined w
   source_joined w a s m q = chained w Uninit a s (λ f d fm ff t. begins_cell Uninit f.label d (h.begins f fm (subst (λ (z : ℕ). Among z auto.starts) (sym ff) m)) t) q
 
-  reached_joined : (w : Word) → reached equal auto w ≢ [] → IsJoined w
+  reached_joined : (w : Word) → reached is_itself auto w ≢ [] → IsJoined w
   reached_joined w ne =
-      let (s, m) = some_among (reached equal auto w) ne in
-      let (a, am, l) = reached_to equal auto.edges auto.starts w s m in
+      let (s, m) = some_among (reached is_itself auto w) ne in
+      let (a, am, l) = reached_to is_itself auto.edges auto.starts w s m in
       source_joined w a s am l
 
-  source_list : (w : Word) → (reached equal auto w ≢ []) ↔ ((v : Word) × AutoWord (holds equal) auto (w ++ v))
+  source_list : (w : Word) → (reached is_itself auto w ≢ []) ↔ ((v : Word) × AutoWord (holds is_itself) auto (w ++ v))
   source_list w = (
     λ ne. (
-        let (s, m) = some_among (reached equal auto w) ne in
-        let (a, am, l) = reached_to equal auto.edges auto.starts w s m in
-        let full : (t : ℕ) → (x : ℕ) × holds equal x t = λ t. (t, eq-eqb t t refl) in
-        let (v, k, jv) = goes_on (holds equal) full w a s am (source_joined w a s am l) l in
-        (v, word_of (holds equal) full w v a s am l k jv)),
+        let (s, m) = some_among (reached is_itself auto w) ne in
+        let (a, am, l) = reached_to is_itself auto.edges auto.starts w s m in
+        let full : (t : ℕ) → (x : ℕ) × holds is_itself x t = λ t. (t, eq-eqb t t refl) in
+        let (v, k, jv) = goes_on (holds is_itself) full w a s am (source_joined w a s am l) l in
+        (v, word_of (holds is_itself) full w v a s am l k jv)),
     λ (v, word) q. (
         let r = word.reaches in
-        let (s, l, k) = leads_parts (holds equal) auto.edges w v r.state 0 r.spells in
-        let m = to_reached equal auto.edges auto.starts w r.state s r.among l in
+        let (s, l, k) = leads_parts (holds is_itself) auto.edges w v r.state 0 r.spells in
+        let m = to_reached is_itself auto.edges auto.starts w r.state s r.among l in
         none_among (subst (λ (z : List ℕ). Among s z) q m)),
   )
 

@@ -7,12 +7,13 @@ use Rattle.tm_base.specs.declared.cell.Cell.{Cell}
 use Rattle.tm_base.specs.declared.cell.Cell.TheVariants as cell
 use Rattle.tm_base.specs.declared.cell.RefId.{RefId}
 use Rattle.tm_base.specs.Orders.{cell_less}
+use Rattle.tm_base.specs.Transmutes.{is_itself}
 use Rattle.tm_auto.specs.declared.edge.Edge.{Edge}
 use Rattle.tm_auto.specs.declared.edge.Label.{Label}
 use Rattle.tm_auto.specs.declared.edge.Label.TheVariants as label
 use Rattle.tm_auto.specs.declared.edge.Symbol.{Symbol}
 use Rattle.tm_auto.specs.declared.edge.Symbol.TheVariants as symbol
-use Rattle.tm_auto.specs.Automata.{edges_from, equal}
+use Rattle.tm_auto.specs.Automata.{edges_from}
 use Rattle.tm_auto.specs.Classes.{HasCell, AreInOrder, IsUncut, AreUncut, passes_some, IsRange, AreRanges, labels_in, labels_from, places_of}
 use Rattle.tm_auto.specs.Paths.{Among, here, there}
 use Rattle.tm_auto.specs.Sets.{passes}
@@ -71,10 +72,10 @@ some_same : (ls : List Label) (a b : ℕ) → AreUncut ls a (b + 1) → a ≤ b 
 some_same [] a b h le byte = refl
 some_same (l ∷ ls) a b h le byte =
     let u = h l here in
-    let first = passes_range equal l a b b u le (omega arith) byte in
-    let second = passes_range equal l a b a u (omega arith) le byte in
-    let one : passes equal l (symbol.Bytes a a) ≡ passes equal l (symbol.Bytes b b) = sym second ∙ first in
-    ap (λ (z : Bool). z || passes_some ls (symbol.Bytes a a)) one ∙ ap (λ (z : Bool). passes equal l (symbol.Bytes b b) || z) (some_same ls a b (λ m am. h m (there am)) le byte)
+    let first = passes_range is_itself l a b b u le (omega arith) byte in
+    let second = passes_range is_itself l a b a u (omega arith) le byte in
+    let one : passes is_itself l (symbol.Bytes a a) ≡ passes is_itself l (symbol.Bytes b b) = sym second ∙ first in
+    ap (λ (z : Bool). z || passes_some ls (symbol.Bytes a a)) one ∙ ap (λ (z : Bool). passes is_itself l (symbol.Bytes b b) || z) (some_same ls a b (λ m am. h m (there am)) le byte)
 
 -- ---- in order
 
@@ -155,20 +156,20 @@ both_or : (a b : Bool) → (a || b) ≡ true → (a ≡ true) ⊎ (b ≡ true)
 both_or true b e = inl refl
 both_or false b e = inr e
 
-pub some_to : (ls : List Label) (x : Symbol) → passes_some ls x ≡ true → (l : Label) × Among l ls × (passes equal l x ≡ true)
+pub some_to : (ls : List Label) (x : Symbol) → passes_some ls x ≡ true → (l : Label) × Among l ls × (passes is_itself l x ≡ true)
 some_to [] x e = cc
-some_to (l ∷ ls) x e = elim (both_or (passes equal l x) (passes_some ls x) e) [
+some_to (l ∷ ls) x e = elim (both_or (passes is_itself l x) (passes_some ls x) e) [
   | inl p ↦ (l, here, p)
   | inr p ↦ (let (m, a, q) = some_to ls x p in (m, there a, q))
 ]
 
-pub to_some : (ls : List Label) (x : Symbol) (l : Label) → Among l ls → passes equal l x ≡ true → passes_some ls x ≡ true
+pub to_some : (ls : List Label) (x : Symbol) (l : Label) → Among l ls → passes is_itself l x ≡ true → passes_some ls x ≡ true
 to_some [] x l a p = absurd (none_among a)
-to_some (m ∷ ls) x l here p = or_left (passes equal l x) (passes_some ls x) p
-to_some (m ∷ ls) x l (there a) p = or_right (passes equal m x) (passes_some ls x) (to_some ls x l a p)
+to_some (m ∷ ls) x l here p = or_left (passes is_itself l x) (passes_some ls x) p
+to_some (m ∷ ls) x l (there a) p = or_right (passes is_itself m x) (passes_some ls x) (to_some ls x l a p)
 
 -- under the test of equal references a label passes a reference's byte where it is that byte's own
-pub passes_own : (l : Label) (r : RefId) (k : ℕ) → passes equal l (symbol.Ptr r k) ≡ true → l ≡ label.Leaf r k
+pub passes_own : (l : Label) (r : RefId) (k : ℕ) → passes is_itself l (symbol.Ptr r k) ≡ true → l ≡ label.Leaf r k
 passes_own (label.Bytes low high) r k e = cc
 passes_own label.Free r k e = cc
 passes_own (label.Leaf t j) r k e =

@@ -5,13 +5,13 @@ use Rattle.tm_base.specs.declared.cell.Cell.{Cell}
 use Rattle.tm_base.specs.declared.cell.Cell.TheVariants as cell
 use Rattle.tm_base.specs.declared.cell.RefId.{RefId}
 use Rattle.tm_base.specs.Orders.{cell_less}
-use Rattle.tm_base.specs.Transmutes.{holds}
+use Rattle.tm_base.specs.Transmutes.{holds, is_itself}
 use Rattle.tm_auto.specs.declared.edge.Edge.{Edge}
 use Rattle.tm_auto.specs.declared.edge.Label.{Label}
 use Rattle.tm_auto.specs.declared.edge.Label.TheVariants as label
 use Rattle.tm_auto.specs.declared.edge.Symbol.{Symbol}
 use Rattle.tm_auto.specs.declared.edge.Symbol.TheVariants as symbol
-use Rattle.tm_auto.specs.Automata.{Automaton, IsAutomaton, edges_from, equal}
+use Rattle.tm_auto.specs.Automata.{Automaton, IsAutomaton, edges_from}
 use Rattle.tm_auto.specs.Classes.{HasCell, AreInOrder, TakesFrom, AreClasses, IsUncut, passes_some, labels_in, labels_from, AreRanges, uninit_of, places_of, references_of, with_ids}
 use Rattle.tm_auto.specs.Labels.{Takes, CanTake}
 use Rattle.tm_auto.specs.Paths.{Among, here, there}
@@ -162,18 +162,18 @@ module _ (src : Automaton) (from : List ℕ) (dst : Automaton) (to : List ℕ) (
   all = (xs ++ uninit_of ls) ++ refs
 
   takes_some : (c : Cell) → TakesFrom src from c → passes_some ls (symbol_of c) ≡ true
-  takes_some c (e, (m, f), t) = to_some ls (symbol_of c) e.label (from_label src.edges e from m f) ((passes_takes equal e.label c).1 t)
+  takes_some c (e, (m, f), t) = to_some ls (symbol_of c) e.label (from_label src.edges e from m f) ((passes_takes is_itself e.label c).1 t)
 
   some_takes : (c : Cell) → passes_some ls (symbol_of c) ≡ true → TakesFrom src from c
   some_takes c p =
       let (l, a, q) = some_to ls (symbol_of c) p in
       let (e, leaves, el) = label_from src.edges from l a in
-      (e, leaves, subst (λ (z : Label). Takes (holds equal) z c) (sym el) ((passes_takes equal l c).0 q))
+      (e, leaves, subst (λ (z : Label). Takes (holds is_itself) z c) (sym el) ((passes_takes is_itself l c).0 q))
 
   can : (l : Label) → Among l ls → CanTake src.pointer l
   can l a = let (e, (m, f), q) = label_from src.edges from l a in subst (λ (z : Label). CanTake src.pointer z) q (h.takes e m)
 
-  byte_below : (l : Label) (b : ℕ) → CanTake src.pointer l → passes equal l (symbol.Bytes b b) ≡ true → b < 256
+  byte_below : (l : Label) (b : ℕ) → CanTake src.pointer l → passes is_itself l (symbol.Bytes b b) ≡ true → b < 256
   byte_below (label.Bytes low high) b c p = let (lo, hi) = both_true (nat_le low b) (nat_le b high) p in let x = le_test b high hi in let y = c.1 in omega arith
   byte_below label.Free b c p = lt_test b 256 p
   byte_below (label.Leaf t k) b c p = cc

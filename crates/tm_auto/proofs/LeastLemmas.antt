@@ -4,14 +4,14 @@ use Rattle.std.proofs.lemmas.Bool.{eqb-true}
 use Rattle.tm_base.specs.declared.cell.Cell.{Cell}
 use Rattle.tm_base.specs.declared.cell.Cell.TheVariants as cell
 use Rattle.tm_base.specs.Orders.{cell_less}
-use Rattle.tm_base.specs.Transmutes.{holds}
+use Rattle.tm_base.specs.Transmutes.{holds, is_itself}
 use Rattle.tm_base.proofs.OrderLemmas.{cell_less-asym}
 use Rattle.tm_auto.specs.declared.edge.Edge.{Edge}
 use Rattle.tm_auto.specs.declared.edge.Label.{Label}
 use Rattle.tm_auto.specs.declared.edge.Label.TheVariants as label
 use Rattle.tm_auto.specs.declared.edge.Symbol.{Symbol}
 use Rattle.tm_auto.specs.declared.edge.Symbol.TheVariants as symbol
-use Rattle.tm_auto.specs.Automata.{Automaton, IsAutomaton, AreStates, IsStep, equal}
+use Rattle.tm_auto.specs.Automata.{Automaton, IsAutomaton, AreStates, IsStep}
 use Rattle.tm_auto.specs.Classes.{HasCell, IsFormed, TakesFrom, AreClasses}
 use Rattle.tm_auto.specs.Labels.{Takes, CanTake}
 use Rattle.tm_auto.specs.Least.{first_cell, least_of, IsLeastCell}
@@ -60,12 +60,12 @@ first_class src dst from to (x ∷ xs) d a l = record {
 
 -- ---- of one edge
 
-least_taken : (pointer : ℕ) (l : Label) → CanTake pointer l → Takes (holds equal) l (least_of l)
+least_taken : (pointer : ℕ) (l : Label) → CanTake pointer l → Takes (holds is_itself) l (least_of l)
 least_taken pointer (label.Bytes low high) k = (low, omega arith, k.0, refl)
 least_taken pointer label.Free k = (omega arith)
 least_taken pointer (label.Leaf t j) k = (t.0, eq-eqb t.0 t.0 refl, refl)
 
-taken_least : (l : Label) (c : Cell) → Takes (holds equal) l c → cell_less c (least_of l) ≡ false
+taken_least : (l : Label) (c : Cell) → Takes (holds is_itself) l c → cell_less c (least_of l) ≡ false
 taken_least (label.Bytes low high) c (b, lo, hi, e) = subst (λ (z : Cell). cell_less z (cell.Byte low) ≡ false) (sym e) (not_below b low lo)
 taken_least label.Free (cell.Byte b) k = not_below b 0 (omega arith)
 taken_least label.Free cell.Uninit k = refl
@@ -77,7 +77,7 @@ taken_least (label.Leaf t j) c (x, same, e) =
 pub only_least : (auto : Automaton) (from : List ℕ) (e : Edge) → IsAutomaton auto → IsOnlyEdge auto from e → IsLeastCell auto from (least_of e.label)
 only_least auto from e hs one = record {
   taken = (e, (one e).1 refl, least_taken auto.pointer e.label (hs.takes e ((one e).1 refl).0));
-  least = λ c (f, leaves, t). taken_least e.label c (subst (λ (z : Edge). Takes (holds equal) z.label c) ((one f).0 leaves) t);
+  least = λ c (f, leaves, t). taken_least e.label c (subst (λ (z : Edge). Takes (holds is_itself) z.label c) ((one f).0 leaves) t);
 }
 
 -- a step leads to states

@@ -3,13 +3,13 @@ use Rattle.std.proofs.Common.{rules, ◌≡◌, ℕ, ◌+◌, ◌<◌, ◌≤◌
 use Rattle.tm_base.specs.declared.cell.Cell.{Cell}
 use Rattle.tm_base.specs.declared.cell.Cell.TheVariants as cell
 use Rattle.tm_base.specs.declared.cell.RefId.{RefId}
-use Rattle.tm_base.specs.Transmutes.{holds}
+use Rattle.tm_base.specs.Transmutes.{holds, is_itself}
 use Rattle.tm_auto.specs.declared.edge.Edge.{Edge}
 use Rattle.tm_auto.specs.declared.edge.Label.{Label}
 use Rattle.tm_auto.specs.declared.edge.Label.TheVariants as label
 use Rattle.tm_auto.specs.declared.edge.Symbol.{Symbol}
 use Rattle.tm_auto.specs.declared.edge.Symbol.TheVariants as symbol
-use Rattle.tm_auto.specs.Automata.{Automaton, IsStep, edges_from, equal}
+use Rattle.tm_auto.specs.Automata.{Automaton, IsStep, edges_from}
 use Rattle.tm_auto.specs.Classes.{HasCell, IsFormed, LeavesSet, AreClasses, IsUncut}
 use Rattle.tm_auto.specs.Labels.{Takes}
 use Rattle.tm_auto.specs.OnlyEdges.{IsOnlyEdge, IsOnlyClass, ends_of}
@@ -38,7 +38,7 @@ edge_is auto s edge is e = (
 pub class_of_bytes : (low high : ℕ) (target : Label) → low ≤ high → high < 256 → IsUncut target low (high + 1) → IsOnlyClass (label.Bytes low high) target (symbol.Bytes low high)
 class_of_bytes low high target l b uncut = record { formed = (l, b); takes = takes; alike = alike }
   where
-    takes : (c : Cell) → Takes (holds equal) (label.Bytes low high) c ↔ HasCell (symbol.Bytes low high) c
+    takes : (c : Cell) → Takes (holds is_itself) (label.Bytes low high) c ↔ HasCell (symbol.Bytes low high) c
     takes (cell.Byte n) = (λ (y, lo, hi, e). let z = ap byte_at e in (omega arith, omega arith), λ (lo, hi). (n, lo, hi, refl))
     takes cell.Uninit = (λ (y, lo, hi, e). cc, λ h. absurd h)
     takes (cell.Ptr r k) = (λ (y, lo, hi, e). cc, λ h. absurd h)
@@ -59,10 +59,10 @@ class_of_leaf r k target = record {
   alike = λ A c m h e. subst (λ (z : Cell). passes A m (symbol.Ptr r k) ≡ passes A m (symbol_of z)) (sym h) refl;
 }
   where
-    takes : (c : Cell) → Takes (holds equal) (label.Leaf r k) c → c ≡ cell.Ptr r k
+    takes : (c : Cell) → Takes (holds is_itself) (label.Leaf r k) c → c ≡ cell.Ptr r k
     takes (cell.Byte n) (y, p, e) = cc
     takes cell.Uninit (y, p, e) = cc
-    takes (cell.Ptr s j) t = let q = passes_own (label.Leaf r k) s j ((passes_takes equal (label.Leaf r k) (cell.Ptr s j)).1 t) in cc
+    takes (cell.Ptr s j) t = let q = passes_own (label.Leaf r k) s j ((passes_takes is_itself (label.Leaf r k) (cell.Ptr s j)).1 t) in cc
 
 module _ (src : Automaton) (from : List ℕ) (dst : Automaton) (to : List ℕ) (e f : Edge) (x : Symbol) (one : IsOnlyEdge src from e) (two : IsOnlyEdge dst to f) (k : IsOnlyClass e.label f.label x) where
   pub only_classes : AreClasses src from dst to (x ∷ [])
@@ -70,7 +70,7 @@ module _ (src : Automaton) (from : List ℕ) (dst : Automaton) (to : List ℕ) (
     formed = λ y m. subst IsFormed (sym (only y x m)) k.formed;
     ordered = (λ y c d m. absurd (none_among m), tt);
     covers = λ c. (
-      λ (g, leaves, t). (x, here, (k.takes c).0 (subst (λ (z : Edge). Takes (holds equal) z.label c) ((one g).0 leaves) t)),
+      λ (g, leaves, t). (x, here, (k.takes c).0 (subst (λ (z : Edge). Takes (holds is_itself) z.label c) ((one g).0 leaves) t)),
       λ (y, m, h). (e, (one e).1 refl, (k.takes c).1 (subst (λ (z : Symbol). HasCell z c) (only y x m) h)),
     );
     alike = λ A y c g m h leaves.

@@ -5,11 +5,11 @@ use Rattle.tm_base.specs.declared.cell.Cell.{Cell}
 use Rattle.tm_base.specs.declared.cell.Cell.TheVariants.{Ptr}
 use Rattle.tm_base.specs.declared.cell.RefId.{RefId}
 use Rattle.tm_base.specs.Cells.{Word, own, OrOwn}
-use Rattle.tm_base.specs.Transmutes.{holds}
+use Rattle.tm_base.specs.Transmutes.{holds, is_itself}
 use Rattle.tm_auto.specs.declared.edge.Edge.{Edge}
 use Rattle.tm_auto.specs.declared.edge.Label.TheVariants.{Leaf}
 use Rattle.tm_auto.specs.declared.edge.Symbol.{Symbol}
-use Rattle.tm_auto.specs.Joined.{IsJoined, IsWhole, HasNoOwn}
+use Rattle.tm_auto.specs.Joined.{IsJoined, IsUnbroken, HasNoOwn}
 use Rattle.tm_auto.specs.Labels.{CanTake, Begins, Joins}
 use Rattle.tm_auto.specs.Paths.{Among, SpellsTo, Spells, SomeSpells, IsPath}
 use Rattle.tm_auto.specs.Sets.{passes, reached_from, symbol_of}
@@ -72,7 +72,7 @@ pub record IsAutomaton (auto : Automaton) : Type 0 where
   pub one : (s t : ℕ) → Among s auto.starts → Among t auto.starts → s ≡ t
   pub below : (s : ℕ) → Among s auto.starts → s < auto.states
   pub sized : (A : ℕ → ℕ → Bool) (w : Word) → AutoWord (holds A) auto w → length w ≡ auto.size
-  pub whole : (A : ℕ → ℕ → Bool) (w : Word) → AutoWord (holds A) auto w → IsWhole auto.pointer w
+  pub whole : (A : ℕ → ℕ → Bool) (w : Word) → AutoWord (holds A) auto w → IsUnbroken auto.pointer w
 
 -- a word goes through the state
 pub record LiesOnWord (A : ℕ → ℕ → Type 0) (auto : Automaton) (s : ℕ) : Type 0 where
@@ -98,10 +98,6 @@ AreStates auto states = (s : ℕ) → Among s states → s < auto.states
 -- states that so many edges lead to from a start
 abbrev pub AreInLayer : Automaton → ℕ → List ℕ → Type 0
 AreInLayer auto k states = (s : ℕ) → Among s states → IsInLayer auto k s
-
--- the test of equal references
-abbrev pub equal : ℕ → ℕ → Bool
-equal x t = x == t
 
 -- an edge that leaves one of the states leads to this one and passes the symbol
 abbrev pub StepsTo : (ℕ → ℕ → Bool) → Automaton → List ℕ → Symbol → ℕ → Type 0
@@ -133,7 +129,7 @@ pub record ReadsWords (auto : Automaton) : Type 0 where
   pub viable : (A : ℕ → ℕ → Bool) (w : Word) → IsJoined w → HasNoOwn w → (reached A auto w ≢ []) ↔ IsViable (holds A) auto w
   pub opens : (A : ℕ → ℕ → Bool) (w : Word) (t : RefId) → IsOfReferences A → IsJoined w → HasNoOwn w
       → BeginsReference auto (reached A auto w) t ↔ IsViable (holds A) auto (w ++ Ptr (record { 0 = own t.0 }) 0 ∷ [])
-  pub source : (w : Word) → (reached equal auto w ≢ []) ↔ ((v : Word) × AutoWord (holds equal) auto (w ++ v))
-  pub joined : (w : Word) → reached equal auto w ≢ [] → IsJoined w
+  pub source : (w : Word) → (reached is_itself auto w ≢ []) ↔ ((v : Word) × AutoWord (holds is_itself) auto (w ++ v))
+  pub joined : (w : Word) → reached is_itself auto w ≢ [] → IsJoined w
   pub onward : (A : ℕ → ℕ → Bool) (w : Word) (r : RefId) (k : ℕ) → suc k < auto.pointer → IsJoined (w ++ Ptr r k ∷ []) → HasNoOwn (w ++ Ptr r k ∷ [])
       → reached A auto (w ++ Ptr r k ∷ []) ≢ [] → reached A auto ((w ++ Ptr r k ∷ []) ++ Ptr r (suc k) ∷ []) ≢ []

@@ -3,13 +3,13 @@ use Rattle.std.specs.Prelude.{◌≡◌, ℕ, zero, suc, Bool, true, false, if�
 use Rattle.tm_base.specs.declared.cell.Cell.{Cell}
 use Rattle.tm_base.specs.declared.cell.Cell.TheVariants as cell
 use Rattle.tm_base.specs.Orders.{cell_less}
-use Rattle.tm_base.specs.Transmutes.{holds}
+use Rattle.tm_base.specs.Transmutes.{holds, is_itself}
 use Rattle.tm_auto.specs.declared.edge.Edge.{Edge}
 use Rattle.tm_auto.specs.declared.edge.Label.{Label}
 use Rattle.tm_auto.specs.declared.edge.Label.TheVariants as label
 use Rattle.tm_auto.specs.declared.edge.Symbol.{Symbol}
 use Rattle.tm_auto.specs.declared.edge.Symbol.TheVariants as symbol
-use Rattle.tm_auto.specs.Automata.{Automaton, edges_from, equal}
+use Rattle.tm_auto.specs.Automata.{Automaton, edges_from}
 use Rattle.tm_auto.specs.Labels.{Takes}
 use Rattle.tm_auto.specs.Paths.{Among}
 use Rattle.tm_auto.specs.Sets.{passes, symbol_of, with_state}
@@ -39,7 +39,7 @@ LeavesSet auto states e = Among e auto.edges × Among e.from states
 
 -- an edge from one of the states takes the cell, where each reference holds itself alone
 abbrev pub TakesFrom : Automaton → List ℕ → Cell → Type 0
-TakesFrom auto states c = (e : Edge) × LeavesSet auto states e × Takes (holds equal) e.label c
+TakesFrom auto states c = (e : Edge) × LeavesSet auto states e × Takes (holds is_itself) e.label c
 
 -- The symbols are in the order of cells, cover each cell that the source's states can take exactly once,
 -- and pass an edge, of either automaton and under every test of references, just as each of their cells.
@@ -61,7 +61,7 @@ AreUncut labels a e = (l : Label) → Among l labels → IsUncut l a e
 -- one of the labels passes the symbol, where each reference holds itself alone
 abbrev pub passes_some : List Label → Symbol → Bool
 passes_some [] x = false
-passes_some (l ∷ ls) x = passes equal l x || passes_some ls x
+passes_some (l ∷ ls) x = passes is_itself l x || passes_some ls x
 
 -- the labels of some edges, and of those that leave some states
 abbrev pub labels_in : List Edge → List Label

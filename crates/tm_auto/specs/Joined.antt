@@ -39,6 +39,6 @@ module _ (pointer : ℕ) where
   GoesOn (Ptr r k) w = suc k < pointer → (v : Word) × (w ≡ Ptr r (suc k) ∷ v)
 
   -- each byte of a reference but the last is directly followed by the next
-  abbrev pub IsWhole : Word → Type 0
-  IsWhole [] = Unit {0}
-  IsWhole (c ∷ w) = GoesOn c w × IsWhole w
+  abbrev pub IsUnbroken : Word → Type 0
+  IsUnbroken [] = Unit {0}
+  IsUnbroken (c ∷ w) = GoesOn c w × IsUnbroken w

@@ -1,7 +1,8 @@
 //! The least step from a set of states: by such steps a word is completed.
 ghost use Rattle.std.specs.Prelude.{◌≡◌, IfOk};
 ghost use Rattle.tm_base.specs.declared.cell.Cell.{Cell};
-ghost use Rattle.tm_auto.specs.Automata.{AreStates, IsStep, equal};
+ghost use Rattle.tm_base.specs.Transmutes.{is_itself};
+ghost use Rattle.tm_auto.specs.Automata.{AreStates, IsStep};
 ghost use Rattle.tm_auto.specs.Classes.{TakesFrom};
 ghost use Rattle.tm_auto.specs.Least.{IsLeastCell};
 ghost use Rattle.tm_auto.specs.Sets.{symbol_of};
@@ -30,7 +31,7 @@ pub fn least_step(alloc: Global, auto: &Auto, from: &StateSet) -> Result<LeastSt
     requires some { ((c : Cell) × TakesFrom auto.now from.now c) }
     ensures cell { IfOk result (λ step. IsLeastCell auto.now from.now step.cell) }
     ensures set { IfOk result (λ step.
-        IsStep equal auto.now from.now (symbol_of step.cell) step.set) }
+        IsStep is_itself auto.now from.now (symbol_of step.cell) step.set) }
     ensures states { IfOk result (λ step. AreStates auto.now step.set) }
 {
     auto.law();

@@ -1,6 +1,7 @@
 //! Pairs of sets that one edge leaves each, and that are walked by one symbol: most pairs are.
 ghost use Rattle.std.specs.Prelude.{◌≡◌, ◌∷◌, [], IfSome};
-ghost use Rattle.tm_auto.specs.Automata.{AreStates, IsStep, equal};
+ghost use Rattle.tm_base.specs.Transmutes.{is_itself};
+ghost use Rattle.tm_auto.specs.Automata.{AreStates, IsStep};
 ghost use Rattle.tm_auto.specs.Classes.{AreClasses};
 ghost use Rattle.tm_auto.specs.OnlyEdges.{IsOnlyEdge, IsOnlyClass, ends_of};
 
@@ -33,7 +34,7 @@ pub fn only_step<M: RefTest>(
     requires to { AreStates dst.now to.now }
     ensures classes { IfSome result (λ step.
         AreClasses src.now from.now dst.now to.now (step.symbol ∷ [])) }
-    ensures source { IfSome result (λ step. IsStep equal src.now from.now step.symbol step.src) }
+    ensures source { IfSome result (λ step. IsStep is_itself src.now from.now step.symbol step.src) }
     ensures target { IfSome result (λ step.
         IsStep (M.test refs.now) dst.now to.now step.symbol step.dst) }
 {

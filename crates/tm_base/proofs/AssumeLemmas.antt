@@ -14,8 +14,8 @@ use Rattle.tm_base.proofs.CompatibleLemmas.{OnRows-grows}
 use Rattle.tm_base.proofs.ValidLemmas.{Valid-grows}
 
 -- the type has no value, or one is known
-abbrev pub IsSettled : Expanded → Type 0
-IsSettled s = IsUninhabited s ⊎ ((w : Word) × IsSourceWord s w)
+abbrev pub IsValueKnown : Expanded → Type 0
+IsValueKnown s = IsUninhabited s ⊎ ((w : Word) × IsSourceWord s w)
 
 module _ (A B : ℕ → ℕ → Type 0) (over : (x t : ℕ) → A x t → B x t) (more less : Assume) (includes : Includes more less) (s t : Expanded) where
   every_grows : EveryWordFits A less.safety s t → EveryWordFits B more.safety s t
@@ -24,17 +24,17 @@ module _ (A B : ℕ → ℕ → Type 0) (over : (x t : ℕ) → A x t → B x t)
   some_grows : SomeWordFits A less.safety s t → SomeWordFits B more.safety s t
   some_grows (w, value, fits) = (w, value, Valid-grows A B less.safety more.safety over includes.safety t _ fits)
 
-  from_every : (validity : Bool) → more.validity ≡ validity → IsSettled s → EveryWordFits A less.safety s t → Transmutes B more s t
+  from_every : (validity : Bool) → more.validity ≡ validity → IsValueKnown s → EveryWordFits A less.safety s t → Transmutes B more s t
   from_every false e settled every = inr (inl (e, every_grows every))
   from_every true e (inl none) every = inl none
   from_every true e (inr (w, value)) every = inr (inr (e, (w, value, every_grows every w value)))
 
-  pub Transmutes-assumes : IsSettled s → Transmutes A less s t → Transmutes B more s t
+  pub Transmutes-assumes : IsValueKnown s → Transmutes A less s t → Transmutes B more s t
   Transmutes-assumes settled (inl none) = inl none
   Transmutes-assumes settled (inr (inl (e, every))) = from_every more.validity refl settled every
   Transmutes-assumes settled (inr (inr (e, some))) = inr (inr (includes.validity e, some_grows some))
 
-module _ (tables : Tables) (more less : Assume) (includes : Includes more less) (settled : (g : Ground) → IsSettled (expanded_in tables g)) where
+module _ (tables : Tables) (more less : Assume) (includes : Includes more less) (settled : (g : Ground) → IsValueKnown (expanded_in tables g)) where
   KeepsAll-assumes : (r t : RefRow) → KeepsAll tables less r t → KeepsAll tables more r t
   KeepsAll-assumes r t h = record {
     more_unique = h.more_unique;

@@ -1,7 +1,7 @@
 -- When a value of one type may be taken as a value of another: the documentation of
 -- `core::mem::TransmuteFrom` and `core::mem::Assume`. That a source without values may be taken as
 -- anything is this project's.
-use Rattle.std.specs.Prelude.{◌≡◌, ℕ, ◌⊎◌, Bool, true, false, IsTrue}
+use Rattle.std.specs.Prelude.{◌≡◌, ℕ, ◌⊎◌, ◌==◌, Bool, true, false, IsTrue}
 use Rattle.tm_base.specs.declared.assume.Assume.{Assume}
 use Rattle.tm_base.specs.Cells.{Word, fit}
 use Rattle.tm_base.specs.Expanded.{Expanded}
@@ -11,6 +11,10 @@ use Rattle.tm_base.specs.Valid.{Valid}
 -- each reference holds a value of itself alone
 abbrev pub Same : ℕ → ℕ → Type 0
 Same x t = x ≡ t
+
+-- the test of that
+abbrev pub is_itself : ℕ → ℕ → Bool
+is_itself x t = x == t
 
 -- a value of the source: its references are its own, and its private types are met
 abbrev pub IsSourceWord : Expanded → Word → Type 0

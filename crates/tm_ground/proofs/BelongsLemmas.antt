@@ -19,7 +19,7 @@ use Rattle.tm_names.specs.InForm.{IsInForm}
 use Rattle.tm_ground.specs.Belongs.{AreInByteOrder, BelongsToFile, IsNamedRowOf, IsQuestionOf, IsRefRowOf, ListsAll, StandsFor, named_texts, ref_texts}
 use Rattle.tm_ground.specs.Closed.{Closed, listed}
 use Rattle.tm_ground.specs.ClosedTexts.{closed_text, AreInOrder}
-use Rattle.tm_ground.specs.Closing.{AreWhole}
+use Rattle.tm_ground.specs.Closing.{AreFound}
 use Rattle.tm_ground.specs.Limits.{is_named, is_ref, OccursAs}
 use Rattle.tm_ground.specs.Numbered.{IsNumbered}
 use Rattle.tm_ground.specs.Occurs.{field_types}
@@ -55,7 +55,7 @@ pub places-texts : (f : ℕ → List ℕ) (g : Closed → List ℕ) (cs : List C
 places-texts f g cs n count at =
     ap (λ m. map f (range_with_len 0 m)) count ∙ by-places f g 0 cs (λ k c e. let same : 0 + k ≡ k = omega arith in ap f same ∙ at k c e)
 
-module _ (resolved : Resolved) (form : IsInForm resolved) (types refs : List Closed) (whole : AreWhole resolved types refs) (world : World) (w : IsWorldOf resolved types refs world) where
+module _ (resolved : Resolved) (form : IsInForm resolved) (types refs : List Closed) (whole : AreFound resolved types refs) (world : World) (w : IsWorldOf resolved types refs world) where
   numbers-stand : (c : Closed) (g : Ground) → IsNumbered types refs c g → StandsFor world.named world.refs c g
   numbers-stand = stands resolved types refs world.named world.refs w.named w.ref_rows
 

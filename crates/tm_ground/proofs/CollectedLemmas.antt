@@ -5,7 +5,7 @@ use Rattle.std.proofs.lemmas.List.Elements.{Contains-get_or}
 use Rattle.tm_names.specs.declared.resolved.Resolved.{Resolved}
 use Rattle.tm_ground.specs.declared.collector.Collector.{Collector}
 use Rattle.tm_ground.specs.Closed.{Closed}
-use Rattle.tm_ground.specs.Closing.{IsWhole, AreWhole}
+use Rattle.tm_ground.specs.Closing.{ListsAllWithin, AreFound}
 use Rattle.tm_ground.specs.Collecting.{AreSome, IsClosed}
 use Rattle.tm_ground.specs.Limits.{is_named, is_ref, is_small_named, OccursAs, PassesNodes, PassesRefs, PassesTypes, type_limit, ref_limit}
 use Rattle.tm_ground.specs.Occurs.{Occurs, is_small}
@@ -14,7 +14,7 @@ use Rattle.tm_ground.proofs.FindingLemmas.{not-both}
 use Rattle.tm_ground.proofs.OccursLemmas.{kept-itself}
 use Rattle.tm_ground.proofs.PigeonLemmas.{whole-fits}
 
-whole : (limit : ℕ) (P Q : Closed → Type 0) (found : List Closed) → AreSome limit P found → ((c : Closed) → P c → Q c) → ((c : Closed) → Q c → Contains found c) → IsWhole limit Q found
+whole : (limit : ℕ) (P Q : Closed → Type 0) (found : List Closed) → AreSome limit P found → ((c : Closed) → P c → Q c) → ((c : Closed) → Q c → Contains found c) → ListsAllWithin limit Q found
 whole limit P Q found s each complete = record {
   all = record {
     distinct = s.distinct;
@@ -44,7 +44,7 @@ module _ (resolved : Resolved) (s : Collector) (closed : IsClosed resolved s) wh
     pub few-nodes : ¬ PassesNodes resolved
     few-nodes = λ p. not-both (each-small p.greatest p.occurs) p.passes
 
-    pub are-whole : s.many_refs ≡ false → AreWhole resolved (closed_types s.found.named) (closed_types s.found.refs)
+    pub are-whole : s.many_refs ≡ false → AreFound resolved (closed_types s.found.named) (closed_types s.found.refs)
     are-whole few = record {
       rows = whole type_limit _ _ _ closed.sound.named (λ c p. record { of_kind = (and_parts (is_named c) (is_small c) p.of_kind).0; occurs = p.occurs }) (λ c o. ((closed.seen c o.occurs).named (each-small c o.occurs)).within c (kept-itself is_named c o.of_kind));
       refs = whole ref_limit _ _ _ (closed.sound.refs few) (λ c p. p) (λ c o. ((closed.seen c o.occurs).refs (each-small c o.occurs) few).within c (kept-itself is_ref c o.of_kind));
@@ -52,7 +52,7 @@ module _ (resolved : Resolved) (s : Collector) (closed : IsClosed resolved s) wh
     }
 
 -- where all that occur are found, no more named types occur than may, nor references
-module _ (resolved : Resolved) (types refs : List Closed) (w : AreWhole resolved types refs) where
+module _ (resolved : Resolved) (types refs : List Closed) (w : AreFound resolved types refs) where
   pub no-more-types : ¬ PassesTypes resolved
   no-more-types = λ p. whole-fits type_limit (OccursAs is_named resolved) types w.rows (record {
     found = p.found;

@@ -12,7 +12,7 @@ use Rattle.tm_base.specs.declared.ground.Ground as ground_is
 use Rattle.tm_names.specs.declared.resolved.OpenAsk.{OpenAsk}
 use Rattle.tm_names.specs.declared.resolved.Resolved.{Resolved}
 use Rattle.tm_ground.specs.Closed.{Closed, Elements, prim, never, tuple, array, nonzero, wrap, named, ref, no_elements, element, closed, listed}
-use Rattle.tm_ground.specs.Closing.{AreWhole}
+use Rattle.tm_ground.specs.Closing.{AreFound}
 use Rattle.tm_ground.specs.Depths.{AreDepths, TellsDepth, is_ask_deep, is_deep, is_row_deep, passes_by}
 use Rattle.tm_ground.specs.Limits.{OccursAs, PassesDepth, depth_limit, is_named, is_ref}
 use Rattle.tm_ground.specs.Numbered.{IsNumbered, EachNumbered}
@@ -26,7 +26,7 @@ use Rattle.tm_ground.proofs.StandsLemmas.{zip-get}
 use Rattle.tm_ground.proofs.TableLemmas.{deep-Array, deep-Tuple, deep-Wrap, deep-alone, deep-itself}
 use Rattle.tm_ground.proofs.TypesForm.{written-Prim, written-Never, written-Unit, written-NonZero, written-Named, written-Ref}
 
-module _ (resolved : Resolved) (types refs : List Closed) (whole : AreWhole resolved types refs) (tables : List (List Bool)) (depths : AreDepths resolved types depth_limit tables) where
+module _ (resolved : Resolved) (types refs : List Closed) (whole : AreFound resolved types refs) (tables : List (List Bool)) (depths : AreDepths resolved types depth_limit tables) where
   abbrev deep : Ground → Bool
   deep = is_deep tables
 

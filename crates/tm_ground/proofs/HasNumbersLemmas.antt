@@ -3,7 +3,7 @@ use Rattle.std.proofs.Common.{⊎_elim, List, [], ◌∷◌, Contains, subst}
 use Rattle.std.proofs.lemmas.List.Elements.{Contains-append_cases}
 use Rattle.tm_names.specs.declared.resolved.Resolved.{Resolved}
 use Rattle.tm_ground.specs.Closed.{Closed, Elements, prim, never, tuple, array, nonzero, wrap, named, ref, no_elements, element, listed}
-use Rattle.tm_ground.specs.Closing.{AreWhole}
+use Rattle.tm_ground.specs.Closing.{AreFound}
 use Rattle.tm_ground.specs.Limits.{is_named, is_ref, PassesNodes}
 use Rattle.tm_ground.specs.Numbered.{HasNumbers, HaveNumbers}
 use Rattle.tm_ground.specs.Occurs.{Occurs}
@@ -41,7 +41,7 @@ module _ (resolved : Resolved) (small : ¬ PassesNodes resolved) where
         ⊎_elim (λ i. written-occurs c x (each c (contains-first c (listed cs))) i) (λ i. all-occur cs x (λ d j. each d (contains-behind c (listed cs) d j)) i)
         (Contains-append_cases (written_in c) (written_in_all cs) x h)
 
-pub has-numbers : (resolved : Resolved) (rows refs : List Closed) → AreWhole resolved rows refs → (c : Closed) → Occurs resolved c → HasNumbers rows refs c
+pub has-numbers : (resolved : Resolved) (rows refs : List Closed) → AreFound resolved rows refs → (c : Closed) → Occurs resolved c → HasNumbers rows refs c
 has-numbers resolved rows refs w c o = record {
   few_rows = w.rows.few;
   few_refs = w.refs.few;
@@ -57,5 +57,5 @@ has-numbers resolved rows refs w c o = record {
   };
 }
 
-pub have-numbers : (resolved : Resolved) (rows refs cs : List Closed) → AreWhole resolved rows refs → ((c : Closed) → Contains cs c → Occurs resolved c) → HaveNumbers rows refs cs
+pub have-numbers : (resolved : Resolved) (rows refs cs : List Closed) → AreFound resolved rows refs → ((c : Closed) → Contains cs c → Occurs resolved c) → HaveNumbers rows refs cs
 have-numbers resolved rows refs cs w o = record { each = λ c i. has-numbers resolved rows refs w c (o c i) }

@@ -15,7 +15,7 @@ use Rattle.tm_names.specs.declared.resolved.Resolved.{Resolved}
 use Rattle.tm_ground.specs.declared.ordering.Texted.{Texted}
 use Rattle.tm_ground.specs.Closed.{Closed, closed}
 use Rattle.tm_ground.specs.ClosedTexts.{closed_text, AreInOrder}
-use Rattle.tm_ground.specs.Closing.{AreWhole}
+use Rattle.tm_ground.specs.Closing.{AreFound}
 use Rattle.tm_ground.specs.Limits.{is_named, is_ref, OccursAs, type_limit, ref_limit}
 use Rattle.tm_ground.specs.Occurs.{Occurs}
 use Rattle.tm_ground.specs.Rows.{IsWorldOf}
@@ -73,9 +73,9 @@ pub moved-distinct : (cs ds : List Closed) → AreDistinct cs → IsPermutation 
 moved-distinct cs ds distinct p =
     distinct-again cs ds distinct (record { within = λ c h. Contains-permutation cs ds c p h }) (omega (arith, length_permutation cs ds p))
 
-module _ (resolved : Resolved) (types refs : List Closed) (whole : AreWhole resolved types refs) where
+module _ (resolved : Resolved) (types refs : List Closed) (whole : AreFound resolved types refs) where
   -- both kinds in another order are all that occur too
-  pub moved-whole : (named_types ref_types : List Closed) → IsPermutation types named_types → IsPermutation refs ref_types → AreWhole resolved named_types ref_types
+  pub moved-whole : (named_types ref_types : List Closed) → IsPermutation types named_types → IsPermutation refs ref_types → AreFound resolved named_types ref_types
   moved-whole named_types ref_types p q = record {
     rows = whole-again type_limit (OccursAs is_named resolved) types named_types p whole.rows;
     refs = whole-again ref_limit (OccursAs is_ref resolved) refs ref_types q whole.refs;

@@ -6,7 +6,7 @@ use Rattle.std.proofs.lemmas.List.Sorted.{All-permutation, Contains-permutation,
 use Rattle.std.proofs.lemmas.List.Elements.{All-contains}
 use Rattle.tm_base.specs.Whole.{AreDistinct}
 use Rattle.tm_ground.specs.Closed.{Closed}
-use Rattle.tm_ground.specs.Closing.{IsWhole}
+use Rattle.tm_ground.specs.Closing.{ListsAllWithin}
 use Rattle.tm_ground.specs.Growing.{IsWithin}
 use Rattle.tm_ground.specs.Limits.{AreMoreThan}
 use Rattle.tm_ground.proofs.ContainsLemmas.{contains-nothing, contains-first, contains-behind, contains-at}
@@ -48,7 +48,7 @@ at-most (x ∷ xs) ys d w =
     omega (arith, fewer, length-without k ys l)
 
 -- where all are found, there aren't more
-pub whole-fits : (limit : ℕ) (P : Closed → Type 0) (found : List Closed) → IsWhole limit P found → ¬ AreMoreThan limit P
+pub whole-fits : (limit : ℕ) (P : Closed → Type 0) (found : List Closed) → ListsAllWithin limit P found → ¬ AreMoreThan limit P
 whole-fits limit P found w = λ more.
     let inside : IsWithin more.found found = record { within = λ c h. w.all.complete c (All-contains P more.found c more.each h) } in
     let fewer = at-most more.found found more.distinct inside in
@@ -83,7 +83,7 @@ distinct-again xs ys d w fits = record {
 }
 
 -- the same types in another order
-pub whole-again : (limit : ℕ) (P : Closed → Type 0) (xs ys : List Closed) → IsPermutation xs ys → IsWhole limit P xs → IsWhole limit P ys
+pub whole-again : (limit : ℕ) (P : Closed → Type 0) (xs ys : List Closed) → IsPermutation xs ys → ListsAllWithin limit P xs → ListsAllWithin limit P ys
 whole-again limit P xs ys p w =
     let counted = length_permutation xs ys p in
     record {

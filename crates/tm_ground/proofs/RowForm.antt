@@ -16,7 +16,7 @@ use Rattle.tm_names.specs.declared.resolved.Open.{Open}
 use Rattle.tm_names.specs.declared.resolved.Resolved.{Resolved}
 use Rattle.tm_names.specs.InForm.{is_variant_typed, are_defs_typed, IsInForm}
 use Rattle.tm_ground.specs.Closed.{Closed, listed, put_in}
-use Rattle.tm_ground.specs.Closing.{AreWhole}
+use Rattle.tm_ground.specs.Closing.{AreFound}
 use Rattle.tm_ground.specs.Limits.{is_named, is_ref, OccursAs}
 use Rattle.tm_ground.specs.Numbered.{IsNumbered}
 use Rattle.tm_ground.specs.Rows.{IsNamedRow, IsRefRow}
@@ -49,7 +49,7 @@ row-typed P f (d ∷ defs) [] k row h l z = cc
 row-typed P f (d ∷ defs) (ts ∷ types) zero row h l z = fields-typed P f d.variants ts row.types (first _ _ h) z
 row-typed P f (d ∷ defs) (ts ∷ types) (suc k) row h l z = row-typed P f defs types k row (second (is_variant_typed d.variants ts) _ h) (omega (arith, l)) z
 
-module _ (resolved : Resolved) (form : IsInForm resolved) (types refs : List Closed) (whole : AreWhole resolved types refs)
+module _ (resolved : Resolved) (form : IsInForm resolved) (types refs : List Closed) (whole : AreFound resolved types refs)
     (rows : List NamedRow) (ref_rows : List RefRow)
     (of_rows : AllZip (IsNamedRow types refs resolved) types rows) (of_refs : AllZip (IsRefRow types refs) refs ref_rows) where
   type-formed : (c : Closed) → Contains types c → IsFormed resolved c

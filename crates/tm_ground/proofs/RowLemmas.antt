@@ -9,7 +9,7 @@ use Rattle.tm_names.specs.declared.resolved.Life.{Life}
 use Rattle.tm_names.specs.declared.resolved.Open.{Open, Named}
 use Rattle.tm_names.specs.declared.resolved.Resolved.{Resolved}
 use Rattle.tm_ground.specs.Closed.{Closed, named, as_elements, closed, listed, region_of}
-use Rattle.tm_ground.specs.Closing.{AreWhole}
+use Rattle.tm_ground.specs.Closing.{AreFound}
 use Rattle.tm_ground.specs.Found.{AreRowsOfAll}
 use Rattle.tm_ground.specs.Numbered.{IsNumbered}
 use Rattle.tm_ground.specs.Occurs.{field_types, fields_of, parts_of}
@@ -47,7 +47,7 @@ module _ (resolved : Resolved) where
     }
 
 -- the rows of two lists of all types that occur are the rows of all
-pub all-rows : {resolved : Resolved} {types refs : List Closed} {made : Rows} → AreWhole resolved types refs → AreRows types refs resolved made → AreRowsOfAll resolved made
+pub all-rows : {resolved : Resolved} {types refs : List Closed} {made : Rows} → AreFound resolved types refs → AreRows types refs resolved made → AreRowsOfAll resolved made
 all-rows {resolved} {types} {refs} {made} whole rows = record { types = types; refs = refs; whole = whole; rows = rows }
 
 -- a world with the rows of some types is of those types

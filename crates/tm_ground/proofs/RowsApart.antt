@@ -7,7 +7,7 @@ use Rattle.tm_base.specs.declared.definition.RefRow.{RefRow}
 use Rattle.tm_base.specs.Whole.{AreDistinct}
 use Rattle.tm_names.specs.declared.resolved.Resolved.{Resolved}
 use Rattle.tm_ground.specs.Closed.{Closed, never, named, ref}
-use Rattle.tm_ground.specs.Closing.{AreWhole}
+use Rattle.tm_ground.specs.Closing.{AreFound}
 use Rattle.tm_ground.specs.Rows.{IsNamedRow, IsRefRow}
 use Rattle.tm_ground.proofs.NumberLemmas.{each-numbered}
 use Rattle.tm_ground.proofs.StandsLemmas.{stands, each-stands}
@@ -19,7 +19,7 @@ zip-at R (a ∷ xs) [] i x y h l = absurd h
 zip-at R (a ∷ xs) (b ∷ ys) zero x y h l = h.0
 zip-at R (a ∷ xs) (b ∷ ys) (suc i) x y h l = zip-at R xs ys i x y h.1 (omega (arith, l))
 
-module _ (resolved : Resolved) (types refs : List Closed) (whole : AreWhole resolved types refs)
+module _ (resolved : Resolved) (types refs : List Closed) (whole : AreFound resolved types refs)
     (rows : List NamedRow) (ref_rows : List RefRow)
     (of_rows : AllZip (IsNamedRow types refs resolved) types rows) (of_refs : AllZip (IsRefRow types refs) refs ref_rows) where
   one-named : (c d : Closed) (row : NamedRow) → IsNamedRow types refs resolved c row → IsNamedRow types refs resolved d row → c ≡ d

@@ -20,7 +20,7 @@ use Rattle.tm_base.proofs.GroundLemmas.{written_types-Tuple, written_types-Array
 use Rattle.tm_names.specs.declared.resolved.OpenAsk.{OpenAsk}
 use Rattle.tm_names.specs.declared.resolved.Resolved.{Resolved}
 use Rattle.tm_ground.specs.Closed.{Closed, Elements, prim, never, tuple, array, nonzero, wrap, named, ref, no_elements, element, closed, listed}
-use Rattle.tm_ground.specs.Closing.{AreWhole}
+use Rattle.tm_ground.specs.Closing.{AreFound}
 use Rattle.tm_names.specs.InForm.{IsInForm}
 use Rattle.tm_ground.specs.Limits.{is_named, is_ref, OccursAs, depth_passes, PassesDepth, depth_limit}
 use Rattle.tm_ground.specs.Numbered.{IsNumbered, EachNumbered}
@@ -68,7 +68,7 @@ all-range : (p : ℕ → Bool) (a n : ℕ) → ((k : ℕ) → k < a + n → p k 
 all-range p a zero each = refl
 all-range p a (suc n) each = and_from _ _ (each a (omega arith)) (all-range p (a + 1) n (λ k l. each k (omega (arith, l))))
 
-module _ (resolved : Resolved) (form : IsInForm resolved) (types refs : List Closed) (whole : AreWhole resolved types refs) (shallow : ¬ PassesDepth resolved)
+module _ (resolved : Resolved) (form : IsInForm resolved) (types refs : List Closed) (whole : AreFound resolved types refs) (shallow : ¬ PassesDepth resolved)
     (rows : List NamedRow) (ref_rows : List RefRow) (asks : List Ask)
     (of_rows : AllZip (IsNamedRow types refs resolved) types rows) (of_refs : AllZip (IsRefRow types refs) refs ref_rows)
     (of_asks : AllZip (IsAsk types refs) resolved.asks asks) where

@@ -6,12 +6,12 @@ use Rattle.tm_ground.specs.Closed.{Closed}
 use Rattle.tm_ground.specs.Limits.{is_named, is_ref, OccursAs, PassesNodes, type_limit, ref_limit}
 
 -- a list of all types of a kind that occur, which are at most so many
-pub record IsWhole (limit : ℕ) (P : Closed → Type 0) (found : List Closed) : Type 0 where
+pub record ListsAllWithin (limit : ℕ) (P : Closed → Type 0) (found : List Closed) : Type 0 where
   pub all : ListsAll P found
   pub few : length found ≤ limit
 
 -- all named types that occur, and all reference types, where none has too many nodes
-pub record AreWhole (resolved : Resolved) (found_named found_refs : List Closed) : Type 0 where
-  pub rows : IsWhole type_limit (OccursAs is_named resolved) found_named
-  pub refs : IsWhole ref_limit (OccursAs is_ref resolved) found_refs
+pub record AreFound (resolved : Resolved) (found_named found_refs : List Closed) : Type 0 where
+  pub rows : ListsAllWithin type_limit (OccursAs is_named resolved) found_named
+  pub refs : ListsAllWithin ref_limit (OccursAs is_ref resolved) found_refs
   pub small : ¬ PassesNodes resolved

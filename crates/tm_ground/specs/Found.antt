@@ -11,7 +11,7 @@ use Rattle.tm_ground.specs.declared.found.Found.{Found}
 use Rattle.tm_ground.specs.declared.ordering.Texted.{Texted}
 use Rattle.tm_ground.specs.declared.rows.Rows.{Rows}
 use Rattle.tm_ground.specs.Closed.{Closed}
-use Rattle.tm_ground.specs.Closing.{AreWhole}
+use Rattle.tm_ground.specs.Closing.{AreFound}
 use Rattle.tm_ground.specs.Numbered.{HasNumbers, HaveNumbers, IsNumbered}
 use Rattle.tm_ground.specs.Rows.{AreFields, AreRows, IsAsk, IsNamedRow, IsRefRow}
 use Rattle.tm_ground.specs.Sets.{closed_types}
@@ -20,7 +20,7 @@ use Rattle.tm_ground.specs.Texted.{AreInTextOrder, HasItsText}
 module _ (found : Found) where
   -- all named types and references that occur are found, and no more
   abbrev pub IsAllOf : Resolved → Type 0
-  IsAllOf resolved = AreWhole resolved (closed_types found.named) (closed_types found.refs)
+  IsAllOf resolved = AreFound resolved (closed_types found.named) (closed_types found.refs)
 
   -- the named types and the references that are written in a type are found, and so in each of some types
   abbrev pub HasNumbersIn : Closed → Type 0
@@ -64,5 +64,5 @@ module _ (found : Found) where
 pub record AreRowsOfAll (resolved : Resolved) (made : Rows) : Type 0 where
   pub types : List Closed
   pub refs : List Closed
-  pub whole : AreWhole resolved types refs
+  pub whole : AreFound resolved types refs
   pub rows : AreRows types refs resolved made

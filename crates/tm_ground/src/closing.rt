@@ -1,5 +1,5 @@
 ghost use Rattle.std.specs.Prelude.{IfOk, IfErr};
-ghost use Rattle.tm_ground.specs.Closing.{AreWhole};
+ghost use Rattle.tm_ground.specs.Closing.{AreFound};
 ghost use Rattle.tm_ground.specs.Limits.{HasCause};
 ghost use Rattle.tm_ground.specs.Sets.{closed_types};
 
@@ -15,7 +15,7 @@ use tm_names::Resolved;
 /// `TooManyTypes`, `TooManyNodes`, `TooManyRefs`: as in [`GroundErr`]. `Memory`: there wasn't enough memory.
 pub fn occurring(alloc: Global, resolved: &Resolved) -> Result<Found, GroundErr>
     ensures whole { IfOk result (λ found.
-        AreWhole resolved.now (closed_types found.named) (closed_types found.refs)) }
+        AreFound resolved.now (closed_types found.named) (closed_types found.refs)) }
     ensures cause { IfErr result (HasCause resolved.now) }
 {
     let mut collector = Collector::new(alloc);

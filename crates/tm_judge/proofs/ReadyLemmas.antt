@@ -10,11 +10,11 @@ use Rattle.tm_base.specs.Expanded.{Expanded}
 use Rattle.tm_base.specs.Layout.{size_of}
 use Rattle.tm_base.specs.Rules.{source, target, Taken, HasTargetWord}
 use Rattle.tm_base.specs.Tables.{Tables, expanded_in}
-use Rattle.tm_base.specs.Transmutes.{Same, holds}
+use Rattle.tm_base.specs.Transmutes.{Same, holds, is_itself}
 use Rattle.tm_base.specs.Valid.{Valid}
 use Rattle.tm_base.specs.Viable.{HasWord, Viable}
 use Rattle.tm_base.specs.Worlds.{tables_of}
-use Rattle.tm_auto.specs.Automata.{Automaton, AutoWord, ReadsWords, IsViable, equal}
+use Rattle.tm_auto.specs.Automata.{Automaton, AutoWord, ReadsWords, IsViable}
 use Rattle.tm_refs.specs.declared.compat.Compat.{Compat}
 use Rattle.tm_refs.specs.Solved.{compatible_in}
 use Rattle.tm_walk.specs.Sought.{IsSourceWord, IsViableTo}
@@ -58,7 +58,7 @@ module _ (world : World) (ask : Ask) (compat : Compat) (src dst : Automaton) (h 
 
   -- the source's words are its values
   pub value-same : (w : Word) → IsSourceWord src w ↔ IsValue tables ask w
-  value-same w = word-valid tables true ask.src src h.source equal Same (λ x u leaf. (λ e. (Decides-eqb x u).0 e, λ e. (Decides-eqb x u).1 e)) w
+  value-same w = word-valid tables true ask.src src h.source is_itself Same (λ x u leaf. (λ e. (Decides-eqb x u).0 e, λ e. (Decides-eqb x u).1 e)) w
 
   pub value-start : ReadsWords src → HasStart src ↔ ((w : Word) × IsValue tables ask w)
   value-start reads =

@@ -7,7 +7,7 @@ use Rattle.tm_base.specs.Layout.{size_of}
 use Rattle.tm_base.specs.Transmutes.{Same, IsSourceWord, holds}
 use Rattle.tm_base.specs.Valid.{Valid}
 use Rattle.tm_base.specs.ValidTest.{valid_test}
-use Rattle.tm_base.proofs.AssumeLemmas.{IsSettled}
+use Rattle.tm_base.proofs.AssumeLemmas.{IsValueKnown}
 use Rattle.tm_base.proofs.ValidLemmas.{Valid-length, Valid-grows}
 use Rattle.tm_base.proofs.ValidTestLemmas.{valid_test-exact}
 use Rattle.tm_laws.proofs.DecideLemmas.{Dec-like, Dec-by_test, Dec-eq, test_of, test_of-to, test_of-from}
@@ -44,8 +44,8 @@ pub Listed-source : (s : Expanded) → Listed (IsSourceWord s)
 Listed-source s = Listed-valid Same true suc (λ x t e. omega arith) s
 
 -- it is known of each type whether it has a value
-pub settled : (s : Expanded) → IsSettled s
+pub settled : (s : Expanded) → IsValueKnown s
 settled s = go (find (IsSourceWord s) (Listed-source s) (IsSourceWord-known s)) where
-  go : Dec ((w : Word) × IsSourceWord s w) → IsSettled s
+  go : Dec ((w : Word) × IsSourceWord s w) → IsValueKnown s
   go (yes h) = inr h
   go (no f) = inl (λ w value. f (w, value))

@@ -25,8 +25,8 @@ pub record StandsWhole (size : ℕ) (r : RefId) (k : ℕ) (before behind : Word)
   pub went_on : (j : ℕ) → k ≡ suc j → (others : Word) × (before ≡ others ++ Ptr r j ∷ [])
 
 -- each byte of a reference stands among the reference's others
-abbrev pub IsWhole : ℕ → Word → Type 0
-IsWhole size w = (before behind : Word) (r : RefId) (k : ℕ) → w ≡ before ++ (Ptr r k ∷ behind) → StandsWhole size r k before behind
+abbrev pub AllStandWhole : ℕ → Word → Type 0
+AllStandWhole size w = (before behind : Word) (r : RefId) (k : ℕ) → w ≡ before ++ (Ptr r k ∷ behind) → StandsWhole size r k before behind
 
 -- a cell of two joined words is one of the first or of the second
 pub append-split : (u v p q : Word) (c : Cell) → u ++ v ≡ p ++ (c ∷ q)
@@ -41,8 +41,8 @@ append-split (a ∷ u) v (b ∷ p) q c e =
       | inr s ↦ let same = s.1 in inr (s.0, cc, s.2)
     ]
 
-IsWhole-append : (size : ℕ) (u v : Word) → IsWhole size u → IsWhole size v → IsWhole size (u ++ v)
-IsWhole-append size u v whole_u whole_v p q r k e = elim (append-split u v p q (Ptr r k) e) [
+AllStandWhole-append : (size : ℕ) (u v : Word) → AllStandWhole size u → AllStandWhole size v → AllStandWhole size (u ++ v)
+AllStandWhole-append size u v whole_u whole_v p q r k e = elim (append-split u v p q (Ptr r k) e) [
   | inl s ↦
       let stands = whole_u p s.0 r k s.1 in
       record {
@@ -64,9 +64,9 @@ none_there c [] q e = absurd cc
 none_there c (a ∷ p) q e = absurd cc
 
 -- a cell that is no reference's
-IsWhole-one : (size : ℕ) (c : Cell) → ((r : RefId) (k : ℕ) → c ≡ Ptr r k → ⊥) → IsWhole size (c ∷ [])
-IsWhole-one size c plain [] q r k e = absurd (plain r k cc)
-IsWhole-one size c plain (b ∷ p) q r k e =
+AllStandWhole-one : (size : ℕ) (c : Cell) → ((r : RefId) (k : ℕ) → c ≡ Ptr r k → ⊥) → AllStandWhole size (c ∷ [])
+AllStandWhole-one size c plain [] q r k e = absurd (plain r k cc)
+AllStandWhole-one size c plain (b ∷ p) q r k e =
     let tail : [] ≡ p ++ (Ptr r k ∷ q) = cc in
     absurd (none_there (Ptr r k) p q tail)
 
@@ -107,8 +107,8 @@ in_run x i (suc n) (b ∷ p) q r k e =
       back = inside.back ∙ ap (λ (m : ℕ). cells_from x (k + 1) m) left;
     }
 
-IsWhole-pointer : (size x : ℕ) → IsWhole size (pointer_of size x)
-IsWhole-pointer size x p q r k e =
+AllStandWhole-pointer : (size x : ℕ) → AllStandWhole size (pointer_of size x)
+AllStandWhole-pointer size x p q r k e =
     let inside = in_run x 0 size p q r k e in
     let at : k ≡ 0 + length p = inside.at in
     let within : length p < size = inside.within in
@@ -127,15 +127,15 @@ IsWhole-pointer size x p q r k e =
     }
 
 -- each byte of a reference stands among the reference's others
-pub HasWholeReferences-runs : (size : ℕ) (w : Word) → HasWholeReferences size w → IsWhole size w
-HasWholeReferences-runs size w (nothing_left _ e) = subst (IsWhole size) (sym e) (λ p q r k none. absurd (none_there (Ptr r k) p q none))
+pub HasWholeReferences-runs : (size : ℕ) (w : Word) → HasWholeReferences size w → AllStandWhole size w
+HasWholeReferences-runs size w (nothing_left _ e) = subst (AllStandWhole size) (sym e) (λ p q r k none. absurd (none_there (Ptr r k) p q none))
 HasWholeReferences-runs size w (byte_first b _ rest e h) =
-    subst (IsWhole size) (sym e) (IsWhole-append size (Byte b ∷ []) rest (IsWhole-one size (Byte b) (λ r k same. cc)) (HasWholeReferences-runs size rest h))
+    subst (AllStandWhole size) (sym e) (AllStandWhole-append size (Byte b ∷ []) rest (AllStandWhole-one size (Byte b) (λ r k same. cc)) (HasWholeReferences-runs size rest h))
 HasWholeReferences-runs size w (uninit_first _ rest e h) =
-    subst (IsWhole size) (sym e) (IsWhole-append size (Uninit ∷ []) rest (IsWhole-one size Uninit (λ r k same. cc)) (HasWholeReferences-runs size rest h))
+    subst (AllStandWhole size) (sym e) (AllStandWhole-append size (Uninit ∷ []) rest (AllStandWhole-one size Uninit (λ r k same. cc)) (HasWholeReferences-runs size rest h))
 HasWholeReferences-runs size w (reference_first x _ rest e h) =
-    subst (IsWhole size) (sym e) (IsWhole-append size (pointer_of size x) rest (IsWhole-pointer size x) (HasWholeReferences-runs size rest h))
+    subst (AllStandWhole size) (sym e) (AllStandWhole-append size (pointer_of size x) rest (AllStandWhole-pointer size x) (HasWholeReferences-runs size rest h))
 
 -- so it is in a word of a type
-pub stands-whole : (profile : Profile) (A : ℕ → ℕ → Type 0) (keep : Bool) (t : Expanded) → IsFor profile t → (w : Word) → Valid A keep t w → IsWhole (pointer_size profile) w
+pub stands-whole : (profile : Profile) (A : ℕ → ℕ → Type 0) (keep : Bool) (t : Expanded) → IsFor profile t → (w : Word) → Valid A keep t w → AllStandWhole (pointer_size profile) w
 stands-whole profile A keep t for_it w h = HasWholeReferences-runs (pointer_size profile) w (whole-references profile A keep t for_it w h)

@@ -16,11 +16,11 @@ use Rattle.tm_base.specs.Profiles.{pointer_size}
 use Rattle.tm_base.specs.Reaches.{IsJudged}
 use Rattle.tm_base.specs.Shapes.{HasSize}
 use Rattle.tm_base.specs.Tables.{Tables, expanded_in, pointee_in, OnRows}
-use Rattle.tm_base.specs.Transmutes.{IsSourceWord, Same, Transmutes, holds}
+use Rattle.tm_base.specs.Transmutes.{IsSourceWord, Same, Transmutes, holds, is_itself}
 use Rattle.tm_base.specs.Trees.{TreeWord}
 use Rattle.tm_base.specs.Valid.{Valid}
 use Rattle.tm_base.proofs.ValidLemmas.{Valid-grows, Valid-length}
-use Rattle.tm_auto.specs.Automata.{AutoWord, Automaton, equal}
+use Rattle.tm_auto.specs.Automata.{AutoWord, Automaton}
 use Rattle.tm_layout.specs.Named.{IsRefusedAnswer}
 use Rattle.tm_tree.specs.Exact.{IsTreeOf}
 use Rattle.tm_refs.specs.declared.pointees.Pointee.{Pointee}
@@ -63,10 +63,10 @@ module _ (tables : Tables) (assume : Assume) (A : ℕ → ℕ → Bool) where
     to = expanded_in tables t
 
     word-valid : (w : Word) → IsWordOf source w → IsSourceWord from w
-    word-valid w h = Valid-grows (holds equal) Same true true (λ x y. equal_is x y) (λ k. k) from w ((of_source.words equal w).0 h)
+    word-valid w h = Valid-grows (holds is_itself) Same true true (λ x y. equal_is x y) (λ k. k) from w ((of_source.words is_itself w).0 h)
 
     valid-word : (w : Word) → IsSourceWord from w → IsWordOf source w
-    valid-word w h = (of_source.words equal w).1 (Valid-grows Same (holds equal) true true (λ x y. is_equal x y) (λ k. k) from w h)
+    valid-word w h = (of_source.words is_itself w).1 (Valid-grows Same (holds is_itself) true true (λ x y. is_equal x y) (λ k. k) from w h)
 
     fits-to : (w : Word) → AutoWord (holds A) target (fit w target.size) → Valid (holds A) assume.safety to (fit w (size_of to))
     fits-to w h = (of_target.words A (fit w (size_of to))).0 (subst (λ (n : ℕ). AutoWord (holds A) target (fit w n)) of_target.size h)

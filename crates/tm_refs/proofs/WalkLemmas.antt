@@ -3,7 +3,8 @@ use Rattle.std.proofs.Common.{◌≡◌, ℕ, ◌↔◌, inl, inr, refl, sym, �
 use Rattle.std.specs.Prelude.{◌==◌, is_some, IfNone, IfSome}
 use Rattle.std.proofs.lemmas.Bool.{eqb-true}
 use Rattle.tm_base.specs.Cells.{Word}
-use Rattle.tm_auto.specs.Automata.{Automaton, ReadsWords, equal, reached}
+use Rattle.tm_base.specs.Transmutes.{is_itself}
+use Rattle.tm_auto.specs.Automata.{Automaton, ReadsWords, reached}
 use Rattle.tm_walk.specs.declared.walking.Found.{Found}
 use Rattle.tm_walk.specs.Meanings.{EachWordFits, IsLeastExample, NoWordFits, exists_skips, exists_stops}
 use Rattle.tm_walk.specs.Sought.{IsFound, NoneIsSought}
@@ -45,14 +46,14 @@ cons-differs s ss h = cc
 -- an automaton has no word where it has no start
 module _ (source : Automaton) (reads : ReadsWords source) where
   startless-none : source.starts ≡ [] → HasNoWord source
-  startless-none none w word = (reads.source []).1 (w, word) (reads.begins equal ∙ none)
+  startless-none none w word = (reads.source []).1 (w, word) (reads.begins is_itself ∙ none)
 
-  none-startless : (ss : List ℕ) → ss ≡ reached equal source [] → HasNoWord source → ss ≡ []
+  none-startless : (ss : List ℕ) → ss ≡ reached is_itself source [] → HasNoWord source → ss ≡ []
   none-startless [] e none = refl
   none-startless (s ∷ ss) e none = let (v, word) = (reads.source []).0 (λ h. cons-differs s ss (e ∙ h)) in absurd (none v word)
 
   pub startless : (b : Bool) → (IsTrue b ↔ (source.starts ≡ [])) → IsTrue b ↔ HasNoWord source
-  startless b empty = (λ h. startless-none (empty.0 h), λ none. empty.1 (none-startless source.starts (sym (reads.begins equal)) none))
+  startless b empty = (λ h. startless-none (empty.0 h), λ none. empty.1 (none-startless source.starts (sym (reads.begins is_itself)) none))
 
 -- a list is empty where its length is 0
 pub empty-list : (b : Bool) (xs ys : List ℕ) → xs ≡ ys → b ≡ (length xs == 0) → IsTrue b ↔ (ys ≡ [])

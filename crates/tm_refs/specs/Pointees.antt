@@ -8,9 +8,9 @@ use Rattle.tm_base.specs.Layout.{size_of}
 use Rattle.tm_base.specs.Profiles.{pointer_size}
 use Rattle.tm_base.specs.Reaches.{IsJudged}
 use Rattle.tm_base.specs.Tables.{Tables, expanded_in, pointee_in}
-use Rattle.tm_base.specs.Transmutes.{Transmutes, holds}
+use Rattle.tm_base.specs.Transmutes.{Transmutes, holds, is_itself}
 use Rattle.tm_base.specs.Valid.{Valid}
-use Rattle.tm_auto.specs.Automata.{AutoWord, Automaton, equal}
+use Rattle.tm_auto.specs.Automata.{AutoWord, Automaton}
 use Rattle.tm_walk.specs.Meanings.{EachWordFits}
 use Rattle.tm_refs.specs.declared.pointees.Pointee.{Pointee}
 
@@ -52,7 +52,7 @@ module _ (tables : Tables) (assume : Assume) where
 
 -- a source word
 abbrev pub IsWordOf : Automaton → Word → Type 0
-IsWordOf source w = AutoWord (holds equal) source w
+IsWordOf source w = AutoWord (holds is_itself) source w
 
 abbrev pub HasNoWord : Automaton → Type 0
 HasNoWord source = (w : Word) → ¬ IsWordOf source w

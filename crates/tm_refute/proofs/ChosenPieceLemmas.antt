@@ -8,10 +8,10 @@ use Rattle.tm_base.specs.Cells.{Word, fit}
 use Rattle.tm_base.specs.Expanded.{Expanded}
 use Rattle.tm_base.specs.Layout.{size_of}
 use Rattle.tm_base.specs.Tables.{Tables, expanded_in}
-use Rattle.tm_base.specs.Transmutes.{Same, IsSourceWord, Fits, EveryWordFits, holds}
+use Rattle.tm_base.specs.Transmutes.{Same, IsSourceWord, Fits, EveryWordFits, holds, is_itself}
 use Rattle.tm_base.specs.Valid.{Valid}
 use Rattle.tm_base.specs.Viable.{HasWord, RefusesAt, Viable}
-use Rattle.tm_auto.specs.Automata.{Automaton, AutoWord, IsViable, equal}
+use Rattle.tm_auto.specs.Automata.{Automaton, AutoWord, IsViable}
 use Rattle.tm_refs.specs.declared.compat.Compat.{Compat}
 use Rattle.tm_refs.specs.Leaves.{leaf_of}
 use Rattle.tm_refs.specs.Pointees.{IsAutomatonOf}
@@ -53,7 +53,7 @@ module _ (tables : Tables) (assume : Assume) where
       t = expanded_in tables to
 
       value-same : (w : Word) → sought.IsSourceWord src w ↔ IsSourceWord s w
-      value-same w = word-valid tables true from src of_source equal Same (λ x u leaf. (λ e. (Decides-eqb x u).0 e, λ e. (Decides-eqb x u).1 e)) w
+      value-same w = word-valid tables true from src of_source is_itself Same (λ x u leaf. (λ e. (Decides-eqb x u).0 e, λ e. (Decides-eqb x u).1 e)) w
 
       fits-same : (w : Word) → walk.Fits test src dst w ↔ Fits A assume.safety t w
       fits-same w =

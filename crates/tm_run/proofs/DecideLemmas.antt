@@ -11,7 +11,7 @@ use Rattle.tm_run.specs.Examined.{IsExamined, IsOnlyFault, IsReportStop, IsStop,
 use Rattle.tm_run.specs.Faults.{IsFaulty, status_of_fault}
 use Rattle.tm_run.specs.Files.{IsAccepted, IsTooLong, IsWorldOf}
 use Rattle.tm_run.specs.Refutations.{PassesCells}
-use Rattle.tm_run.specs.Outcomes.{IsFileOutcome, IsReport, IsSettled}
+use Rattle.tm_run.specs.Outcomes.{IsFileOutcome, IsReport, HasOutcome}
 use Rattle.tm_run.specs.Reported.{IsReported}
 use Rattle.tm_run.specs.Runs.{Decides}
 use Rattle.tm_run.specs.declared.words.options.Options.{Options}
@@ -38,26 +38,26 @@ fault_status (Names why at) = inr (inr (inl refl))
 fault_status (BadRefutation line) = inl refl
 fault_status (NoQuestion number) = inr (inr (inr refl))
 
-pub settled_fault : (fault : FileFault) → IsSettled (status_of_fault fault)
+pub settled_fault : (fault : FileFault) → HasOutcome (status_of_fault fault)
 settled_fault fault = by (fault_status fault)
   where
-    by : OneOfFaults (status_of_fault fault) → IsSettled (status_of_fault fault)
-    by (inl e) = subst IsSettled (sym e) tt
-    by (inr (inl e)) = subst IsSettled (sym e) tt
-    by (inr (inr (inl e))) = subst IsSettled (sym e) tt
-    by (inr (inr (inr e))) = subst IsSettled (sym e) tt
+    by : OneOfFaults (status_of_fault fault) → HasOutcome (status_of_fault fault)
+    by (inl e) = subst HasOutcome (sym e) tt
+    by (inr (inl e)) = subst HasOutcome (sym e) tt
+    by (inr (inr (inl e))) = subst HasOutcome (sym e) tt
+    by (inr (inr (inr e))) = subst HasOutcome (sym e) tt
 
 -- the status of a report is one of two
 module _ (options : Options) (file : List ℕ) (status : Status) (text : List ℕ) (report : IsReport options file status text) where
   report-verdict : HasVerdict (HoldsFor options.mode (tables_of report.world)) (questions_for options.mode (tables_of report.world) report.world.questions) status
   report-verdict = reported-verdict options.mode options file report.world status text report.reported
 
-  settled_report : IsSettled status
+  settled_report : HasOutcome status
   settled_report = by report-verdict.two
     where
-      by : (status ≡ AllYes) ⊎ (status ≡ Mixed) → IsSettled status
-      by (inl e) = subst IsSettled (sym e) tt
-      by (inr e) = subst IsSettled (sym e) tt
+      by : (status ≡ AllYes) ⊎ (status ≡ Mixed) → HasOutcome status
+      by (inl e) = subst HasOutcome (sym e) tt
+      by (inr e) = subst HasOutcome (sym e) tt
 
   -- and none of a fault's or of a misuse
   pub not_of_report : (status ≢ Usage) × (status ≢ Limit) × (status ≢ BadText) × (status ≢ IllFormed) × (status ≢ NoSuchQuestion)

@@ -6,14 +6,14 @@ use Rattle.tm_report.specs.declared.fault.FileFault.{FileFault}
 use Rattle.tm_run.specs.Held.{EachHolds, SomeDoesNot}
 use Rattle.tm_run.specs.Files.{IsAccepted}
 use Rattle.tm_run.specs.Inputs.{HasInputFault, IsFaultyInput, OfInput, most_read}
-use Rattle.tm_run.specs.Outcomes.{IsInput, IsInputOf, IsInputReport, IsOutcome, IsRunOn, IsSettled, WritesFault, WritesOutcome, WritesPrefix, WritesReport}
+use Rattle.tm_run.specs.Outcomes.{IsInput, IsInputOf, IsInputReport, IsOutcome, IsRunOn, HasOutcome, WritesFault, WritesOutcome, WritesPrefix, WritesReport}
 use Rattle.tm_run.specs.Runs.{DecidesInput, Finishes, IsSilent}
 use Rattle.tm_run.specs.Words.{is_read}
 use Rattle.tm_run.specs.declared.words.options.Options.{Options}
 use Rattle.tm_run.specs.declared.status.Status.{Status}
 use Rattle.tm_run.specs.declared.status.Status.TheVariants.{AllYes, Mixed, Usage, BadText, Limit, ReadFault, WriteFault, Memory, IllFormed, NoQuestion}
 
-pub settled_status : (status : Status) → IsSettled status → (status ≢ ReadFault) × (status ≢ WriteFault) × (status ≢ Memory)
+pub settled_status : (status : Status) → HasOutcome status → (status ≢ ReadFault) × (status ≢ WriteFault) × (status ≢ Memory)
 settled_status AllYes h = (λ e. cc, λ e. cc, λ e. cc)
 settled_status Mixed h = (λ e. cc, λ e. cc, λ e. cc)
 settled_status Usage h = (λ e. cc, λ e. cc, λ e. cc)
@@ -30,14 +30,14 @@ module _ (asked : Option Options) (left left' : Option (List ℕ)) (reads reads'
   pub record Keeps (status : Status) : Type 0 where
     pub headline : (options : Options) (input : List ℕ) → IsRunOn asked left options input status → OfInput IsAccepted options input → WritesReport options input status written written'
     pub only_report : (options : Options) (input : List ℕ) → IsRunOn asked left options input status → (other : Status) (text : List ℕ) → IsInputReport options input other text → (other ≡ status) × AddsAll written written' text
-    pub outcome : IsSettled status → WritesOutcome asked left status written written'
+    pub outcome : HasOutcome status → WritesOutcome asked left status written written'
     pub part : status ≡ WriteFault → WritesPrefix asked left written written'
     pub silent_fault : status ≡ ReadFault → written' ≡ written
     pub silent_memory : status ≡ Memory → written' ≡ written
     pub fault : (options : Options) (input : List ℕ) → IsRunOn asked left options input status → (fault : FileFault) → HasInputFault options input fault → WritesFault fault status written written'
     pub all_yes : (options : Options) (input : List ℕ) → IsRunOn asked left options input status → (status ≡ AllYes ↔ OfInput EachHolds options input)
     pub mixed : (options : Options) (input : List ℕ) → IsRunOn asked left options input status → (status ≡ Mixed ↔ OfInput SomeDoesNot options input)
-    pub usage : IsSettled status → (status ≡ Usage ↔ asked ≡ None)
+    pub usage : HasOutcome status → (status ≡ Usage ↔ asked ≡ None)
     pub bad_text : (options : Options) (input : List ℕ) → IsRunOn asked left options input status → (status ≡ BadText ↔ IsFaultyInput options input BadText)
     pub limit : (options : Options) (input : List ℕ) → IsRunOn asked left options input status → (status ≡ Limit ↔ IsFaultyInput options input Limit)
     pub ill_formed : (options : Options) (input : List ℕ) → IsRunOn asked left options input status → (status ≡ IllFormed ↔ IsFaultyInput options input IllFormed)
@@ -51,7 +51,7 @@ module _ (asked : Option Options) (left left' : Option (List ℕ)) (reads reads'
 
   -- what a run that comes to writing knows by then
   pub record Writes (status : Status) (text : List ℕ) : Type 0 where
-    pub settled : IsSettled status
+    pub settled : HasOutcome status
     pub usage : status ≡ Usage ↔ asked ≡ None
     pub input : List ℕ
     pub input_is : IsInput asked left input
@@ -121,7 +121,7 @@ module _ (asked : Option Options) (left left' : Option (List ℕ)) (reads reads'
 
   -- nothing was written: reading failed, or memory was wanting
   pub record WritesNothing (status : Status) : Type 0 where
-    pub unsettled : ¬ IsSettled status
+    pub unsettled : ¬ HasOutcome status
     pub no_write : status ≢ WriteFault
     pub unread : is_read asked ≡ false → left' ≡ left
     pub unrisen : is_read asked ≡ false → reads' ≡ reads

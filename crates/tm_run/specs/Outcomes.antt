@@ -56,17 +56,17 @@ IsOutcome None input status text = (status ≡ Usage) × (text ≡ usage_line)
 IsOutcome (Some options) input status text = IsInputOutcome options input status text
 
 -- no read and no write failed, and memory was found
-abbrev pub IsSettled : Status → Type 0
-IsSettled ReadFault = ⊥
-IsSettled WriteFault = ⊥
-IsSettled Memory = ⊥
-IsSettled AllYes = Unit {0}
-IsSettled Mixed = Unit {0}
-IsSettled Usage = Unit {0}
-IsSettled BadText = Unit {0}
-IsSettled Limit = Unit {0}
-IsSettled IllFormed = Unit {0}
-IsSettled NoQuestion = Unit {0}
+abbrev pub HasOutcome : Status → Type 0
+HasOutcome ReadFault = ⊥
+HasOutcome WriteFault = ⊥
+HasOutcome Memory = ⊥
+HasOutcome AllYes = Unit {0}
+HasOutcome Mixed = Unit {0}
+HasOutcome Usage = Unit {0}
+HasOutcome BadText = Unit {0}
+HasOutcome Limit = Unit {0}
+HasOutcome IllFormed = Unit {0}
+HasOutcome NoQuestion = Unit {0}
 
 -- The input that is asked for: the file of a number, or else the bytes up to their end, which the source told.
 abbrev pub IsInputOf : Option ℕ → Option (List ℕ) → List ℕ → Type 0
@@ -87,7 +87,7 @@ IsInput (Some options) left input = IsInputIfTold options.generate left input
 pub record IsRunOn (asked : Option Options) (left : Option (List ℕ)) (options : Options) (input : List ℕ) (status : Status) : Type 0 where
   pub in_form : asked ≡ Some options
   pub input_is : IsInputOf options.generate left input
-  pub settled : IsSettled status
+  pub settled : HasOutcome status
 
 -- the whole text of the outcome of an input was written
 pub record WritesOutcome (asked : Option Options) (left : Option (List ℕ)) (status : Status) (before now : Option (List ℕ)) : Type 0 where

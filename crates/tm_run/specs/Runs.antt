@@ -11,7 +11,7 @@ use Rattle.tm_run.specs.Held.{EachHolds, SomeDoesNot}
 use Rattle.tm_run.specs.Faults.{HasFault, status_of_fault}
 use Rattle.tm_run.specs.Files.{IsAccepted}
 use Rattle.tm_run.specs.Inputs.{HasInputFault, IsFaultyInput, OfInput, input_limit}
-use Rattle.tm_run.specs.Outcomes.{IsFileOutcome, IsInputOutcome, IsInputReport, IsReport, IsSettled, usage_line}
+use Rattle.tm_run.specs.Outcomes.{IsFileOutcome, IsInputOutcome, IsInputReport, IsReport, HasOutcome, usage_line}
 use Rattle.tm_run.specs.Words.{is_read}
 use Rattle.tm_run.specs.declared.words.options.Options.{Options}
 use Rattle.tm_run.specs.declared.status.Status.{Status}
@@ -39,7 +39,7 @@ module _ (written written' : Option (List ℕ)) (faults faults' : ℕ) where
 -- The outcome of a file, and no other is: the report on it where it is accepted, with the status that its
 -- questions come to, and the status and the line of its fault where it has one.
 pub record Decides (options : Options) (file : List ℕ) (status : Status) (text : List ℕ) : Type 0 where
-  pub settled : IsSettled status
+  pub settled : HasOutcome status
   pub outcome : IsFileOutcome options file status text
   pub accepted : IsAccepted options file → IsReport options file status text
   pub only : (other : Status) (line : List ℕ) → IsReport options file other line → (other ≡ status) × (line ≡ text)
@@ -49,7 +49,7 @@ pub record Decides (options : Options) (file : List ℕ) (status : Status) (text
 
 -- The outcome of an input, and no other is; and for each status that it may have what it comes from.
 pub record DecidesInput (options : Options) (input : List ℕ) (status : Status) (text : List ℕ) : Type 0 where
-  pub settled : IsSettled status
+  pub settled : HasOutcome status
   pub used : status ≢ Usage
   pub outcome : IsInputOutcome options input status text
   pub accepted : OfInput IsAccepted options input → IsInputReport options input status text

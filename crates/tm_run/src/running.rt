@@ -5,7 +5,7 @@ ghost use Rattle.tm_io.specs.Told.{AddsAll};
 ghost use Rattle.tm_run.specs.Held.{EachHolds, SomeDoesNot};
 ghost use Rattle.tm_run.specs.Files.{IsAccepted};
 ghost use Rattle.tm_run.specs.Inputs.{HasInputFault, IsFaultyInput, OfInput, most_read};
-ghost use Rattle.tm_run.specs.Outcomes.{IsInputReport, IsRunOn, IsSettled, WritesFault, WritesOutcome, WritesPrefix, WritesReport};
+ghost use Rattle.tm_run.specs.Outcomes.{IsInputReport, IsRunOn, HasOutcome, WritesFault, WritesOutcome, WritesPrefix, WritesReport};
 ghost use Rattle.tm_run.specs.Runs.{Answers, Declines, Did, Finishes};
 ghost use Rattle.tm_run.specs.Words.{asked, is_read};
 ghost use Rattle.tm_run.specs.declared.words.options.Options.{Options};
@@ -49,7 +49,7 @@ pub fn run<S: Source, K: Sink>(alloc: Global, words: &[String], src: &mut S, out
         → (status ≡ result) × AddsAll (K.written out.old) (K.written out.new) text }
 
     // What is written, in each case, and what the status is then.
-    ensures outcome { IsSettled result → WritesOutcome (asked words.now) (S.left src.old) result
+    ensures outcome { HasOutcome result → WritesOutcome (asked words.now) (S.left src.old) result
         (K.written out.old) (K.written out.new) }
     ensures part { result ≡ Status.WriteFault → WritesPrefix (asked words.now) (S.left src.old)
         (K.written out.old) (K.written out.new) }
@@ -71,7 +71,7 @@ pub fn run<S: Source, K: Sink>(alloc: Global, words: &[String], src: &mut S, out
     ensures mixed { (options : Options) (input : List ℕ)
         → IsRunOn (asked words.now) (S.left src.old) options input result
         → (result ≡ Status.Mixed ↔ OfInput SomeDoesNot options input) }
-    ensures usage { IsSettled result → (result ≡ Status.Usage ↔ asked words.now ≡ None) }
+    ensures usage { HasOutcome result → (result ≡ Status.Usage ↔ asked words.now ≡ None) }
     ensures bad_text { (options : Options) (input : List ℕ)
         → IsRunOn (asked words.now) (S.left src.old) options input result
         → (result ≡ Status.BadText ↔ IsFaultyInput options input Status.BadText) }

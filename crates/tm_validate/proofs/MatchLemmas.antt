@@ -6,7 +6,7 @@ use Rattle.tm_base.specs.Cells.{Word, OrOwn, fit, or_own}
 use Rattle.tm_base.specs.Expanded.{Expanded}
 use Rattle.tm_base.specs.Faults.{has_no_layout}
 use Rattle.tm_base.specs.Layout.{size_of}
-use Rattle.tm_base.specs.Transmutes.{holds}
+use Rattle.tm_base.specs.Transmutes.{holds, is_itself}
 use Rattle.tm_base.specs.Valid.{Valid}
 use Rattle.tm_base.specs.Viable.{Viable}
 use Rattle.tm_base.proofs.ValidLemmas.{Valid-grows}
@@ -16,7 +16,7 @@ use Rattle.tm_check.proofs.ExactLemmas.{valid-exact, viable-exact}
 use Rattle.tm_validate.specs.declared.matching.Fits.{Fits}
 use Rattle.tm_validate.specs.declared.matching.Fits.TheVariants as fits
 use Rattle.tm_validate.specs.Against.{AreRefusedAt, AreTo, bytes_of}
-use Rattle.tm_validate.specs.Matched.{GoesOn, IsLast, IsMatch, equal}
+use Rattle.tm_validate.specs.Matched.{GoesOn, IsLast, IsMatch}
 use Rattle.tm_validate.proofs.AlikeLemmas.{Free, begins-alike, free-front}
 
 module _ (keep : Bool) (t : Expanded) (cells : Word) where
@@ -71,8 +71,8 @@ module _ (test : ℕ → ℕ → Bool) (keep : Bool) (t : Expanded) (ok : has_no
 
   refused : (n : ℕ) → IsLast keep t Cells n → AreRefusedAt (holds test) keep t bytes n
   refused n last =
-      let goes = viable-alike equal keep t ok (take n Cells) (free-front n Cells free) test last.goes in
-      let stops : ¬ Viable (holds test) keep t (take (n + 1) Cells) = λ viable. last.stops (viable-alike test keep t ok (take (n + 1) Cells) (free-front (n + 1) Cells free) equal viable) in record {
+      let goes = viable-alike is_itself keep t ok (take n Cells) (free-front n Cells free) test last.goes in
+      let stops : ¬ Viable (holds test) keep t (take (n + 1) Cells) = λ viable. last.stops (viable-alike test keep t ok (take (n + 1) Cells) (free-front (n + 1) Cells free) is_itself viable) in record {
         has = (take n Cells ++ goes.0, goes.1);
         unfit = λ valid. stops (
           drop (n + 1) Cells,
@@ -83,6 +83,6 @@ module _ (test : ℕ → ℕ → Bool) (keep : Bool) (t : Expanded) (ok : has_no
       }
 
   pub match-all : (answer : Fits) → IsMatch keep t Cells answer → AreTo (holds test) keep t bytes answer
-  match-all fits.Valid valid = valid-alike equal keep t ok Cells free test valid
-  match-all fits.NoWord none = λ has. none (viable-alike test keep t ok [] refl equal has)
+  match-all fits.Valid valid = valid-alike is_itself keep t ok Cells free test valid
+  match-all fits.NoWord none = λ has. none (viable-alike test keep t ok [] refl is_itself has)
   match-all (fits.RefusedAt n) last = refused n last

@@ -8,9 +8,9 @@ use Rattle.tm_base.specs.declared.cell.Cell.{Cell}
 use Rattle.tm_base.specs.declared.cell.Cell.TheVariants.{Uninit}
 use Rattle.tm_base.specs.Cells.{Word}
 use Rattle.tm_base.specs.Orders.{word_less}
-use Rattle.tm_base.specs.Transmutes.{holds}
+use Rattle.tm_base.specs.Transmutes.{holds, is_itself}
 use Rattle.tm_base.proofs.OrderLemmas.{word_less-asym}
-use Rattle.tm_auto.specs.Automata.{Automaton, AutoWord, IsAutomaton, ReadsWords, AreStates, reached, equal}
+use Rattle.tm_auto.specs.Automata.{Automaton, AutoWord, IsAutomaton, ReadsWords, AreStates, reached}
 use Rattle.tm_auto.specs.Paths.{Among}
 use Rattle.tm_auto.specs.Sets.{next, symbol_of, reached_from}
 use Rattle.tm_auto.proofs.AmongLemmas.{none_among}
@@ -44,7 +44,7 @@ alike_earlier v w p q l e = sym (take-padded v q p l) ∙ ap (take q) e ∙ take
 
 module _ (A : ℕ → ℕ → Bool) (src dst : Automaton) (stop : Bool → Bool → Bool) (skip : Bool → Bool) where
   abbrev pub source_of : Word → List ℕ
-  source_of u = reached equal src u
+  source_of u = reached is_itself src u
 
   abbrev pub target_of : Word → List ℕ
   target_of u = reached A dst u
@@ -70,7 +70,7 @@ module _ (A : ℕ → ℕ → Bool) (src dst : Automaton) (stop : Bool → Bool 
 
 module _ (A : ℕ → ℕ → Bool) (src dst : Automaton) (hs : IsAutomaton src) (rs : ReadsWords src) (stop : Bool → Bool → Bool) (skip : Bool → Bool) where
   abbrev source_by : Word → List ℕ
-  source_by u = reached equal src u
+  source_by u = reached is_itself src u
 
   abbrev target_by : Word → List ℕ
   target_by u = reached A dst u
@@ -101,13 +101,13 @@ module _ (A : ℕ → ℕ → Bool) (src dst : Automaton) (hs : IsAutomaton src)
   extends : (w : Word) → IsSourceWord src w → (p : ℕ) (c : Cell) (from : List ℕ) → from ≡ source_by (padded w p) → Goes A src dst p from c → (v : Word) × IsSourceWord src v × (padded v (suc p) ≡ padded w p ++ c ∷ [])
   extends w word p c from is g = elim (cases_lt p src.size) [
     | inl l ↦ (
-        let some : source_by (padded w p ++ c ∷ []) ≢ [] = λ e. g.0 l (ap (λ (z : List ℕ). source_step A src dst z (symbol_of c)) is ∙ sym (reached_more equal src (padded w p) c) ∙ e) in
+        let some : source_by (padded w p ++ c ∷ []) ≢ [] = λ e. g.0 l (ap (λ (z : List ℕ). source_step A src dst z (symbol_of c)) is ∙ sym (reached_more is_itself src (padded w p) c) ∙ e) in
         let (v, more) = (rs.source (padded w p ++ c ∷ [])).0 some in
         let long : length (padded w p ++ c ∷ []) ≡ suc p = length-append (padded w p) (c ∷ []) ∙ (let z = length-padded w p in omega arith) in
         ((padded w p ++ c ∷ []) ++ v, more, subst (λ (n : ℕ). padded ((padded w p ++ c ∷ []) ++ v) n ≡ padded w p ++ c ∷ []) long (padded_front (padded w p ++ c ∷ []) v)))
     | inr l ↦ (
         let u : c ≡ Uninit = g.1 l in
-        let size = hs.sized equal w word in
+        let size = hs.sized is_itself w word in
         let past = cell_past w p (omega arith) in
         (w, word, padded_more w p ∙ ap (λ (z : Cell). padded w p ++ z ∷ []) (past ∙ sym u)))
   ]
@@ -118,7 +118,7 @@ module _ (A : ℕ → ℕ → Bool) (src dst : Automaton) (hs : IsAutomaton src)
   pub means : (older : List (List Entry)) (layer : List Entry) → Chain older layer → (k : ℕ) (e : Entry) → slice_get layer k ≡ Some e → Means older layer k e
   means [] layer c k e h =
       let (z, a, b, n) = c.each k e h in
-      let (w, word) = (rs.source []).0 (λ q. n (sym (rs.begins equal) ∙ q)) in
+      let (w, word) = (rs.source []).0 (λ q. n (sym (rs.begins is_itself) ∙ q)) in
       record { whole = w; word = word; front = refl; source = a; target = b; passes = λ q l. absurd (omega arith) }
   means (l ∷ older) layer (next, none, c) k e h =
       let f = next.from e (get_among layer k e h) in
@@ -130,7 +130,7 @@ module _ (A : ℕ → ℕ → Bool) (src dst : Automaton) (hs : IsAutomaton src)
         whole = w;
         word = word;
         front = at_entry l older layer k e h ∙ ap (λ (z : Word). z ++ e.cell ∷ []) m.front ∙ sym more;
-        source = f.step.source ∙ ap (λ (z : List ℕ). source_step A src dst z (symbol_of e.cell)) m.source ∙ sym (reached_more equal src (padded m.whole p) e.cell) ∙ ap source_by (sym more);
+        source = f.step.source ∙ ap (λ (z : List ℕ). source_step A src dst z (symbol_of e.cell)) m.source ∙ sym (reached_more is_itself src (padded m.whole p) e.cell) ∙ ap source_by (sym more);
         target = f.step.target ∙ ap (λ (z : List ℕ). target_step A src dst z (symbol_of e.cell)) m.target ∙ sym (reached_more A dst (padded m.whole p) e.cell) ∙ ap target_by (sym more);
         passes = λ q less. elim (cases_lt q p) [
           | inl lt ↦ (
@@ -176,11 +176,11 @@ module _ (A : ℕ → ℕ → Bool) (src dst : Automaton) (hs : IsAutomaton src)
   -- the next cell of a source word may stand there
   goes_next : (w : Word) → IsSourceWord src w → (p : ℕ) (from : List ℕ) → from ≡ source_by (padded w p) → Goes A src dst p from (cell_at w p)
   goes_next w word p from is =
-      let size = hs.sized equal w word in (
+      let size = hs.sized is_itself w word in (
         λ l e. (
             let (t, split) = padded_within w (suc p) (omega arith) in
-            let some : source_by (padded w (suc p)) ≢ [] = (rs.source (padded w (suc p))).1 (t, subst (λ (z : Word). AutoWord (holds equal) src z) split word) in
-            some (ap source_by (padded_more w p) ∙ reached_more equal src (padded w p) (cell_at w p) ∙ ap (λ (z : List ℕ). source_step A src dst z (symbol_of (cell_at w p))) (sym is) ∙ e)),
+            let some : source_by (padded w (suc p)) ≢ [] = (rs.source (padded w (suc p))).1 (t, subst (λ (z : Word). AutoWord (holds is_itself) src z) split word) in
+            some (ap source_by (padded_more w p) ∙ reached_more is_itself src (padded w p) (cell_at w p) ∙ ap (λ (z : List ℕ). source_step A src dst z (symbol_of (cell_at w p))) (sym is) ∙ e)),
         λ l. cell_past w p (omega arith),
       )
 
@@ -203,7 +203,7 @@ module _ (A : ℕ → ℕ → Bool) (src dst : Automaton) (hs : IsAutomaton src)
         place = k;
         entry = r.entry;
         at = at;
-        source = r.source ∙ ap (λ (z : List ℕ). source_step A src dst z (symbol_of d)) x.source ∙ sym (reached_more equal src (padded w p) d) ∙ ap source_by (sym (padded_more w p));
+        source = r.source ∙ ap (λ (z : List ℕ). source_step A src dst z (symbol_of d)) x.source ∙ sym (reached_more is_itself src (padded w p) d) ∙ ap source_by (sym (padded_more w p));
         target = r.target ∙ ap (λ (z : List ℕ). target_step A src dst z (symbol_of d)) x.target ∙ sym (reached_more A dst (padded w p) d) ∙ ap target_by (sym (padded_more w p));
         least = rw (padded_more w p, at_entry l older layer k r.entry at)
             (elim r.early [
@@ -289,6 +289,6 @@ module _ (A : ℕ → ℕ → Bool) (src dst : Automaton) (hs : IsAutomaton src)
       (subst (AreStates src) (sym a) hs.below, subst (AreStates dst) (sym b) hd.below)
   states hd (l ∷ older) layer (next, none, c) e m =
       let f = next.from e m in (
-        subst (AreStates src) (sym f.step.source) (next_states equal (symbol_of e.cell) src hs f.pair.src),
+        subst (AreStates src) (sym f.step.source) (next_states is_itself (symbol_of e.cell) src hs f.pair.src),
         subst (AreStates dst) (sym f.step.target) (next_states A (symbol_of e.cell) dst hd f.pair.dst),
       )

@@ -5,9 +5,9 @@ use Rattle.std.proofs.lemmas.List.{take-append-le, take_all}
 use Rattle.tm_base.specs.declared.cell.Cell.{Cell}
 use Rattle.tm_base.specs.Cells.{Word}
 use Rattle.tm_base.specs.Orders.{cell_less, word_less}
-use Rattle.tm_base.specs.Transmutes.{holds}
+use Rattle.tm_base.specs.Transmutes.{holds, is_itself}
 use Rattle.tm_base.proofs.OrderLemmas.{cell_less-total, word_less-asym}
-use Rattle.tm_auto.specs.Automata.{Automaton, AutoWord, IsAutomaton, ReadsWords, reached, equal}
+use Rattle.tm_auto.specs.Automata.{Automaton, AutoWord, IsAutomaton, ReadsWords, reached}
 use Rattle.tm_auto.specs.Classes.{TakesFrom}
 use Rattle.tm_auto.specs.Least.{IsLeastCell}
 use Rattle.tm_auto.specs.Paths.{Among}
@@ -32,24 +32,24 @@ pub record IsBegun (src : Automaton) (cells begun : Word) : Type 0 where
   pub least : (v : Word) → IsSourceWord src v → padded v (length cells) ≡ cells → (padded v (length begun) ≡ begun) ⊎ (word_less begun (padded v (length begun)) ≡ true)
 
 module _ (src : Automaton) (hs : IsAutomaton src) (rs : ReadsWords src) where
-  taken : (from : List ℕ) (c : Cell) → TakesFrom src from c ↔ (next equal src.edges from (symbol_of c) ≢ [])
+  taken : (from : List ℕ) (c : Cell) → TakesFrom src from c ↔ (next is_itself src.edges from (symbol_of c) ≢ [])
   taken from c = (
-    λ (e, (ea, ef), t) none. none_among (subst (λ (z : List ℕ). Among e.to z) none (to_next equal src.edges from (symbol_of c) e ea ef ((passes_takes equal e.label c).1 t))),
-    λ some. (let (s, m) = some_among _ some in let (e, ea, ef, ep, eq) = next_to equal src.edges from (symbol_of c) s m in (e, (ea, ef), (passes_takes equal e.label c).0 ep)),
+    λ (e, (ea, ef), t) none. none_among (subst (λ (z : List ℕ). Among e.to z) none (to_next is_itself src.edges from (symbol_of c) e ea ef ((passes_takes is_itself e.label c).1 t))),
+    λ some. (let (s, m) = some_among _ some in let (e, ea, ef, ep, eq) = next_to is_itself src.edges from (symbol_of c) s m in (e, (ea, ef), (passes_takes is_itself e.label c).0 ep)),
   )
 
   -- the next cell of a source word is taken where the cells before it lead
-  pub next_taken : (w : Word) → IsSourceWord src w → (p : ℕ) → p < src.size → TakesFrom src (reached equal src (padded w p)) (cell_at w p)
+  pub next_taken : (w : Word) → IsSourceWord src w → (p : ℕ) → p < src.size → TakesFrom src (reached is_itself src (padded w p)) (cell_at w p)
   next_taken w word p l =
-      let size = hs.sized equal w word in
+      let size = hs.sized is_itself w word in
       let (t, split) = padded_within w (suc p) (omega arith) in
-      let some = (rs.source (padded w (suc p))).1 (t, subst (λ (z : Word). AutoWord (holds equal) src z) split word) in
-      (taken (reached equal src (padded w p)) (cell_at w p)).1 (λ e. some (ap (reached equal src) (padded_more w p) ∙ reached_more equal src (padded w p) (cell_at w p) ∙ e))
+      let some = (rs.source (padded w (suc p))).1 (t, subst (λ (z : Word). AutoWord (holds is_itself) src z) split word) in
+      (taken (reached is_itself src (padded w p)) (cell_at w p)).1 (λ e. some (ap (reached is_itself src) (padded_more w p) ∙ reached_more is_itself src (padded w p) (cell_at w p) ∙ e))
 
   same_word : (v w : Word) → IsSourceWord src v → IsSourceWord src w → (n : ℕ) → src.size ≤ n → padded v n ≡ padded w n → v ≡ w
   same_word v w x y n l e =
-      let a = hs.sized equal v x in
-      let b = hs.sized equal w y in
+      let a = hs.sized is_itself v x in
+      let b = hs.sized is_itself w y in
       sym (padded_self v) ∙ ap (padded v) a ∙ alike_earlier v w n src.size l e ∙ ap (padded w) (sym b) ∙ padded_self w
 
   -- the cells, cut at the source's end
@@ -78,10 +78,10 @@ module _ (src : Automaton) (hs : IsAutomaton src) (rs : ReadsWords src) where
       }
 
   -- one cell more: the least that may come next
-  pub go_on : (cells begun : Word) (c : Cell) → IsBegun src cells begun → length begun < src.size → IsLeastCell src (reached equal src begun) c → IsBegun src cells (begun ++ c ∷ [])
+  pub go_on : (cells begun : Word) (c : Cell) → IsBegun src cells begun → length begun < src.size → IsLeastCell src (reached is_itself src begun) c → IsBegun src cells (begun ++ c ∷ [])
   go_on cells begun c b l least =
       let long : length (begun ++ c ∷ []) ≡ suc (length begun) = length-append begun (c ∷ []) ∙ (omega arith) in
-      let some : reached equal src (begun ++ c ∷ []) ≢ [] = λ e. (taken (reached equal src begun) c).0 least.taken (sym (reached_more equal src begun c) ∙ e) in
+      let some : reached is_itself src (begun ++ c ∷ []) ≢ [] = λ e. (taken (reached is_itself src begun) c).0 least.taken (sym (reached_more is_itself src begun c) ∙ e) in
       let (t, word) = (rs.source (begun ++ c ∷ [])).0 some in
       let w = (begun ++ c ∷ []) ++ t in
       let back : (v : Word) → padded v (length (begun ++ c ∷ [])) ≡ begun ++ c ∷ [] → padded v (length begun) ≡ begun = λ v e.
@@ -97,7 +97,7 @@ module _ (src : Automaton) (hs : IsAutomaton src) (rs : ReadsWords src) where
             elim (b.least v x e) [
               | inr less ↦ inr (rw more (less_begins begun (padded v (length begun)) (c ∷ []) (cell_at v (length begun) ∷ []) (sym (length-padded v (length begun))) less))
               | inl same ↦ (
-                  let t : TakesFrom src (reached equal src begun) (cell_at v (length begun)) = subst (λ (z : Word). TakesFrom src (reached equal src z) (cell_at v (length begun))) same (next_taken v x (length begun) l) in
+                  let t : TakesFrom src (reached is_itself src begun) (cell_at v (length begun)) = subst (λ (z : Word). TakesFrom src (reached is_itself src z) (cell_at v (length begun))) same (next_taken v x (length begun) l) in
                   let not_less = least.least (cell_at v (length begun)) t in
                   elim (bool_cases (cell_less c (cell_at v (length begun)))) [
                     | inl lt ↦ inr (rw (more, same) (less_behind begun (c ∷ []) (cell_at v (length begun) ∷ []) ∙ less_cell c (cell_at v (length begun)) ∙ lt))
@@ -110,14 +110,14 @@ module _ (src : Automaton) (hs : IsAutomaton src) (rs : ReadsWords src) where
   finish cells begun b l =
       let within = b.within in
       let n : length begun ≡ src.size = omega arith in
-      let size = hs.sized equal b.whole b.word in
+      let size = hs.sized is_itself b.whole b.word in
       let whole : b.whole ≡ begun = sym (padded_self b.whole) ∙ ap (padded b.whole) (size ∙ sym n) ∙ b.front in
       let word : IsSourceWord src begun = subst (IsSourceWord src) whole b.word in
       record {
         word = word;
         begins = fit-padded begun (length cells) ∙ b.enough begun word (padded_self begun);
         least = λ v x e.
-            let long = hs.sized equal v x in
+            let long = hs.sized is_itself v x in
             let self : padded v (length begun) ≡ v = ap (padded v) (n ∙ sym long) ∙ padded_self v in
             elim (b.least v x (sym (fit-padded v (length cells)) ∙ e)) [
               | inl same ↦ (let q : v ≡ begun = sym self ∙ same in subst (λ (z : Word). word_less z begun ≡ false) (sym q) (word_less-irreflexive begun))
@@ -126,6 +126,6 @@ module _ (src : Automaton) (hs : IsAutomaton src) (rs : ReadsWords src) where
       }
 
   -- some cell may come next
-  pub next_some : (cells begun : Word) → IsBegun src cells begun → length begun < src.size → (c : Cell) × TakesFrom src (reached equal src begun) c
+  pub next_some : (cells begun : Word) → IsBegun src cells begun → length begun < src.size → (c : Cell) × TakesFrom src (reached is_itself src begun) c
   next_some cells begun b l =
-      (cell_at b.whole (length begun), subst (λ (z : Word). TakesFrom src (reached equal src z) (cell_at b.whole (length begun))) b.front (next_taken b.whole b.word (length begun) l))
+      (cell_at b.whole (length begun), subst (λ (z : Word). TakesFrom src (reached is_itself src z) (cell_at b.whole (length begun))) b.front (next_taken b.whole b.word (length begun) l))

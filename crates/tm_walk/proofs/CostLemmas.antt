@@ -4,8 +4,8 @@ use Rattle.std.specs.Prelude.{◌==◌}
 use Rattle.std.specs.List.Sorted.{IsStrictlyIncreasing}
 use Rattle.std.proofs.lemmas.Bool.{cases_lt}
 use Rattle.tm_base.specs.Cells.{Word}
-use Rattle.tm_base.specs.Transmutes.{holds}
-use Rattle.tm_auto.specs.Automata.{Automaton, AutoWord, IsAutomaton, ReadsWords, AreInLayer, HasOneStateALayer, reached, equal}
+use Rattle.tm_base.specs.Transmutes.{holds, is_itself}
+use Rattle.tm_auto.specs.Automata.{Automaton, AutoWord, IsAutomaton, ReadsWords, AreInLayer, HasOneStateALayer, reached}
 use Rattle.tm_auto.specs.Paths.{Among}
 use Rattle.tm_auto.specs.Sets.{next, symbol_of, reached_from}
 use Rattle.tm_auto.proofs.AmongLemmas.{some_among, none_or_some}
@@ -35,27 +35,27 @@ one_set A auto h r one v w l a b =
 
 module _ (A : ℕ → ℕ → Bool) (src dst : Automaton) (hs : IsAutomaton src) (rs : ReadsWords src) (hd : IsAutomaton dst) (rd : ReadsWords dst) (stop : Bool → Bool → Bool) (skip : Bool → Bool) where
   -- the source's set behind a source word is empty exactly behind its end
-  source_live : (w : Word) → IsSourceWord src w → (p : ℕ) → p ≤ src.size → reached equal src (padded w p) ≢ []
+  source_live : (w : Word) → IsSourceWord src w → (p : ℕ) → p ≤ src.size → reached is_itself src (padded w p) ≢ []
   source_live w word p l =
-      let size = hs.sized equal w word in
+      let size = hs.sized is_itself w word in
       let (t, split) = padded_within w p (omega arith) in
-      (rs.source (padded w p)).1 (t, subst (λ (z : Word). AutoWord (holds equal) src z) split word)
+      (rs.source (padded w p)).1 (t, subst (λ (z : Word). AutoWord (holds is_itself) src z) split word)
 
-  source_dead : (w : Word) (p : ℕ) → src.size < p → reached equal src (padded w p) ≡ []
-  source_dead w p l = elim (none_or_some (reached equal src (padded w p))) [
+  source_dead : (w : Word) (p : ℕ) → src.size < p → reached is_itself src (padded w p) ≡ []
+  source_dead w p l = elim (none_or_some (reached is_itself src (padded w p))) [
     | inl e ↦ e
     | inr n ↦ (
         let (v, word) = (rs.source (padded w p)).0 n in
-        let size = hs.sized equal (padded w p ++ v) word in
+        let size = hs.sized is_itself (padded w p ++ v) word in
         let a = length-append (padded w p) v in
         let b = length-padded w p in
         absurd (omega arith))
   ]
 
-  one_source : HasOneStateALayer src → (v w : Word) → IsSourceWord src v → IsSourceWord src w → (p : ℕ) → reached equal src (padded v p) ≡ reached equal src (padded w p)
+  one_source : HasOneStateALayer src → (v w : Word) → IsSourceWord src v → IsSourceWord src w → (p : ℕ) → reached is_itself src (padded v p) ≡ reached is_itself src (padded w p)
   one_source one v w x y p = elim (cases_lt src.size p) [
     | inl lt ↦ source_dead v p lt ∙ sym (source_dead w p lt)
-    | inr ge ↦ one_set equal src hs rs one (padded v p) (padded w p) (length-padded v p ∙ sym (length-padded w p)) (source_live v x p ge) (source_live w y p ge)
+    | inr ge ↦ one_set is_itself src hs rs one (padded v p) (padded w p) (length-padded v p ∙ sym (length-padded w p)) (source_live v x p ge) (source_live w y p ge)
   ]
 
   -- it goes on behind live pairs alone

@@ -5,10 +5,11 @@ use Rattle.std.proofs.lemmas.List.{drop_more, drop_all}
 use Rattle.tm_base.specs.declared.cell.Cell.{Cell}
 use Rattle.tm_base.specs.declared.cell.Cell.TheVariants as cell
 use Rattle.tm_base.specs.Orders.{cell_less}
+use Rattle.tm_base.specs.Transmutes.{is_itself}
 use Rattle.tm_auto.specs.declared.edge.Edge.{Edge}
 use Rattle.tm_auto.specs.declared.edge.Symbol.{Symbol}
 use Rattle.tm_auto.specs.declared.edge.Symbol.TheVariants as symbol
-use Rattle.tm_auto.specs.Automata.{Automaton, IsStep, equal}
+use Rattle.tm_auto.specs.Automata.{Automaton, IsStep}
 use Rattle.tm_auto.specs.Classes.{HasCell, IsFormed, AreInOrder, TakesFrom, AreClasses}
 use Rattle.tm_auto.specs.Least.{first_cell}
 use Rattle.tm_auto.specs.Paths.{Among, here, there}
@@ -43,18 +44,18 @@ module _ (A : ℕ → ℕ → Bool) (src dst : Automaton) (from to : List ℕ) (
 
   -- the symbol at a place is offered, and then those behind it
   pub offer_turn : (xs : List Symbol) (i : ℕ) (d : Symbol) → i < length xs → (s t : List ℕ) (c : Cell)
-      → IsStep equal src from (get_or xs i d) s → IsStep A dst to (get_or xs i d) t → c ≡ first_cell (get_or xs i d)
+      → IsStep is_itself src from (get_or xs i d) s → IsStep A dst to (get_or xs i d) t → c ≡ first_cell (get_or xs i d)
       → (before between after : List Entry) → IsOffered (record { src = s; dst = t; parent = k; cell = c }) before between
       → AreOffered (offers A src dst from to k (drop (i + 1) xs)) between after → AreOffered (offers A src dst from to k (drop i xs)) before after
   offer_turn xs i d l s t c hs ht hc before between after o rest =
-      let a : s ≡ source_step A src dst from (get_or xs i d) = step_is equal src from (get_or xs i d) s hs in
+      let a : s ≡ source_step A src dst from (get_or xs i d) = step_is is_itself src from (get_or xs i d) s hs in
       let b : t ≡ target_step A src dst to (get_or xs i d) = step_is A dst to (get_or xs i d) t ht in
       let same : ◌≡◌ {A = Entry} (record { src = s; dst = t; parent = k; cell = c }) (offer (get_or xs i d)) = rw (a, b, hc) refl in
       subst (λ (z : List Symbol). AreOffered (offers A src dst from to k z) before after) (sym (drop_more xs i d l))
       (between, subst (λ (z : Entry). IsOffered z before between) same o, rest)
 
   -- one symbol is offered
-  pub only_offered : (x : Symbol) (s t : List ℕ) (c : Cell) → IsStep equal src from x s → IsStep A dst to x t → c ≡ first_cell x
+  pub only_offered : (x : Symbol) (s t : List ℕ) (c : Cell) → IsStep is_itself src from x s → IsStep A dst to x t → c ≡ first_cell x
       → (before after : List Entry) → IsOffered (record { src = s; dst = t; parent = k; cell = c }) before after → AreOffered (offers A src dst from to k (x ∷ [])) before after
   only_offered x s t c hs ht hc before after o = offer_turn (x ∷ []) 0 x (omega arith) s t c hs ht hc before after after o refl
 
@@ -71,7 +72,7 @@ module _ (A : ℕ → ℕ → Bool) (src dst : Automaton) (from to : List ℕ) (
 
   module _ (xs : List Symbol) (c : AreClasses src from dst to xs) where
     source_same : (x : Symbol) (d : Cell) → Among x xs → HasCell x d → source_step A src dst from x ≡ source_step A src dst from (symbol_of d)
-    source_same x d m h = next_same equal src.edges from x (symbol_of d) (λ e em ef. c.alike equal x d e m h (inl (em, ef)))
+    source_same x d m h = next_same is_itself src.edges from x (symbol_of d) (λ e em ef. c.alike is_itself x d e m h (inl (em, ef)))
 
     target_same : (x : Symbol) (d : Cell) → Among x xs → HasCell x d → target_step A src dst to x ≡ target_step A src dst to (symbol_of d)
     target_same x d m h = next_same A dst.edges to x (symbol_of d) (λ e em ef. c.alike A x d e m h (inr (em, ef)))
@@ -79,12 +80,12 @@ module _ (A : ℕ → ℕ → Bool) (src dst : Automaton) (from to : List ℕ) (
     taken : (d : Cell) → source_step A src dst from (symbol_of d) ≢ [] → TakesFrom src from d
     taken d some =
         let (s, m) = some_among _ some in
-        let (e, ea, ef, ep, eq) = next_to equal src.edges from (symbol_of d) s m in
-        (e, (ea, ef), (passes_takes equal e.label d).0 ep)
+        let (e, ea, ef, ep, eq) = next_to is_itself src.edges from (symbol_of d) s m in
+        (e, (ea, ef), (passes_takes is_itself e.label d).0 ep)
 
     takes_on : (d : Cell) → TakesFrom src from d → source_step A src dst from (symbol_of d) ≢ []
     takes_on d (e, (ea, ef), t) none =
-        let m = to_next equal src.edges from (symbol_of d) e ea ef ((passes_takes equal e.label d).1 t) in
+        let m = to_next is_itself src.edges from (symbol_of d) e ea ef ((passes_takes is_itself e.label d).1 t) in
         none_among (subst (λ (z : List ℕ). Among e.to z) none m)
 
     steps_within : (place : ℕ) → place < src.size → (p : Entry) → p.src ≡ from → p.dst ≡ to → AreStepsFrom A src dst place p k (offers A src dst from to k xs)

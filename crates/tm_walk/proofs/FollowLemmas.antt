@@ -2,10 +2,11 @@
 use Rattle.std.proofs.Common.{◌≡◌, ℕ, ◌+◌, ◌<◌, ◌≤◌, inl, inr, Bool, true, false, List, [], length, drop, get_or, refl, sym, ap, ◌∙◌, subst, arith}
 use Rattle.tm_base.specs.declared.cell.Cell.{Cell}
 use Rattle.tm_base.specs.declared.cell.Cell.TheVariants as cell
+use Rattle.tm_base.specs.Transmutes.{is_itself}
 use Rattle.tm_auto.specs.declared.edge.Edge.{Edge}
 use Rattle.tm_auto.specs.declared.edge.Symbol.{Symbol}
 use Rattle.tm_auto.specs.declared.edge.Symbol.TheVariants as symbol
-use Rattle.tm_auto.specs.Automata.{Automaton, equal}
+use Rattle.tm_auto.specs.Automata.{Automaton}
 use Rattle.tm_auto.specs.Classes.{HasCell, IsFormed, AreClasses}
 use Rattle.tm_auto.specs.Paths.{Among}
 use Rattle.tm_auto.specs.Sets.{next, passes, symbol_of}
@@ -44,14 +45,14 @@ firsts_are src dst layer a = added_same _ _ [] layer
 -- ---- loops over edges
 
 module _ (x : Symbol) (target : List ℕ) (es : List Edge) (i : ℕ) (d : Edge) (l : i < length es) (before after : List Obligation) where
-  pub edge_taken : (between : List Obligation) (set : List ℕ) → passes equal (get_or es i d).label x ≡ true → set ≡ target
+  pub edge_taken : (between : List Obligation) (set : List ℕ) → passes is_itself (get_or es i d).label x ≡ true → set ≡ target
       → AreAdded (λ q. q ≡ record { state = (get_or es i d).to; target = set }) before between → AreAdded (OfSome (FollowsEdge x target) (drop (i + 1) es)) between after → AreAdded (OfSome (FollowsEdge x target) (drop i es)) before after
   edge_taken between set h e added rest =
       let same : ◌≡◌ {A = Obligation} (record { state = (get_or es i d).to; target = set }) (record { state = (get_or es i d).to; target = target }) = rw e refl in
       added_turn (FollowsEdge x target) es i d l before between after
       (added_same _ _ before between (λ q k. (h, k ∙ same)) (λ q k. k.1 ∙ sym same) added) rest
 
-  pub edge_left : passes equal (get_or es i d).label x ≡ false → AreAdded (OfSome (FollowsEdge x target) (drop (i + 1) es)) before after → AreAdded (OfSome (FollowsEdge x target) (drop i es)) before after
+  pub edge_left : passes is_itself (get_or es i d).label x ≡ false → AreAdded (OfSome (FollowsEdge x target) (drop (i + 1) es)) before after → AreAdded (OfSome (FollowsEdge x target) (drop i es)) before after
   edge_left h rest = added_turn (FollowsEdge x target) es i d l before before after (added_none (FollowsEdge x target (get_or es i d)) before (λ q k. (let z = k.0 in cc))) rest
 
 -- ---- loops over obligations
@@ -85,17 +86,17 @@ module _ (A : ℕ → ℕ → Bool) (src dst : Automaton) (place : ℕ) (os : Li
     by_symbol p (x, m, (o, mo, (e, em, (ep, q)))) =
         let (d, h) = some_cell x (c.formed x m) in
         let (ea, ef) = among_from o.state src.edges e em in
-        let alike = c.alike equal x d e m h (inl (ea, here_too o e mo ef)) in
+        let alike = c.alike is_itself x d e m h (inl (ea, here_too o e mo ef)) in
         let to : p.state ≡ e.to = ap (λ (z : Obligation). z.state) q in
-        (o, mo, (d, inl (within, (e, ea, ef, (passes_takes equal e.label d).0 (sym alike ∙ ep), sym to)), ap (λ (z : Obligation). z.target) q ∙ same x d m h ∙ sym (behind_own o d mo)))
+        (o, mo, (d, inl (within, (e, ea, ef, (passes_takes is_itself e.label d).0 (sym alike ∙ ep), sym to)), ap (λ (z : Obligation). z.target) q ∙ same x d m h ∙ sym (behind_own o d mo)))
 
     by_cell : (p : Obligation) → FollowsSome A src dst place os p → OfSome (λ x. FollowsGroup src x (behind x) os) xs p
     by_cell p (o, mo, (d, inr (l, u, s), q)) = absurd (omega arith)
     by_cell p (o, mo, (d, inl (l, (e, ea, ef, t, to)), q)) =
         let (x, m, h) = (c.covers d).0 (e, (ea, here_too o e mo ef), t) in
-        let alike = c.alike equal x d e m h (inl (ea, here_too o e mo ef)) in
+        let alike = c.alike is_itself x d e m h (inl (ea, here_too o e mo ef)) in
         let set : p.target ≡ behind x = q ∙ behind_own o d mo ∙ sym (same x d m h) in
-        (x, m, (o, mo, (e, from_among o.state src.edges e ea ef, (alike ∙ (passes_takes equal e.label d).1 t, λ i. record { state = sym to i; target = set i }))))
+        (x, m, (o, mo, (e, from_among o.state src.edges e ea ef, (alike ∙ (passes_takes is_itself e.label d).1 t, λ i. record { state = sym to i; target = set i }))))
 
     pub follows_within : (before after : List Obligation) → AreAdded (OfSome (λ x. FollowsGroup src x (behind x) os) xs) before after → AreAdded (FollowsSome A src dst place os) before after
     follows_within before after a = added_same _ _ before after by_symbol by_cell a

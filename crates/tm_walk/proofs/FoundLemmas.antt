@@ -6,8 +6,9 @@ use Rattle.std.proofs.lemmas.Bool.{cases_lt}
 use Rattle.std.proofs.lemmas.Option.{slice_get-map}
 use Rattle.tm_base.specs.Cells.{Word}
 use Rattle.tm_base.specs.Orders.{word_less}
+use Rattle.tm_base.specs.Transmutes.{is_itself}
 use Rattle.tm_base.proofs.OrderLemmas.{word_less-asym}
-use Rattle.tm_auto.specs.Automata.{Automaton, IsAutomaton, ReadsWords, reached, equal}
+use Rattle.tm_auto.specs.Automata.{Automaton, IsAutomaton, ReadsWords, reached}
 use Rattle.tm_walk.specs.declared.way.Way.{Way}
 use Rattle.tm_walk.specs.Layers.{is_live, Entry}
 use Rattle.tm_walk.specs.Numbers.{way_of}
@@ -121,8 +122,8 @@ module _ (A : ℕ → ℕ → Bool) (src dst : Automaton) (hs : IsAutomaton src)
       least = λ v s. elim (at_most cells (padded v p) (f.least v (sought_stopped v p s))) [
         | inr e ↦ l.least v s.word (fit-padded v (length cells) ∙ ap (padded v) long ∙ sym e)
         | inl less ↦ (
-            let sv = hs.sized equal v s.word in
-            let sw = hs.sized equal w l.word in
+            let sv = hs.sized is_itself v s.word in
+            let sw = hs.sized is_itself w l.word in
             let w_less : word_less w v ≡ true = padded_less w v p (sw ∙ sym sv) (subst (λ (z : Word). word_less z (padded v p) ≡ true) (sym front) less) in
             word_less-asym w v w_less)
       ];

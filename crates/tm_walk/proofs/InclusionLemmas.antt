@@ -5,10 +5,10 @@ use Rattle.std.proofs.lemmas.Bool.{cases_lt}
 use Rattle.std.proofs.lemmas.List.{drop_more, drop_all}
 use Rattle.tm_base.specs.declared.cell.Cell.TheVariants.{Uninit}
 use Rattle.tm_base.specs.Cells.{Word}
-use Rattle.tm_base.specs.Transmutes.{holds}
+use Rattle.tm_base.specs.Transmutes.{holds, is_itself}
 use Rattle.tm_auto.specs.declared.edge.Edge.{Edge}
 use Rattle.tm_auto.specs.declared.edge.Symbol.{Symbol}
-use Rattle.tm_auto.specs.Automata.{Automaton, IsAutomaton, ReadsWords, reached, equal}
+use Rattle.tm_auto.specs.Automata.{Automaton, IsAutomaton, ReadsWords, reached}
 use Rattle.tm_auto.specs.Paths.{Among, Spells}
 use Rattle.tm_auto.specs.Sets.{next, symbol_of}
 use Rattle.tm_auto.proofs.AmongLemmas.{none_among, some_among}
@@ -34,7 +34,7 @@ next_more A es from more x f s m =
 module _ (A : ℕ → ℕ → Bool) (src dst : Automaton) where
   -- the rest of a source word leads from the state to the end, and what its cells before reach in the target meets it
   pub record IsMet (place : ℕ) (w : Word) (o : Obligation) : Type 0 where
-    pub rest : Spells (holds equal) src.edges (drop place w) o.state
+    pub rest : Spells (holds is_itself) src.edges (drop place w) o.state
     pub target : AreOf o.target (reached A dst (padded w place))
 
   -- each obligation is some word's, and each word has one
@@ -54,14 +54,14 @@ module _ (A : ℕ → ℕ → Bool) (src dst : Automaton) (hs : IsAutomaton src)
         let o : Obligation = record { state = s; target = dst.starts } in
         let (p, m, i) = a.added o (record { state = word.reaches.among; target = refl }) in
         let (same, of) = implies_to p o i in
-        (p, m, record { rest = subst (λ (z : ℕ). Spells (holds equal) src.edges w z) (sym same) word.reaches.spells; target = of });
+        (p, m, record { rest = subst (λ (z : ℕ). Spells (holds is_itself) src.edges w z) (sym same) word.reaches.spells; target = of });
   }
 
   -- the word's next cell leads on to an obligation that it meets
   next_met : (place : ℕ) (w : Word) (o : Obligation) → IsSourceWord src w → IsMet A src dst place w o
       → (p : Obligation) × Follows A src dst place o p × IsMet A src dst (suc place) w p
   next_met place w o word met =
-      let size = hs.sized equal w word in
+      let size = hs.sized is_itself w word in
       let c = cell_at w place in
       let more : AreOf (next A dst.edges o.target (symbol_of c)) (reached A dst (padded w (suc place))) =
       subst (λ (z : List ℕ). AreOf (next A dst.edges o.target (symbol_of c)) z) (sym (reached_more A dst (padded w place) c) ∙ ap (reached A dst) (sym (padded_more w place)))
@@ -70,17 +70,17 @@ module _ (A : ℕ → ℕ → Bool) (src dst : Automaton) (hs : IsAutomaton src)
         | inl l ↦ (
             let less : place < length w = omega arith in
             let more_cells : place + 1 ≡ suc place = omega arith in
-            let (e, ea, ef, t, rest) = subst (λ (z : Word). Spells (holds equal) src.edges z o.state) (drop_more w place Uninit less) met.rest in (
+            let (e, ea, ef, t, rest) = subst (λ (z : Word). Spells (holds is_itself) src.edges z o.state) (drop_more w place Uninit less) met.rest in (
               record { state = e.to; target = next A dst.edges o.target (symbol_of c) },
               (c, inl (l, (e, ea, ef, t, refl)), refl),
-              record { rest = subst (λ (n : ℕ). Spells (holds equal) src.edges (drop n w) e.to) more_cells rest; target = more },
+              record { rest = subst (λ (n : ℕ). Spells (holds is_itself) src.edges (drop n w) e.to) more_cells rest; target = more },
             ))
         | inr l ↦ (
             let past : length w ≤ place = omega arith in
             let gone : drop place w ≡ drop (suc place) w = drop_all place w past ∙ sym (drop_all (suc place) w (omega arith)) in (
               record { state = o.state; target = next A dst.edges o.target (symbol_of c) },
               (c, inr (l, cell_past w place past, refl), refl),
-              record { rest = subst (λ (z : Word). Spells (holds equal) src.edges z o.state) gone met.rest; target = more },
+              record { rest = subst (λ (z : Word). Spells (holds is_itself) src.edges z o.state) gone met.rest; target = more },
             ))
       ]
 
@@ -92,7 +92,7 @@ module _ (A : ℕ → ℕ → Bool) (src dst : Automaton) (hs : IsAutomaton src)
         let (p, f, more) = next_met place w o word met in
         let (r, m, imp) = a.added p (o, n, f) in
         let (same, of) = implies_to r p imp in
-        (r, m, record { rest = subst (λ (z : ℕ). Spells (holds equal) src.edges (drop (suc place) w) z) (sym same) more.rest; target = λ s k. more.target s (of s k) });
+        (r, m, record { rest = subst (λ (z : ℕ). Spells (holds is_itself) src.edges (drop (suc place) w) z) (sym same) more.rest; target = λ s k. more.target s (of s k) });
   })
 
   -- ---- what is answered

@@ -6,11 +6,11 @@ use Rattle.std.proofs.lemmas.List.{append-nil, nil_from_length}
 use Rattle.tm_base.specs.declared.cell.Cell.{Cell}
 use Rattle.tm_base.specs.declared.cell.Cell.TheVariants.{Byte, Uninit, Ptr}
 use Rattle.tm_base.specs.Cells.{Word, own, OrOwn, or_own}
-use Rattle.tm_base.specs.Transmutes.{holds}
+use Rattle.tm_base.specs.Transmutes.{holds, is_itself}
 use Rattle.tm_auto.specs.declared.edge.Edge.{Edge}
 use Rattle.tm_auto.specs.declared.edge.Label.{Label}
 use Rattle.tm_auto.specs.declared.edge.Label.TheVariants.{Bytes, Free, Leaf}
-use Rattle.tm_auto.specs.Automata.{Automaton, AutoWord, IsViable, IsAutomaton, ReadsWords, reached, equal}
+use Rattle.tm_auto.specs.Automata.{Automaton, AutoWord, IsViable, IsAutomaton, ReadsWords, reached}
 use Rattle.tm_auto.specs.Joined.{IsNotOwn, HasNoOwn}
 use Rattle.tm_auto.specs.Labels.{Takes, CanTake}
 use Rattle.tm_auto.specs.Paths.{SpellsTo}
@@ -36,7 +36,7 @@ live_some (x ∷ xs) = (λ h q. cc, λ h. refl)
 
 -- ---- the cells of a source word are no target reference's own
 
-not_own : (p : ℕ) (l : Label) (c : Cell) → CanTake p l → Takes (holds equal) l c → IsNotOwn c
+not_own : (p : ℕ) (l : Label) (c : Cell) → CanTake p l → Takes (holds is_itself) l c → IsNotOwn c
 not_own p (Bytes low high) c can (b, lo, hi, e) = subst IsNotOwn (sym e) tt
 not_own p Free (Byte b) can h = tt
 not_own p Free Uninit can h = tt
@@ -46,7 +46,7 @@ not_own p (Leaf t k) c can (x, a, e) =
     let small : x < 2 ^ 32 = let l = can.0 in omega arith in
     subst IsNotOwn (sym e) small
 
-own_free : (auto : Automaton) → IsAutomaton auto → (w : Word) (s t : ℕ) → SpellsTo (holds equal) auto.edges w s t → HasNoOwn w
+own_free : (auto : Automaton) → IsAutomaton auto → (w : Word) (s t : ℕ) → SpellsTo (holds is_itself) auto.edges w s t → HasNoOwn w
 own_free auto h [] s t l = tt
 own_free auto h (c ∷ w) s t (e, m, f, k, l) = (not_own auto.pointer e.label c (h.takes e m) k, own_free auto h w e.to t l)
 

@@ -4,9 +4,10 @@ use Rattle.std.specs.Prelude.{◌≡◌, ◌≢◌, ℕ, zero, suc, ◌+◌, ◌
 use Rattle.tm_base.specs.declared.cell.Cell.{Cell}
 use Rattle.tm_base.specs.declared.cell.Cell.TheVariants as cell
 use Rattle.tm_base.specs.Orders.{cell_less}
+use Rattle.tm_base.specs.Transmutes.{is_itself}
 use Rattle.tm_auto.specs.declared.edge.Symbol.{Symbol}
 use Rattle.tm_auto.specs.declared.edge.Symbol.TheVariants as symbol
-use Rattle.tm_auto.specs.Automata.{Automaton, AreStates, equal}
+use Rattle.tm_auto.specs.Automata.{Automaton, AreStates}
 use Rattle.tm_auto.specs.Classes.{AreClasses}
 use Rattle.tm_auto.specs.Least.{first_cell}
 use Rattle.tm_auto.specs.Paths.{Among}
@@ -85,7 +86,7 @@ pub record IsFirstStop (stop : Bool → Bool → Bool) (at_end : Bool) (layer : 
 
 module _ (A : ℕ → ℕ → Bool) (src dst : Automaton) where
   abbrev pub source_step : List ℕ → Symbol → List ℕ
-  source_step from x = next equal src.edges from x
+  source_step from x = next is_itself src.edges from x
 
   abbrev pub target_step : List ℕ → Symbol → List ℕ
   target_step to x = next A dst.edges to x

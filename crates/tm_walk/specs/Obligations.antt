@@ -5,10 +5,10 @@ use Rattle.std.specs.Prelude.{◌≡◌, ℕ, ◌<◌, ◌≤◌, ◌⊎◌, ◌
 use Rattle.std.specs.List.{list_all}
 use Rattle.tm_base.specs.declared.cell.Cell.{Cell}
 use Rattle.tm_base.specs.declared.cell.Cell.TheVariants.{Uninit}
-use Rattle.tm_base.specs.Transmutes.{holds}
+use Rattle.tm_base.specs.Transmutes.{holds, is_itself}
 use Rattle.tm_auto.specs.declared.edge.Edge.{Edge}
 use Rattle.tm_auto.specs.declared.edge.Symbol.{Symbol}
-use Rattle.tm_auto.specs.Automata.{Automaton, AreStates, edges_from, equal}
+use Rattle.tm_auto.specs.Automata.{Automaton, AreStates, edges_from}
 use Rattle.tm_auto.specs.Labels.{Takes}
 use Rattle.tm_auto.specs.Paths.{Among}
 use Rattle.tm_auto.specs.Sets.{has_state, next, passes, symbol_of, with_state}
@@ -71,7 +71,7 @@ module _ (src dst : Automaton) where
 
 -- the edge passes the symbol and leads to the state of an obligation, which is of the set
 abbrev pub FollowsEdge : Symbol → List ℕ → Edge → Obligation → Type 0
-FollowsEdge x target e p = (passes equal e.label x ≡ true) × (p ≡ record { state = e.to; target = target })
+FollowsEdge x target e p = (passes is_itself e.label x ≡ true) × (p ≡ record { state = e.to; target = target })
 
 module _ (src : Automaton) where
   -- an edge out of the state does
@@ -87,7 +87,7 @@ module _ (A : ℕ → ℕ → Bool) (src dst : Automaton) where
   -- cells follow, and the end stays.
   abbrev pub Moves : ℕ → ℕ → Cell → ℕ → Type 0
   Moves place s c t =
-      ((place < src.size) × ((e : Edge) × Among e src.edges × (e.from ≡ s) × Takes (holds equal) e.label c × (e.to ≡ t)))
+      ((place < src.size) × ((e : Edge) × Among e src.edges × (e.from ≡ s) × Takes (holds is_itself) e.label c × (e.to ≡ t)))
       ⊎ ((src.size ≤ place) × (c ≡ Uninit) × (t ≡ s))
 
   -- the second is what becomes of the first behind some cell

@@ -2,12 +2,12 @@
 use Rattle.std.specs.Prelude.{◌≡◌, ◌≢◌, ℕ, ◌<◌, ◌≤◌, ◌⊎◌, ◌==◌, ◌↔◌, Bool, false, IsTrue, take}
 use Rattle.tm_base.specs.Cells.{Word, fit}
 use Rattle.tm_base.specs.Orders.{word_less}
-use Rattle.tm_base.specs.Transmutes.{holds}
-use Rattle.tm_auto.specs.Automata.{Automaton, AutoWord, IsViable, equal}
+use Rattle.tm_base.specs.Transmutes.{holds, is_itself}
+use Rattle.tm_auto.specs.Automata.{Automaton, AutoWord, IsViable}
 
 -- a word of the source, whose references are its own
 abbrev pub IsSourceWord : Automaton → Word → Type 0
-IsSourceWord src w = AutoWord (holds equal) src w
+IsSourceWord src w = AutoWord (holds is_itself) src w
 
 -- What the target's bytes hold where the word was written is viable up to the place: its cells before
 -- the place begin a word of the target. A says which source reference may be taken as which target

@@ -1,6 +1,7 @@
 //! One layer from the layer before it.
 ghost use Rattle.std.specs.Prelude.{◌≡◌, ℕ, ◌+◌, ◌<◌, ◌≤◌, [], ◌∷◌, ◌⊎◌, IfOk, OnOk, IfSome, length, slice_get, Some};
-ghost use Rattle.tm_auto.specs.Automata.{AreStates, IsStep, equal};
+ghost use Rattle.tm_base.specs.Transmutes.{is_itself};
+ghost use Rattle.tm_auto.specs.Automata.{AreStates, IsStep};
 ghost use Rattle.tm_auto.specs.Paths.{Among};
 ghost use Rattle.tm_walk.specs.Layers.{Entry, HasStates, AreSymbols, AreOffered, IsExpanded, IsNext, offers, weight_at, weights, IsStart};
 
@@ -62,7 +63,7 @@ impl<'a, Q: Quantifier, M: RefTest> Walk<'a, Q, M> {
             (M.test self.now.refs.now) self.now.src.now self.now.dst.now
             place from.now to.now (step.symbol ∷ [])) }
         ensures source { IfSome result (λ step.
-            IsStep equal self.now.src.now from.now step.symbol step.src) }
+            IsStep is_itself self.now.src.now from.now step.symbol step.src) }
         ensures target { IfSome result (λ step.
             IsStep (M.test self.now.refs.now) self.now.dst.now to.now step.symbol step.dst) }
     {

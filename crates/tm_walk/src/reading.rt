@@ -1,6 +1,7 @@
 ghost use Rattle.std.specs.Prelude.{◌≡◌, [], ◌∷◌, ◌++◌, IfOk, OnOk, OnErr};
 ghost use Rattle.tm_base.specs.declared.cell.Cell.{Cell};
-ghost use Rattle.tm_auto.specs.Automata.{AreStates, reached, equal};
+ghost use Rattle.tm_base.specs.Transmutes.{is_itself};
+ghost use Rattle.tm_auto.specs.Automata.{AreStates, reached};
 ghost use Rattle.tm_auto.specs.Classes.{TakesFrom};
 ghost use Rattle.tm_walk.specs.Words.{IsWithLeast};
 
@@ -14,7 +15,7 @@ pub struct Reading<'a> {
     pub src: &'a Auto,
     pub word: Word,
     pub set: StateSet,
-    pub ghost reached: { set ≡ reached equal src.now word },
+    pub ghost reached: { set ≡ reached is_itself src.now word },
     pub ghost states: { AreStates src.now set },
 }
 

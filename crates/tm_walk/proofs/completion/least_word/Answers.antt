@@ -1,7 +1,8 @@
 use Rattle.std.proofs.Common.{◌≡◌, ◌<◌, ◌≤◌, ℕ, ◌∙◌, sym, ap, subst, arith, List, length, take, min}
 use Rattle.std.proofs.lemmas.List.{take_all}
 use Rattle.tm_base.specs.declared.cell.Cell.{Cell}
-use Rattle.tm_auto.specs.Automata.{Automaton, reached, equal}
+use Rattle.tm_base.specs.Transmutes.{is_itself}
+use Rattle.tm_auto.specs.Automata.{Automaton, reached}
 use Rattle.tm_auto.specs.Classes.{TakesFrom}
 use Rattle.tm_walk.specs.Words.{IsWithLeast}
 use Rattle.tm_walk.proofs.CompletionLemmas.{begin, go_on, next_some, finish}
@@ -20,15 +21,15 @@ read_least-requires c =
     let src = c.args.src.now in
     let l : length c.rest.reading.word < src.size = (let t = c.rest-test.true in let e = c.len.ensures in let z = c.size-size.ensures in omega arith) in
     let some = next_some src c.law.ensures.automaton c.law.ensures.reads c.args.cells.now c.rest.reading.word c.rest.invariant.begun l in
-    let at : c.rest.reading.set ≡ reached equal src c.rest.reading.word = c.rest.reading.reached ∙ ap (λ (a : Automaton). reached equal a c.rest.reading.word) c.rest.invariant.src in
+    let at : c.rest.reading.set ≡ reached is_itself src c.rest.reading.word = c.rest.reading.reached ∙ ap (λ (a : Automaton). reached is_itself a c.rest.reading.word) c.rest.invariant.src in
     subst (λ (a : Automaton). (x : Cell) × TakesFrom a c.rest.reading.set x) (sym c.rest.invariant.src) (subst (λ (z : List ℕ). (x : Cell) × TakesFrom src z x) (sym at) some)
 
 pub rest-preserved : goal.rest-preserved
 rest-preserved c =
     let src = c.args.src.now in
     let l : length c.rest.reading.word < src.size = (let t = c.rest-test.true in let e = c.len.ensures in let z = c.size-size.ensures in omega arith) in
-    let at : c.rest.reading.set ≡ reached equal src c.rest.reading.word = c.rest.reading.reached ∙ ap (λ (a : Automaton). reached equal a c.rest.reading.word) c.rest.invariant.src in
-    let next : IsWithLeast src (reached equal src c.rest.reading.word) c.rest.reading.word c.read_least.new.self.word =
+    let at : c.rest.reading.set ≡ reached is_itself src c.rest.reading.word = c.rest.reading.reached ∙ ap (λ (a : Automaton). reached is_itself a c.rest.reading.word) c.rest.invariant.src in
+    let next : IsWithLeast src (reached is_itself src c.rest.reading.word) c.rest.reading.word c.read_least.new.self.word =
     subst (λ (z : List ℕ). IsWithLeast src z c.rest.reading.word c.read_least.new.self.word) at
     (subst (λ (a : Automaton). IsWithLeast a c.rest.reading.set c.rest.reading.word c.read_least.new.self.word) c.rest.invariant.src c.in_ok-read_least.ensures.word) in
     record {
