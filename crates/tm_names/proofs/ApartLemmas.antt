@@ -17,7 +17,7 @@ use Rattle.tm_names.specs.ApartNames.{HasApartNames, is_own_name, is_region_name
 use Rattle.tm_names.specs.Faults.{HasNoFault, lifetime_lists, name_lists}
 use Rattle.tm_names.specs.Resolutions.{def_of, resolved_of}
 use Rattle.tm_names.specs.Written.{is_among, name_at}
-use Rattle.tm_parse.proofs.DeclaredClasses.{Declares, declared_kept}
+use Rattle.tm_parse.proofs.bounds.DeclaredClasses.{Declares, declared_kept}
 use Rattle.tm_parse.specs.Parsing.{SpellsFile}
 use Rattle.tm_parse.specs.Spelling.{terminals_of}
 use Rattle.tm_parse.specs.declared.parsed.Decl.{Decl}

@@ -15,10 +15,10 @@ use Rattle.tm_names.specs.Faults.{HasNoFault}
 use Rattle.tm_names.specs.InForm.{IsInForm, are_defs_typed, is_variant_typed}
 use Rattle.tm_names.specs.Resolutions.{ask_of, decl_types, def_of, field_of, field_type, resolved_of, variant_of, variant_types}
 use Rattle.tm_lex.specs.declared.token.Token.{Token}
-use Rattle.tm_parse.proofs.Carried.{terminals_carry}
-use Rattle.tm_parse.proofs.PlaceBounds.{places_kept, terminals_placed}
+use Rattle.tm_parse.proofs.bounds.IntegerTerminals.{terminals_carry}
+use Rattle.tm_parse.proofs.bounds.PlaceBounds.{places_kept, terminals_placed}
 use Rattle.tm_parse.specs.Places.{EachPlace}
-use Rattle.tm_parse.proofs.WithinLimits.{within_limits}
+use Rattle.tm_parse.proofs.bounds.WithinLimits.{within_limits}
 use Rattle.tm_parse.specs.Bounds.{IsWithinLimits}
 use Rattle.tm_parse.specs.Parsing.{SpellsFile}
 use Rattle.tm_parse.specs.Spelling.{terminals_of}

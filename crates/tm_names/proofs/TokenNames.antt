@@ -20,9 +20,9 @@ use Rattle.tm_names.proofs.Members.{Member, from_numbered, member_from_get}
 use Rattle.tm_names.proofs.TypeFormLemmas.{of_member}
 use Rattle.tm_names.specs.ApartNames.{is_own_name, is_quoted, is_region_name, is_word, is_word_byte, taken_words}
 use Rattle.tm_names.specs.Written.{bytes_of, name_at}
-use Rattle.tm_parse.proofs.LookedUp.{mark_no_lifetime, mark_no_name, word_no_lifetime}
+use Rattle.tm_parse.proofs.grammar.LookedUp.{mark_no_lifetime, mark_no_name, word_no_lifetime}
 use Rattle.tm_parse.specs.Classes.{among}
-use Rattle.tm_parse.proofs.DeclaredClasses.{Suits}
+use Rattle.tm_parse.proofs.bounds.DeclaredClasses.{Suits}
 use Rattle.tm_parse.specs.Spelling.{class_as, terminal_of, terminals_of, word_class}
 use Rattle.tm_parse.specs.Types.{definition_names}
 use Rattle.tm_parse.specs.declared.class.Class.TheVariants as c

@@ -53,7 +53,7 @@ impl<'a> Reader<'a> {
 
     /// A type with so many types around it.
     #[cycle(ty)]
-    #[tactic(auto, using(crate::proofs::Levels::type_none, crate::proofs::Levels::type_here, crate::proofs::Levels::type_fine))]
+    #[tactic(auto, using(crate::proofs::grammar::Levels::type_none, crate::proofs::grammar::Levels::type_here, crate::proofs::grammar::Levels::type_fine))]
     pub fn ty(&mut self, depth: u32) -> Result<Expr, Stop>
         requires { depth ≤ 32 }
         ensures { Reads (type_at depth 0) self.old self.new result }

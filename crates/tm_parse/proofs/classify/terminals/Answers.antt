@@ -1,4 +1,4 @@
-use Rattle.tm_parse.proofs.Spans.{token_spans}
+use Rattle.tm_parse.proofs.bounds.Spans.{token_spans}
 use Rattle.tm_parse.proofs.classify.terminals.Goals as goal
 
 pub terminal-requires-clause-before : goal.terminal-requires-clause-before

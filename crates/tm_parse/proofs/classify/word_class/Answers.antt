@@ -1,5 +1,5 @@
 use Rattle.std.proofs.Common.{ap, ◌∙◌}
-use Rattle.tm_parse.proofs.Tables.{words_are_known}
+use Rattle.tm_parse.proofs.grammar.Tables.{words_are_known}
 use Rattle.tm_parse.specs.Spelling.{class_in, word_class}
 use Rattle.tm_parse.specs.declared.class.Class.TheVariants.{Name}
 use Rattle.tm_parse.proofs.classify.word_class.Goals as goal

@@ -1,5 +1,5 @@
 use Rattle.std.specs.Prelude.{IsTrue}
-use Rattle.tm_parse.proofs.DeclaredClasses.{declared_kept}
+use Rattle.tm_parse.proofs.bounds.DeclaredClasses.{declared_kept}
 use Rattle.tm_parse.proofs.laws.files_declare_names.Goals as goal
 
 pub returns-clause-names : goal.returns-clause-names

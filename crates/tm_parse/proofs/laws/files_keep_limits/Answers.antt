@@ -1,7 +1,7 @@
 use Rattle.std.specs.Prelude.{◌<◌}
-use Rattle.tm_parse.proofs.FileBounds.{has_few_items}
-use Rattle.tm_parse.proofs.PlaceBounds.{places_kept}
-use Rattle.tm_parse.proofs.WithinLimits.{variants_kept, parts_kept, types_kept, integers_kept, lengths_kept}
+use Rattle.tm_parse.proofs.bounds.FileBounds.{has_few_items}
+use Rattle.tm_parse.proofs.bounds.PlaceBounds.{places_kept}
+use Rattle.tm_parse.proofs.bounds.WithinLimits.{variants_kept, parts_kept, types_kept, integers_kept, lengths_kept}
 use Rattle.tm_parse.proofs.laws.files_keep_limits.Goals as goal
 
 pub returns-clause-items : goal.returns-clause-items

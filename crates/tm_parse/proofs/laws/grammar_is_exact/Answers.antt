@@ -1,4 +1,4 @@
-use Rattle.tm_parse.proofs.AcceptedLaws.{answer_is_said, file_said, one_said, fault_said, limit_said}
+use Rattle.tm_parse.proofs.reading.AcceptedLaws.{answer_is_said, file_said, one_said, fault_said, limit_said}
 use Rattle.tm_parse.proofs.laws.grammar_is_exact.Goals as goal
 
 pub returns-clause-file : goal.returns-clause-file

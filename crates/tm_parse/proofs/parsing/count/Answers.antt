@@ -1,6 +1,6 @@
 use Rattle.std.proofs.Common.{ap, sym, ◌∙◌}
 use Rattle.std.specs.Option.{option_copied}
-use Rattle.tm_parse.proofs.Spans.{tokens_end}
+use Rattle.tm_parse.proofs.bounds.Spans.{tokens_end}
 use Rattle.tm_parse.proofs.parsing.count.Goals as goal
 
 pub count_to-requires : goal.count_to-requires

@@ -1,9 +1,9 @@
 use Rattle.std.proofs.Common.{ap, length, subst, sym, ◌∙◌}
-use Rattle.tm_parse.proofs.Carried.{terminals_carry}
-use Rattle.tm_parse.proofs.WithinLimits.{within_returned, places_returned}
-use Rattle.tm_parse.proofs.PlaceBounds.{terminals_placed}
-use Rattle.tm_parse.proofs.Returning.{file_returned, cause_returned, spelled_returned, fault_returned, limit_returned}
-use Rattle.tm_parse.proofs.Spans.{terminals_length}
+use Rattle.tm_parse.proofs.bounds.IntegerTerminals.{terminals_carry}
+use Rattle.tm_parse.proofs.bounds.WithinLimits.{within_returned, places_returned}
+use Rattle.tm_parse.proofs.bounds.PlaceBounds.{terminals_placed}
+use Rattle.tm_parse.proofs.reading.Returning.{file_returned, cause_returned, spelled_returned, fault_returned, limit_returned}
+use Rattle.tm_parse.proofs.bounds.Spans.{terminals_length}
 use Rattle.tm_parse.proofs.parsing.parse.Goals as goal
 use Rattle.tm_parse.specs.Parsing.{IsAnswered}
 

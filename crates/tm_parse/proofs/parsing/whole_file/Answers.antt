@@ -1,5 +1,5 @@
 use Rattle.std.proofs.Common.{subst, Err}
-use Rattle.tm_parse.proofs.Returning.{left_within}
+use Rattle.tm_parse.proofs.reading.Returning.{left_within}
 use Rattle.tm_parse.proofs.parsing.whole_file.Goals as goal
 use Rattle.tm_parse.specs.Files.{file}
 use Rattle.tm_parse.specs.Parts.{Done, Stuck, Passed}

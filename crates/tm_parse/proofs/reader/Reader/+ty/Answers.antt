@@ -2,8 +2,8 @@ use Rattle.std.proofs.Common.{rules, ◌≡◌, ◌+◌, ◌-◌, ◌<◌, sym, 
 use Rattle.tm_parse.specs.Combinators.{mapped}
 use Rattle.tm_parse.specs.Shapes.{with_comma}
 use Rattle.tm_parse.specs.Types.{type_at}
-use Rattle.tm_parse.proofs.Loops.{turn_ends, turn_spent, turn_stops, turn_last, turn_next, comma_read, comma_stops, item_stops}
-use Rattle.tm_parse.proofs.LifetimesThen.{arguments_read, then_stops, then_closed, then_none, then_some, then_some_stops}
+use Rattle.tm_parse.proofs.reading.Loops.{turn_ends, turn_spent, turn_stops, turn_last, turn_next, comma_read, comma_stops, item_stops}
+use Rattle.tm_parse.proofs.grammar.LifetimesThen.{arguments_read, then_stops, then_closed, then_none, then_some, then_some_stops}
 use Rattle.tm_parse.proofs.reader.Reader.+ty.Goals as goal
 use Rattle.tm_parse.proofs.reader.Reader.+ty.Goals.{argument_list-then-not-is_open-via-then-not-is_open, argument_list-then-not-is_open-via-else-not-is_open+then-not-is_type_next}
 

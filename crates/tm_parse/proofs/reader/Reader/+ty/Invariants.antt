@@ -1,7 +1,7 @@
 use Rattle.std.proofs.Common.{◌+◌, ◌*◌, ◌-◌, length}
 use Rattle.tm_parse.specs.Shapes.{listed, with_comma}
 use Rattle.tm_parse.specs.Types.{type_at}
-use Rattle.tm_parse.proofs.Loops.{put_before, Goes}
+use Rattle.tm_parse.proofs.reading.Loops.{put_before, Goes}
 use Rattle.tm_parse.proofs.reader.Reader.+ty.Given as goal
 
 abbrev pub decreases-ty : goal.decreases-ty

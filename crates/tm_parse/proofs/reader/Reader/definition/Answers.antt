@@ -1,5 +1,5 @@
 use Rattle.std.proofs.Common.{subst, sym}
-use Rattle.tm_parse.proofs.BehindAttributes.{both_read}
+use Rattle.tm_parse.proofs.grammar.BehindAttributes.{both_read}
 use Rattle.tm_parse.proofs.reader.Reader.definition.Goals as goal
 use Rattle.tm_parse.specs.Definitions.{attribute, headed_any, together, visibility}
 use Rattle.tm_parse.specs.Reads.{Comes}

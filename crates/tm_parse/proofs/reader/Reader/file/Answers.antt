@@ -1,6 +1,6 @@
 use Rattle.std.proofs.Common.{rules, ◌≡◌, ◌+◌, ◌-◌, ◌<◌, refl, sym, ap, ◌∙◌, true, [], ◌∷◌, ◌++◌, length, arith}
-use Rattle.tm_parse.proofs.Kept.{all_items, part, kept_done, kept_next}
-use Rattle.tm_parse.proofs.Loops.{turn_ends, turn_spent, turn_stops, turn_next, mapped_stops}
+use Rattle.tm_parse.proofs.reading.ItemsBySort.{all_items, part, kept_done, kept_next}
+use Rattle.tm_parse.proofs.reading.Loops.{turn_ends, turn_spent, turn_stops, turn_next, mapped_stops}
 use Rattle.tm_parse.proofs.reader.Reader.file.Goals as goal
 use Rattle.tm_parse.specs.Combinators.{mapped}
 use Rattle.tm_parse.specs.Files.{item, sorted}

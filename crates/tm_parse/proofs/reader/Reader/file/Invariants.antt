@@ -1,5 +1,5 @@
 use Rattle.std.proofs.Common.{◌-◌, length}
-use Rattle.tm_parse.proofs.Kept.{Keeps, all_items}
+use Rattle.tm_parse.proofs.reading.ItemsBySort.{Keeps, all_items}
 use Rattle.tm_parse.proofs.reader.Reader.file.Given as goal
 
 abbrev pub invariant-loop : goal.invariant-loop

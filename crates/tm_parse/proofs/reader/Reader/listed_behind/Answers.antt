@@ -1,5 +1,5 @@
 use Rattle.std.proofs.Common.{rules, ap, ◌∙◌}
-use Rattle.tm_parse.proofs.SoFar.{listed_same, listed_stops}
+use Rattle.tm_parse.proofs.reading.SoFar.{listed_same, listed_stops}
 use Rattle.tm_parse.proofs.reader.Reader.listed_behind.Goals as goal
 use Rattle.tm_parse.specs.Combinators.{mapped}
 

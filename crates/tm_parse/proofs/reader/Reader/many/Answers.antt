@@ -1,6 +1,6 @@
 use Rattle.std.proofs.Common.{rules, ◌≡◌, ◌+◌, ◌-◌, ◌<◌, sym, ap, ◌∙◌, true, length, arith}
 use Rattle.tm_parse.specs.Combinators.{mapped, to}
-use Rattle.tm_parse.proofs.Loops.{turn_ends, turn_spent, turn_stops, turn_next, mapped_stops}
+use Rattle.tm_parse.proofs.reading.Loops.{turn_ends, turn_spent, turn_stops, turn_next, mapped_stops}
 use Rattle.tm_parse.proofs.reader.Reader.many.Goals as goal
 
 pub returns-then-not-begins : goal.returns-then-not-begins

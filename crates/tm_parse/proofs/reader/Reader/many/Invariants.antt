@@ -1,7 +1,7 @@
 use Rattle.std.proofs.Common.{◌-◌, length, true}
 use Rattle.tm_parse.specs.Combinators.{to}
 use Rattle.tm_parse.specs.Shapes.{many}
-use Rattle.tm_parse.proofs.Loops.{Goes}
+use Rattle.tm_parse.proofs.reading.Loops.{Goes}
 use Rattle.tm_parse.proofs.reader.Reader.many.Given as goal
 
 abbrev pub invariant-loop : goal.invariant-loop

@@ -1,5 +1,5 @@
 use Rattle.std.proofs.Common.{rules, ap, ◌∙◌, sym}
-use Rattle.tm_parse.proofs.LifetimesThen.{parameters_read, then_stops, then_closed, then_none, then_some, then_some_stops}
+use Rattle.tm_parse.proofs.grammar.LifetimesThen.{parameters_read, then_stops, then_closed, then_none, then_some, then_some_stops}
 use Rattle.tm_parse.proofs.reader.Reader.parameter_list.Goals as goal
 use Rattle.tm_parse.proofs.reader.Reader.parameter_list.Goals.{then-not-is_open-via-then-not-is_open, then-not-is_open-via-else-not-is_open+then-not-is_definition_name_next}
 use Rattle.tm_parse.specs.Combinators.{mapped}

@@ -1,8 +1,8 @@
 use Rattle.std.proofs.Common.{rules, ◌≡◌, ◌+◌, ◌-◌, ◌<◌, refl, sym, ap, ◌∙◌, true, false, [], ◌∷◌, ◌++◌, length, arith}
 use Rattle.tm_parse.specs.Combinators.{mapped}
 use Rattle.tm_parse.specs.Shapes.{behind}
-use Rattle.tm_parse.proofs.Loops.{turn_ends, turn_spent, turn_stops, turn_last, turn_next, comma_first, comma_read, comma_stops, item_stops, mapped_stops}
-use Rattle.tm_parse.proofs.SoFar.{as_found, turn, all_turns, found_done, found_next, open_next}
+use Rattle.tm_parse.proofs.reading.Loops.{turn_ends, turn_spent, turn_stops, turn_last, turn_next, comma_first, comma_read, comma_stops, item_stops, mapped_stops}
+use Rattle.tm_parse.proofs.reading.SoFar.{as_found, turn, all_turns, found_done, found_next, open_next}
 use Rattle.tm_parse.proofs.reader.Reader.so_far_behind.Goals as goal
 
 pub returns-then-not-begins : goal.returns-then-not-begins

@@ -1,5 +1,5 @@
 use Rattle.std.proofs.Common.{◌-◌, length}
-use Rattle.tm_parse.proofs.SoFar.{SoFar, all_turns}
+use Rattle.tm_parse.proofs.reading.SoFar.{SoFar, all_turns}
 use Rattle.tm_parse.proofs.reader.Reader.so_far_behind.Given as goal
 
 abbrev pub invariant-loop : goal.invariant-loop

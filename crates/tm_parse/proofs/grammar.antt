@@ -1,0 +1,22 @@
+pub mod ClassLists
+pub mod Lawful
+pub mod Fronts
+pub mod Forms
+pub mod Spellings
+pub mod Single
+pub mod Choices
+pub mod Pairs
+pub mod Marks
+pub mod Repetitions
+pub mod LifetimesThen
+pub mod Levels
+pub mod ShapeLaws
+pub mod LifetimeLaws
+pub mod TypeForms
+pub mod Widening
+pub mod TypeLaws
+pub mod DefinitionLaws
+pub mod BehindAttributes
+pub mod FileLaws
+pub mod LookedUp
+mod Tables

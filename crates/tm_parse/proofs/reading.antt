@@ -1,0 +1,9 @@
+pub mod AgreeingReaders
+pub mod Loops
+pub mod SoFar
+pub mod ItemsBySort
+pub mod Answering
+pub mod Prefixes
+pub mod Exactness
+pub mod AcceptedLaws
+pub mod Returning
