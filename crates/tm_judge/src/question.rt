@@ -5,7 +5,7 @@ ghost use Rattle.tm_base.specs.Parts.{HasNoAlternatives};
 ghost use Rattle.tm_base.specs.Rules.{source, target};
 ghost use Rattle.tm_base.specs.Worlds.{IsTypeOver, tables_of};
 ghost use Rattle.tm_layout.specs.Made.{IsMadeFor};
-ghost use Rattle.tm_refs.specs.Serves.{ServesFor};
+ghost use Rattle.tm_refs.specs.Solved.{IsSolvedFor};
 
 use crate::values::judge_values;
 use std::alloc::Global;
@@ -27,7 +27,7 @@ pub fn judge<L: Ledger>(
     steps: &mut Steps<L>,
 ) -> Result<Answer, Memory>
     requires made { IsMadeFor (tables_of world.now) layouts.now }
-    requires serves { ServesFor (tables_of world.now) ask.now.assume ask.now.dst compat.now }
+    requires solved { IsSolvedFor (tables_of world.now) ask.now.assume compat.now }
     requires source { IsTypeOver (tables_of world.now) ask.now.src }
     requires target { IsTypeOver (tables_of world.now) ask.now.dst }
     ensures answer { IfOk result (IsAnswer (tables_of world.now) ask.now) }
