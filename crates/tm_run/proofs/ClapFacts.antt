@@ -14,7 +14,7 @@ use Rattle.clap.specs.Walk.{Row, Rule, Text, arg_by_id, arg_by_index, arg_by_lon
 use Rattle.clap.specs.declared.builder.value_parser.ValueParser.TheVariants.{String}
 use Rattle.clap.specs.declared.parser.matches.ValueSource.TheVariants.{CommandLine}
 use Rattle.tm_run.specs.Commands.{command_app, row_of_use, rule_for}
-use Rattle.tm_run.specs.Words.{Use, is_used, option_named, options, with_use}
+use Rattle.tm_run.specs.Uses.{Use, is_used, option_named, options, with_use}
 
 abbrev pub rows_for : List Use → List Row
 rows_for = map row_of_use

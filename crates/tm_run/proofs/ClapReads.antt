@@ -17,7 +17,8 @@ use Rattle.clap.specs.declared.error.kind.ErrorKind.TheVariants.{OutOfMemory}
 use Rattle.clap.specs.declared.parser.matches.ArgMatches.{ArgMatches}
 use Rattle.clap.specs.declared.parser.matches.Found.{Found}
 use Rattle.tm_run.specs.Commands.{command_app, given_in, is_stray, row_of_use}
-use Rattle.tm_run.specs.Words.{Use, begins_with, first_use, given_by, is_used, option_named, options, options_given, options_of, uses_of, with_uses, written}
+use Rattle.tm_run.specs.Uses.{Use, begins_with, first_use, given_by, is_used, option_named, options, uses_of, with_uses, written}
+use Rattle.tm_run.specs.Words.{options_given, options_of}
 use Rattle.tm_run.proofs.ClapFacts.{Meets, built-is, built_rules, built_shape, fails, no-default, no-more-rows, none-required, rows_for, simple}
 use Rattle.tm_run.proofs.ClapWalk.{faults, found, or_else-nil, start, walk-meets}
 

@@ -11,7 +11,7 @@ use Rattle.clap.specs.Kinds.{Kinds, or_else}
 use Rattle.clap.specs.Lexer.{long_of, short_of}
 use Rattle.clap.specs.Walk.{Held, Row, Rule, Step, Text, Waiting, Walk, after_flag, after_step, arg_by_long, idle, long_met, option, settled, used, walked}
 use Rattle.tm_run.specs.Commands.{is_stray}
-use Rattle.tm_run.specs.Words.{Use, before_uses, begins_with, first_use, name_and_value, option_named, uses_of, with_use, with_uses}
+use Rattle.tm_run.specs.Uses.{Use, before_uses, begins_with, first_use, name_and_value, option_named, uses_of, with_use, with_uses}
 use Rattle.tm_run.proofs.ClapFacts.{Meets, adds, built_rule, built_rules, built_shape, by-id, by-index, by-long, fails, named-same, rows_for, then}
 
 -- ---- a word that isn't stray begins with no `-`, or with two and something behind them
@@ -181,7 +181,7 @@ waiting-ends uses name known = unsettled (rows_for uses) name known
 idle-plain : (word : Text) (words : List Text) → IsPlain word → IdleMeets (word ∷ words)
 unfolding uses_of
 idle-plain word words plain uses p known =
-    refused (at (rows_for uses) (pending_for p) idle) word words _ (rw (plain.bare, plain.not_long, plain.not_short, by-index Rattle.tm_run.specs.Words.options 1) refl) (rw plain.two (nothing-then (with_pending p uses)))
+    refused (at (rows_for uses) (pending_for p) idle) word words _ (rw (plain.bare, plain.not_long, plain.not_short, by-index Rattle.tm_run.specs.Uses.options 1) refl) (rw plain.two (nothing-then (with_pending p uses)))
 
 waiting-plain : (word : Text) (words : List Text) → IsPlain word → IdleMeets words → WaitingMeets (word ∷ words)
 unfolding uses_of walked

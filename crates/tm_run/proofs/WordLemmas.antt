@@ -6,7 +6,7 @@ use Rattle.std.specs.Result.{OkIff, result_ok}
 use Rattle.std.specs.Str.Parse.{ParsesUnsigned, digits_value}
 use Rattle.std.proofs.lemmas.Bool.{and_from, and_parts, cond-false, cond-true, false_from_ne_true, lt-ltb, le-leb, ltb-true}
 use Rattle.std.proofs.lemmas.Str.Parse.{IsNumeralModel, numerals_by_value, parse_digits}
-use Rattle.tm_run.specs.Words.{is_number, number_in}
+use Rattle.tm_run.specs.Values.{is_number, number_in}
 
 digits : IsNumeralModel (λ ds. list_all is_ascii_digit ds ≡ true) (digits_value 10)
 digits = numerals_by_value _ (search rules)

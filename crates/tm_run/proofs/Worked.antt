@@ -6,7 +6,8 @@ use Rattle.tm_base.specs.declared.profile.Profile.TheVariants.{Be64}
 use Rattle.tm_report.specs.declared.fault.FileFault.TheVariants.{NotUtf8}
 use Rattle.tm_run.specs.Faults.{HasFault}
 use Rattle.tm_run.specs.Places.{at_byte}
-use Rattle.tm_run.specs.Words.{options, options_of, uses_of, with_uses}
+use Rattle.tm_run.specs.Uses.{options, uses_of, with_uses}
+use Rattle.tm_run.specs.Words.{options_of}
 use Rattle.tm_run.specs.declared.words.options.Mode.TheVariants.{Needs, Matrix}
 use Rattle.tm_run.specs.declared.words.options.Options.{Options}
 

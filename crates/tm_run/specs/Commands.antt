@@ -7,7 +7,7 @@ use Rattle.clap.specs.declared.builder.action.ArgAction.TheVariants.{Set}
 use Rattle.clap.specs.declared.builder.value_parser.Reading.TheVariants.{AsWritten}
 use Rattle.clap.specs.declared.parser.matches.ArgMatches.{ArgMatches}
 use Rattle.clap.specs.declared.parser.matches.ValueSource.TheVariants.{CommandLine}
-use Rattle.tm_run.specs.Words.{Given, Use, begins_with, options}
+use Rattle.tm_run.specs.Uses.{Given, Use, begins_with, options}
 
 -- an option with so many values
 abbrev pub rule_with : List ℕ → ℕ → Rule

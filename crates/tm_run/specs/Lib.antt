@@ -17,4 +17,6 @@ pub mod Refutations
 pub mod Report
 pub mod Reported
 pub mod Runs
+pub mod Uses
+pub mod Values
 pub mod Words

@@ -4,7 +4,8 @@ ghost use Rattle.std.specs.List.{list_all, list_any};
 ghost use Rattle.clap.specs.Simple.{app_of};
 ghost use Rattle.clap.specs.Walk.{rule_of};
 ghost use Rattle.tm_run.specs.Commands.{command_app, given_in, is_stray, rule_with};
-ghost use Rattle.tm_run.specs.Words.{asked, bytes_given, mode_of, number_given, number_of, one_of, options_given, plain_mode, profile_given, profile_of, question_given, question_number, valued_mode};
+ghost use Rattle.tm_run.specs.Values.{number_of, profile_of, question_number};
+ghost use Rattle.tm_run.specs.Words.{asked, bytes_given, mode_of, number_given, one_of, options_given, plain_mode, profile_given, question_given, valued_mode};
 
 mod bytes;
 pub mod options;

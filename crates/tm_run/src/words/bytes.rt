@@ -1,5 +1,5 @@
 ghost use Rattle.std.specs.Prelude.{◌≡◌, ◌≤◌, IfOk, length};
-ghost use Rattle.tm_run.specs.Words.{bytes_read};
+ghost use Rattle.tm_run.specs.Values.{bytes_read};
 
 use std::alloc::Global;
 use std::marker::Model;

@@ -7,7 +7,7 @@ use Rattle.clap.specs.Walk.{rule_of}
 use Rattle.clap.specs.declared.builder.arg.Arg.{Arg}
 use Rattle.clap.specs.declared.builder.command.Command.{Command}
 use Rattle.tm_run.specs.Commands.{rule_with}
-use Rattle.tm_run.specs.Words.{options}
+use Rattle.tm_run.specs.Uses.{options}
 use Rattle.tm_run.proofs.words.command.Goals as goal
 
 -- one option more
