@@ -10,8 +10,8 @@ use Rattle.tm_base.specs.declared.ground.Wrapper.TheVariants as wrapper
 use Rattle.tm_base.specs.Expanded.{Expanded, expanded_within, depth_limit, level}
 use Rattle.tm_base.specs.Reaches.{ChainIn, Enters, IsJudged, row_parts, parts_within, pointees_within, row_pointee}
 use Rattle.tm_base.specs.Tables.{Tables, expanded_in}
-use Rattle.tm_laws.proofs.WholeLeaves.{Leaf, leaves}
-use Rattle.tm_laws.proofs.WholeTypes.{HasParts, level-leaves}
+use Rattle.tm_laws.proofs.whole.Leaves.{Leaf, leaves}
+use Rattle.tm_laws.proofs.whole.Types.{HasParts, level-leaves}
 
 module _ (tables : Tables) where
   -- what the reference points to is judged

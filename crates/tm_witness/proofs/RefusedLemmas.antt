@@ -26,14 +26,14 @@ use Rattle.tm_base.specs.Viable.{StandsOpen, Viable}
 use Rattle.tm_base.specs.Worlds.{tables_of}
 use Rattle.tm_base.proofs.ValidLemmas.{Valid-length}
 use Rattle.tm_laws.specs.WordLaws.{IsClosed, IsOfSources}
-use Rattle.tm_laws.proofs.CellRuleLemmas.{value-closed}
-use Rattle.tm_laws.proofs.RefusalLemmas.{fit-all, fit-length, refused-inside, refused-pointer-is-first, open-is-leaf, open-is-not-taken}
-use Rattle.tm_laws.proofs.RefusalMoves.{All-middle}
-use Rattle.tm_laws.proofs.RefusalRows.{pointer-known, open-known}
-use Rattle.tm_laws.proofs.RefusalWorlds.{leaves-known, compatible-of_sources}
-use Rattle.tm_laws.proofs.WholeLeaves.{Leaf, leaves}
-use Rattle.tm_laws.proofs.WholeTypes.{expanded_in-for}
-use Rattle.tm_laws.proofs.WholeWords.{IsCellOf, IsHeldBy, pointers-related}
+use Rattle.tm_laws.proofs.known.CellRuleLemmas.{value-closed}
+use Rattle.tm_laws.proofs.refusals.StopLemmas.{fit-all, fit-length, refused-inside, refused-pointer-is-first, open-is-leaf, open-is-not-taken}
+use Rattle.tm_laws.proofs.refusals.Moves.{All-middle}
+use Rattle.tm_laws.proofs.refusals.Rows.{pointer-known, open-known}
+use Rattle.tm_laws.proofs.refusals.Worlds.{leaves-known, compatible-of_sources}
+use Rattle.tm_laws.proofs.whole.Leaves.{Leaf, leaves}
+use Rattle.tm_laws.proofs.whole.Types.{expanded_in-for}
+use Rattle.tm_laws.proofs.whole.Words.{IsCellOf, IsHeldBy, pointers-related}
 use Rattle.tm_auto.specs.Automata.{Automaton, IsAutomaton, ReadsWords, IsViable, BeginsReference, reached}
 use Rattle.tm_auto.specs.Joined.{IsJoined, HasNoOwn}
 use Rattle.tm_auto.proofs.JoinedLemmas.{joined_left}

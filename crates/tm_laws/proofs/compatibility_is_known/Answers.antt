@@ -1,6 +1,6 @@
 use Rattle.tm_base.specs.Worlds.{tables_of}
-use Rattle.tm_laws.proofs.DecideLemmas.{test_of, test_of-to, test_of-from}
-use Rattle.tm_laws.proofs.CompatibleKnownLemmas.{Compatible-known, Compatible-from_last, last_depth, last_depth-most}
+use Rattle.tm_laws.proofs.known.DecideLemmas.{test_of, test_of-to, test_of-from}
+use Rattle.tm_laws.proofs.known.CompatibleLemmas.{Compatible-known, Compatible-from_last, last_depth, last_depth-most}
 use Rattle.tm_laws.proofs.compatibility_is_known.Goals as goal
 
 pub returns : goal.returns

@@ -1,6 +1,6 @@
 use Rattle.tm_base.specs.Worlds.{tables_of}
 use Rattle.tm_base.proofs.AnswerLemmas.{IsAnswer-unique}
-use Rattle.tm_laws.proofs.AnswerKnownLemmas.{answer_to}
+use Rattle.tm_laws.proofs.known.AnswerLemmas.{answer_to}
 use Rattle.tm_laws.proofs.each_question_has_an_answer.Goals as goal
 
 pub returns-clause-some : goal.returns-clause-some

@@ -1,4 +1,4 @@
-use Rattle.tm_laws.proofs.ValidKnownLemmas.{settled}
+use Rattle.tm_laws.proofs.known.ValidLemmas.{settled}
 use Rattle.tm_laws.proofs.types_are_settled.Goals as goal
 
 pub returns : goal.returns

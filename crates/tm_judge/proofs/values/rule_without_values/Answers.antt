@@ -4,8 +4,8 @@ use Rattle.tm_base.specs.Rules.{Taken, HasTargetWord}
 use Rattle.tm_base.specs.Tables.{Tables}
 use Rattle.tm_base.specs.Worlds.{tables_of}
 use Rattle.tm_auto.specs.Automata.{Automaton, ReadsWords}
-use Rattle.tm_laws.proofs.CompatibleKnownLemmas.{Compatible-known}
-use Rattle.tm_laws.proofs.DecideLemmas.{test_of, test_of-to, test_of-from}
+use Rattle.tm_laws.proofs.known.CompatibleLemmas.{Compatible-known}
+use Rattle.tm_laws.proofs.known.DecideLemmas.{test_of, test_of-to, test_of-from}
 use Rattle.tm_refs.specs.Pointees.{IsAutomatonOf}
 use Rattle.tm_judge.specs.Ready.{HasStart}
 use Rattle.tm_judge.proofs.ReadyLemmas.{start-word}

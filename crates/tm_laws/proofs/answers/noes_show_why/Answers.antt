@@ -1,5 +1,5 @@
 use Rattle.tm_base.specs.Worlds.{tables_of}
-use Rattle.tm_laws.proofs.AnswerMeanings.{no-shows_why}
+use Rattle.tm_laws.proofs.known.AnswerMeanings.{no-shows_why}
 use Rattle.tm_laws.proofs.answers.noes_show_why.Goals as goal
 
 pub returns : goal.returns

@@ -1,4 +1,4 @@
-use Rattle.tm_laws.proofs.PartLemmas.{expansion-keeps_parts}
+use Rattle.tm_laws.proofs.fields.PartLemmas.{expansion-keeps_parts}
 use Rattle.tm_laws.proofs.places.expansion_keeps_parts.Goals as goal
 
 pub returns : goal.returns

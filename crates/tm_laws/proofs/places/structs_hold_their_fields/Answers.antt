@@ -1,4 +1,4 @@
-use Rattle.tm_laws.proofs.StructLemmas.{struct-by-places}
+use Rattle.tm_laws.proofs.fields.StructLemmas.{struct-by-places}
 use Rattle.tm_laws.proofs.places.structs_hold_their_fields.Goals as goal
 
 pub returns : goal.returns

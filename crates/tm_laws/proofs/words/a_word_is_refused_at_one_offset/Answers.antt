@@ -1,7 +1,7 @@
 use Rattle.std.proofs.Common.{true}
 use Rattle.tm_base.specs.Transmutes.{holds}
-use Rattle.tm_laws.proofs.DecideLemmas.{Dec-is}
-use Rattle.tm_laws.proofs.RefusedLemmas.{refused-once, refused-where_unfit}
+use Rattle.tm_laws.proofs.known.DecideLemmas.{Dec-is}
+use Rattle.tm_laws.proofs.refusals.RefusedLemmas.{refused-once, refused-where_unfit}
 use Rattle.tm_laws.proofs.words.a_word_is_refused_at_one_offset.Goals as goal
 
 pub returns-clause-only : goal.returns-clause-only

@@ -1,8 +1,8 @@
 use Rattle.std.proofs.Common.{true}
 use Rattle.tm_base.specs.Tables.{expanded_in}
 use Rattle.tm_base.specs.Transmutes.{Same}
-use Rattle.tm_laws.proofs.WholeTypes.{expanded_in-for}
-use Rattle.tm_laws.proofs.WholeWords.{whole-references}
+use Rattle.tm_laws.proofs.whole.Types.{expanded_in-for}
+use Rattle.tm_laws.proofs.whole.Words.{whole-references}
 use Rattle.tm_laws.proofs.words.source_words_have_whole_references.Goals as goal
 
 pub returns : goal.returns

@@ -1,8 +1,8 @@
 use Rattle.tm_base.specs.Rules.{target, Taken}
 use Rattle.tm_base.specs.Worlds.{tables_of}
-use Rattle.tm_laws.proofs.CellRuleLemmas.{taken-known, value-closed}
-use Rattle.tm_laws.proofs.RefusalWorlds.{compatible-of_sources}
-use Rattle.tm_laws.proofs.RefusedLemmas.{refused-where_unfit}
+use Rattle.tm_laws.proofs.known.CellRuleLemmas.{taken-known, value-closed}
+use Rattle.tm_laws.proofs.refusals.Worlds.{compatible-of_sources}
+use Rattle.tm_laws.proofs.refusals.RefusedLemmas.{refused-where_unfit}
 use Rattle.tm_laws.proofs.words.values_are_refused_where_unfit.Goals as goal
 
 pub returns : goal.returns

@@ -1,4 +1,4 @@
-use Rattle.tm_refute.proofs.ChosenAloneLemmas.{refutation-one}
+use Rattle.tm_refute.proofs.chosen.AloneLemmas.{refutation-one}
 use Rattle.tm_refute.proofs.law.questions_have_one_refutation.Goals as goal
 
 pub returns : goal.returns

@@ -1,6 +1,6 @@
-use Rattle.tm_refute.proofs.ChosenFewLemmas.{chosen-few}
-use Rattle.tm_refute.proofs.ChosenHoldsLemmas.{chosen-refutes, is-refutable}
-use Rattle.tm_refute.proofs.ChosenWritableLemmas.{chosen-writable}
+use Rattle.tm_refute.proofs.chosen.FewLemmas.{chosen-few}
+use Rattle.tm_refute.proofs.chosen.HoldsLemmas.{chosen-refutes, is-refutable}
+use Rattle.tm_refute.proofs.chosen.WritableLemmas.{chosen-writable}
 use Rattle.tm_refute.proofs.law.refutations_of_questions_hold.Goals as goal
 use Rattle.tm_base.specs.Worlds.{tables_of}
 

@@ -4,7 +4,7 @@ use Rattle.tm_base.specs.Cells.{Word, fit}
 use Rattle.tm_base.specs.Layout.{size_of}
 use Rattle.tm_base.specs.Tables.{expanded_in}
 use Rattle.tm_base.specs.Worlds.{tables_of}
-use Rattle.tm_refute.proofs.VerifyLemmas.{fit-front}
+use Rattle.tm_refute.proofs.checking.VerifyLemmas.{fit-front}
 use Rattle.tm_refute.proofs.showing.cells_shown.Goals as goal
 
 pub unreachable-requires : goal.unreachable-requires

@@ -2,7 +2,7 @@ use Rattle.std.proofs.Common.{◌≡◌, Err, sym, subst, rules, arith}
 use Rattle.tm_refute.specs.LinesRead.{IsFitting}
 use Rattle.tm_refute.specs.Runs.{Reads}
 use Rattle.tm_refute.specs.declared.refutation.Entry.{Entry}
-use Rattle.tm_refute.proofs.TextReadLemmas.{no-fitting, over-cells}
+use Rattle.tm_refute.proofs.reading.TextLemmas.{no-fitting, over-cells}
 use Rattle.tm_refute.proofs.text.fitting.Goals as goal
 
 pub returns-in_err-entry : goal.returns-in_err-entry

@@ -8,9 +8,9 @@ use Rattle.tm_refute.specs.declared.refutation.Entry.{Entry}
 use Rattle.tm_refute.specs.declared.refutation.Refutation.{Refutation}
 use Rattle.tm_refute.specs.declared.stop.Stop.{Stop}
 use Rattle.std.proofs.Common.{Err}
-use Rattle.tm_refute.proofs.LeadsLemmas.{rest-is}
-use Rattle.tm_refute.proofs.LineReadLemmas.{not-text, same-text}
-use Rattle.tm_refute.proofs.TextReadLemmas.{Begun, cells-more, ended, entered, fits-within, no-line-there, within-fits}
+use Rattle.tm_refute.proofs.forms.LeadsLemmas.{rest-is}
+use Rattle.tm_refute.proofs.reading.LineLemmas.{not-text, same-text}
+use Rattle.tm_refute.proofs.reading.TextLemmas.{Begun, cells-more, ended, entered, fits-within, no-line-there, within-fits}
 use Rattle.tm_refute.proofs.text.lines.Goals as goal
 
 pub loop-line-init : goal.loop-line-init

@@ -1,6 +1,6 @@
 use Rattle.std.proofs.Common.{◌≡◌, ℕ, ◌+◌, length}
 use Rattle.tm_refute.specs.TextForms.{cells_of}
-use Rattle.tm_refute.proofs.TextReadLemmas.{Begun}
+use Rattle.tm_refute.proofs.reading.TextLemmas.{Begun}
 use Rattle.tm_refute.proofs.text.lines.Given as goal
 
 abbrev pub invariant-loop-line : goal.invariant-loop-line

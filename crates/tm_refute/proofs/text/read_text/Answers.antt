@@ -1,5 +1,5 @@
-use Rattle.tm_refute.proofs.ReadBackLemmas.{all-writable}
-use Rattle.tm_refute.proofs.TextReadLemmas.{all-read, all-told}
+use Rattle.tm_refute.proofs.reading.ReadBackLemmas.{all-writable}
+use Rattle.tm_refute.proofs.reading.TextLemmas.{all-read, all-told}
 use Rattle.tm_refute.proofs.text.read_text.Goals as goal
 
 pub returns-clause-read : goal.returns-clause-read

@@ -1,7 +1,7 @@
 use Rattle.std.proofs.lemmas.Result.{IfOk-weaker}
 use Rattle.tm_base.specs.Worlds.{tables_of}
 use Rattle.tm_base.proofs.HeldLemmas.{judged-laid_out}
-use Rattle.tm_refute.proofs.ShownLemmas.{refutes-from}
+use Rattle.tm_refute.proofs.checking.ShownLemmas.{refutes-from}
 use Rattle.tm_refute.proofs.verifying.verify.Goals as goal
 
 pub breaks-requires-clause-source : goal.breaks-requires-clause-source

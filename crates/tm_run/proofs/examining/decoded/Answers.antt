@@ -3,7 +3,7 @@ use Rattle.std.specs.Str.{IsValidUpTo}
 use Rattle.tm_report.specs.declared.fault.At.{At}
 use Rattle.tm_report.specs.declared.fault.FileFault.TheVariants.{NotUtf8}
 use Rattle.tm_run.specs.Examined.{IsOnlyFault}
-use Rattle.tm_run.proofs.FaultLemmas.{broken_only}
+use Rattle.tm_run.proofs.files.FaultLemmas.{broken_only}
 use Rattle.tm_run.proofs.examining.decoded.Goals as goal
 
 pub returns-in-Err-clause-stop : goal.returns-in-Err-clause-stop

@@ -1,5 +1,5 @@
 use Rattle.tm_run.specs.Examined.{IsStop}
-use Rattle.tm_run.proofs.FaultLemmas.{passed_on}
+use Rattle.tm_run.proofs.files.FaultLemmas.{passed_on}
 use Rattle.tm_run.proofs.examining.examine.Goals as goal
 
 pub returns-in_err-text-clause-stop : goal.returns-in_err-text-clause-stop

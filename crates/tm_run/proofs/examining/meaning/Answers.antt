@@ -5,8 +5,8 @@ use Rattle.tm_parse.specs.declared.parsed.Parsed.{Parsed}
 use Rattle.tm_run.specs.Examined.{IsMeaningOf, IsParsedOf, IsResolvedOf, IsStop}
 use Rattle.tm_run.specs.declared.words.options.Options.{Options}
 use Rattle.tm_run.specs.declared.stop.Stop.{Stop}
-use Rattle.tm_run.proofs.FaultLemmas.{passed_on}
-use Rattle.tm_run.proofs.TokenLemmas.{meaning}
+use Rattle.tm_run.proofs.files.FaultLemmas.{passed_on}
+use Rattle.tm_run.proofs.files.TokenLemmas.{meaning}
 use Rattle.tm_run.proofs.examining.meaning.Goals as goal
 
 if_meaning : (options : Options) (file : _) (tokens : List Token) (parsed : Parsed) (result : Result Resolved Stop) → IsParsedOf file tokens parsed → IfOk result (IsResolvedOf options file tokens parsed) → IfOk result (IsMeaningOf options file)

@@ -9,7 +9,7 @@ use Rattle.tm_report.specs.declared.fault.At.{At}
 use Rattle.tm_report.specs.declared.fault.FileFault.{FileFault}
 use Rattle.tm_report.specs.declared.fault.FileFault.TheVariants.{Passed}
 use Rattle.tm_run.specs.Examined.{IsOnlyFault}
-use Rattle.tm_run.proofs.TokenLemmas.{parser_fault, parser_limit}
+use Rattle.tm_run.proofs.files.TokenLemmas.{parser_fault, parser_limit}
 use Rattle.tm_run.proofs.examining.parsed.Goals as goal
 
 pub returns-in-Ok-clause-parsed : goal.returns-in-Ok-clause-parsed

@@ -12,7 +12,7 @@ use Rattle.tm_run.specs.Words.{profile_for}
 use Rattle.tm_run.specs.Examined.{IsOnlyFault}
 use Rattle.tm_run.specs.Faults.{start_of}
 use Rattle.tm_run.specs.Places.{at_byte}
-use Rattle.tm_run.proofs.TokenLemmas.{name_fault}
+use Rattle.tm_run.proofs.files.TokenLemmas.{name_fault}
 use Rattle.tm_run.proofs.examining.resolved.Goals as goal
 
 pub returns-in-Err-Fault-clause-stop : goal.returns-in-Err-Fault-clause-stop

@@ -7,7 +7,7 @@ use Rattle.tm_lex.specs.declared.token.Token.{Token}
 use Rattle.tm_report.specs.declared.fault.FileFault.{FileFault}
 use Rattle.tm_run.specs.Examined.{IsOnlyFault, no_token_at}
 use Rattle.tm_run.specs.Places.{at_byte}
-use Rattle.tm_run.proofs.TokenLemmas.{lexer_fault}
+use Rattle.tm_run.proofs.files.TokenLemmas.{lexer_fault}
 use Rattle.tm_run.proofs.examining.tokens.Goals as goal
 
 pub returns-in-Ok-clause-tokens : goal.returns-in-Ok-clause-tokens

@@ -1,4 +1,4 @@
-use Rattle.tm_run.proofs.InputLemmas.{asks-behind, judged-report, judged-stop}
+use Rattle.tm_run.proofs.runs.InputLemmas.{asks-behind, judged-report, judged-stop}
 use Rattle.tm_run.proofs.inputs.behind_text.Goals as goal
 
 pub returns-clause-report : goal.returns-clause-report

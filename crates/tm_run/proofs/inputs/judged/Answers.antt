@@ -1,7 +1,7 @@
 use Rattle.tm_run.specs.Examined.{IsStop}
-use Rattle.tm_run.proofs.ClosingLemmas.{few-asked, there-asked}
-use Rattle.tm_run.proofs.DecideLemmas.{report_decides, report_stops}
-use Rattle.tm_run.proofs.FaultLemmas.{passed_on}
+use Rattle.tm_run.proofs.files.ClosingLemmas.{few-asked, there-asked}
+use Rattle.tm_run.proofs.files.DecideLemmas.{report_decides, report_stops}
+use Rattle.tm_run.proofs.files.FaultLemmas.{passed_on}
 use Rattle.tm_run.proofs.inputs.judged.Goals as goal
 
 pub reported-requires-clause-few : goal.reported-requires-clause-few

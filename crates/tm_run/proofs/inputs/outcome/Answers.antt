@@ -1,4 +1,4 @@
-use Rattle.tm_run.proofs.InputLemmas.{asks-itself, judged-report, judged-stop}
+use Rattle.tm_run.proofs.runs.InputLemmas.{asks-itself, judged-report, judged-stop}
 use Rattle.tm_run.proofs.inputs.outcome.Goals as goal
 
 pub returns-else-options-clause-report : goal.returns-else-options-clause-report

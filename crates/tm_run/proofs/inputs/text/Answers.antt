@@ -4,7 +4,7 @@ use Rattle.tm_refute.specs.LinesRead.{IsFaultOf}
 use Rattle.tm_refute.specs.declared.stop.TextErr.{TextErr}
 use Rattle.tm_report.specs.declared.fault.FileFault.TheVariants.{BadRefutation, Passed}
 use Rattle.tm_run.specs.Inputs.{text_bytes}
-use Rattle.tm_run.proofs.InputLemmas.{text-decides}
+use Rattle.tm_run.proofs.runs.InputLemmas.{text-decides}
 use Rattle.tm_run.proofs.inputs.text.Goals as goal
 
 pub returns-then-input-number-clause-stop : goal.returns-then-input-number-clause-stop

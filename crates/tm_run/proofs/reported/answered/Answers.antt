@@ -3,7 +3,7 @@ use Rattle.tm_base.specs.declared.answer.Answer.{Answer}
 use Rattle.tm_base.specs.Profiles.{pointer_size}
 use Rattle.tm_report.specs.AnswerLines.{HasWholeWord}
 use Rattle.tm_run.specs.Answers.{IsAnswered}
-use Rattle.tm_run.proofs.AnswerLemmas.{answers-whole, zip-few}
+use Rattle.tm_run.proofs.answers.AnswerLemmas.{answers-whole, zip-few}
 use Rattle.tm_run.proofs.reported.answered.Goals as goal
 
 pub report-requires-clause-whole : goal.report-requires-clause-whole

@@ -2,7 +2,7 @@ use Rattle.std.proofs.Common.{◌≤◌, List, length, subst, sym}
 use Rattle.tm_base.specs.Worlds.{tables_of}
 use Rattle.tm_run.specs.Matches.{IsMatch}
 use Rattle.tm_run.specs.declared.matched.Match.{Match}
-use Rattle.tm_run.proofs.AnswerLemmas.{zip-few}
+use Rattle.tm_run.proofs.answers.AnswerLemmas.{zip-few}
 use Rattle.tm_run.proofs.reported.matched.Goals as goal
 
 pub match_lines-requires : goal.match_lines-requires

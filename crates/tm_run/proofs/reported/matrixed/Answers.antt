@@ -2,7 +2,7 @@ use Rattle.std.proofs.Common.{List, subst, sym}
 use Rattle.std.specs.List.{All}
 use Rattle.tm_base.specs.declared.ground.Ground.{Ground}
 use Rattle.tm_base.specs.Worlds.{IsTypeOver, tables_of}
-use Rattle.tm_run.proofs.OverLemmas.{sources-over}
+use Rattle.tm_run.proofs.answers.OverLemmas.{sources-over}
 use Rattle.tm_run.proofs.reported.matrixed.Goals as goal
 
 pub matrix-requires-clause-types_are : goal.matrix-requires-clause-types_are

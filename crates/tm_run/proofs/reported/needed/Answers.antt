@@ -2,9 +2,9 @@ use Rattle.std.proofs.Common.{◌≤◌, All, List, length, subst, sym}
 use Rattle.tm_base.specs.Worlds.{tables_of}
 use Rattle.tm_run.specs.Needs.{HasRefusal, IsNeed}
 use Rattle.tm_run.specs.declared.reported.need.Need.{Need}
-use Rattle.tm_run.proofs.AnswerLemmas.{zip-few}
-use Rattle.tm_run.proofs.NeedLemmas.{need-refusal}
-use Rattle.tm_run.proofs.VerdictLemmas.{zip-all}
+use Rattle.tm_run.proofs.answers.AnswerLemmas.{zip-few}
+use Rattle.tm_run.proofs.answers.NeedLemmas.{need-refusal}
+use Rattle.tm_run.proofs.answers.VerdictLemmas.{zip-all}
 use Rattle.tm_run.proofs.reported.needed.Goals as goal
 
 pub need_lines-requires-clause-refusals : goal.need_lines-requires-clause-refusals

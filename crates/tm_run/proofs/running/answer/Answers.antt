@@ -1,7 +1,7 @@
 use Rattle.std.proofs.Common.{subst}
 use Rattle.tm_run.specs.Runs.{IsInputStop}
 use Rattle.tm_run.specs.declared.stop.Stop.{Stop}
-use Rattle.tm_run.proofs.InputLemmas.{stop-answers}
+use Rattle.tm_run.proofs.runs.InputLemmas.{stop-answers}
 use Rattle.tm_run.proofs.running.answer.Goals as goal
 
 pub returns-in-Err-Fault : goal.returns-in-Err-Fault

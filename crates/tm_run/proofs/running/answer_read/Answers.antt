@@ -4,7 +4,7 @@ use Rattle.tm_base.specs.Limits.{limit_number}
 use Rattle.tm_report.specs.declared.fault.FileFault.TheVariants.{Passed}
 use Rattle.tm_run.specs.Inputs.{input_limit}
 use Rattle.tm_run.specs.Runs.{Answers, Declines}
-use Rattle.tm_run.proofs.DoneLemmas.{declined-did, read-did}
+use Rattle.tm_run.proofs.runs.DoneLemmas.{declined-did, read-did}
 use Rattle.tm_run.proofs.running.answer_read.Goals as goal
 
 pub returns-in-Ok : goal.returns-in-Ok

@@ -1,4 +1,4 @@
-use Rattle.tm_run.proofs.RunLemmas.{did-keeps}
+use Rattle.tm_run.proofs.runs.RunLemmas.{did-keeps}
 use Rattle.tm_run.proofs.running.run.Goals as goal
 
 pub returns-clause-headline : goal.returns-clause-headline

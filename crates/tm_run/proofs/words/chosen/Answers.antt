@@ -3,7 +3,7 @@ use Rattle.std.proofs.lemmas.Result.{IfOk-weaker}
 use Rattle.clap.proofs.WalkLemmas.{list_any-map}
 use Rattle.clap.specs.declared.error.kind.ErrorKind.TheVariants.{OutOfMemory}
 use Rattle.tm_run.specs.Commands.{is_stray}
-use Rattle.tm_run.proofs.ClapReads.{asked-found, nothing-asked, stray-asked}
+use Rattle.tm_run.proofs.options.ClapReads.{asked-found, nothing-asked, stray-asked}
 use Rattle.tm_run.proofs.words.chosen.Goals as goal
 
 pub returns-then-has_stray : goal.returns-then-has_stray

@@ -1,5 +1,5 @@
 use Rattle.std.proofs.Common.{◌∙◌, sym, arith}
-use Rattle.tm_run.proofs.WordLemmas.{number-read}
+use Rattle.tm_run.proofs.options.WordLemmas.{number-read}
 use Rattle.tm_run.proofs.words.question_number.Goals as goal
 
 pub returns-then-is_decimal : goal.returns-then-is_decimal

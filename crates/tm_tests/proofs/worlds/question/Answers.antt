@@ -1,5 +1,5 @@
 use Rattle.std.proofs.Common.{sym}
-use Rattle.tm_run.proofs.OverLemmas.{asked-over}
+use Rattle.tm_run.proofs.answers.OverLemmas.{asked-over}
 use Rattle.tm_tests.proofs.worlds.question.Goals as goal
 
 pub returns-clause-source : goal.returns-clause-source

@@ -1,6 +1,6 @@
 use Rattle.std.proofs.Common.{◌≡◌, ℕ, sym, ◌∙◌, ap, Option}
 use Rattle.tm_refute.specs.Depths.{depth_in, lesser}
-use Rattle.tm_refute.proofs.DepthLemmas.{put-after}
+use Rattle.tm_refute.proofs.making.DepthLemmas.{put-after}
 use Rattle.tm_refute.proofs.depths.Depths.add.Goals as goal
 use Rattle.tm_refute.proofs.depths.Depths.add.Goals.{in-None, in-Some}
 

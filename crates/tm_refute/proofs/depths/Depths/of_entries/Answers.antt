@@ -1,7 +1,7 @@
 use Rattle.std.proofs.Common.{ap, subst, sym, ◌∙◌, take, ◌∷◌, [], ◌++◌}
 use Rattle.std.proofs.lemmas.List.{take_all, take_more}
 use Rattle.tm_refute.specs.Depths.{AreDepthsOf}
-use Rattle.tm_refute.proofs.DepthLemmas.{depths-more, depths-none}
+use Rattle.tm_refute.proofs.making.DepthLemmas.{depths-more, depths-none}
 use Rattle.tm_refute.proofs.depths.Depths.of_entries.Goals as goal
 
 pub loop-entry-init : goal.loop-entry-init

@@ -2,7 +2,7 @@ use Rattle.std.proofs.Common.{◌≡◌, ◌≤◌, ◌+◌, ◌∙◌, ◌∷�
 use Rattle.std.proofs.lemmas.Option.{slice_get_read}
 use Rattle.tm_base.specs.Worlds.{tables_of}
 use Rattle.tm_refs.proofs.PointeeLemmas.{pointee-over}
-use Rattle.tm_refute.proofs.JudgedLemmas.{judged-all, judged-more}
+use Rattle.tm_refute.proofs.making.JudgedLemmas.{judged-all, judged-more}
 use Rattle.tm_refute.proofs.judged.Judged.new.Goals as goal
 
 pub is_judged-requires-clause-over : goal.is_judged-requires-clause-over

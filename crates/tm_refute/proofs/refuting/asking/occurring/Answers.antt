@@ -1,7 +1,7 @@
 use Rattle.std.proofs.Common.{◌∙◌, refl}
 use Rattle.tm_refs.proofs.AddedLemmas.{any-all, blank}
 use Rattle.tm_refute.specs.Asking.{is_of}
-use Rattle.tm_refute.proofs.AskingLemmas.{marked-more}
+use Rattle.tm_refute.proofs.making.AskingLemmas.{marked-more}
 use Rattle.tm_refute.proofs.refuting.asking.occurring.Goals as goal
 
 pub loop-cell-init : goal.loop-cell-init

@@ -1,7 +1,7 @@
 use Rattle.std.proofs.Common.{◌+◌, ◌∙◌, arith, ap, rules, subst, sym}
 use Rattle.std.proofs.lemmas.List.Sorted.{answers_always}
 use Rattle.tm_base.specs.Worlds.{tables_of}
-use Rattle.tm_refute.proofs.FailingLemmas.{AreListed, failing-sorted, listed-more, listed-skip}
+use Rattle.tm_refute.proofs.making.FailingLemmas.{AreListed, failing-sorted, listed-more, listed-skip}
 use Rattle.tm_refute.proofs.refuting.failing.pairs_in_order.Goals as goal
 use Rattle.tm_refute.proofs.refuting.failing.pairs_in_order.Goals.{in-Some+in_ok-push, in_default}
 

@@ -1,4 +1,4 @@
-use Rattle.tm_refute.proofs.FailingLemmas.{AreListed}
+use Rattle.tm_refute.proofs.making.FailingLemmas.{AreListed}
 use Rattle.tm_refute.proofs.refuting.failing.pairs_in_order.Given as goal
 
 -- the pairs of the sources so far, and of this source with the targets so far

@@ -2,7 +2,7 @@ use Rattle.std.proofs.Common.{◌≡◌, Err, sym, subst, rules}
 use Rattle.tm_refute.specs.Runs.{Reads}
 use Rattle.tm_refute.specs.TextForms.{IsEntryText}
 use Rattle.tm_refute.specs.declared.refutation.Entry.{Entry}
-use Rattle.tm_refute.proofs.PieceReadLemmas.{no-depth, no-entry, no-source, no-target}
+use Rattle.tm_refute.proofs.reading.PieceLemmas.{no-depth, no-entry, no-source, no-target}
 use Rattle.tm_refute.proofs.text.entry.entry.Goals as goal
 
 pub returns-in_default : goal.returns-in_default

@@ -3,7 +3,7 @@ use Rattle.tm_refute.specs.LinesRead.{IsTop}
 use Rattle.tm_refute.specs.Runs.{Reads}
 use Rattle.tm_refute.specs.declared.refutation.Piece.{Piece}
 use Rattle.tm_refute.specs.declared.stop.Stop.{Stop}
-use Rattle.tm_refute.proofs.HeaderReadLemmas.{no-first, no-question, no-second, no-top, two-led}
+use Rattle.tm_refute.proofs.reading.HeaderLemmas.{no-first, no-question, no-second, no-top, two-led}
 use Rattle.tm_refute.proofs.text.header.header.Goals as goal
 
 pub returns-in_default : goal.returns-in_default

@@ -1,4 +1,4 @@
-use Rattle.tm_refute.proofs.HeaderReadLemmas.{top-behind}
+use Rattle.tm_refute.proofs.reading.HeaderLemmas.{top-behind}
 use Rattle.tm_refute.proofs.text.header.top.Goals as goal
 
 pub returns : goal.returns

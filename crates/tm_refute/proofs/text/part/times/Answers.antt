@@ -1,5 +1,5 @@
 use Rattle.std.proofs.Common.{arith}
-use Rattle.tm_refute.proofs.RunLemmas.{bad-times}
+use Rattle.tm_refute.proofs.reading.RunLemmas.{bad-times}
 use Rattle.tm_refute.proofs.text.part.times.Goals as goal
 
 pub returns-then-times-eq0 : goal.returns-then-times-eq0

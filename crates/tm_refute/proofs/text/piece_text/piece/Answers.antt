@@ -2,7 +2,7 @@ use Rattle.std.proofs.Common.{◌≡◌, Err, sym, subst, rules}
 use Rattle.tm_refute.specs.Runs.{Reads}
 use Rattle.tm_refute.specs.TextForms.{IsPieceText}
 use Rattle.tm_refute.specs.declared.refutation.Piece.{Piece}
-use Rattle.tm_refute.proofs.PieceReadLemmas.{no-colon, no-word}
+use Rattle.tm_refute.proofs.reading.PieceLemmas.{no-colon, no-word}
 use Rattle.tm_refute.proofs.text.piece_text.piece.Goals as goal
 
 pub returns-then-not-accept : goal.returns-then-not-accept

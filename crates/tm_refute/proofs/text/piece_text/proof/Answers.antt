@@ -2,7 +2,7 @@ use Rattle.std.proofs.Common.{◌≡◌, ℕ, List, Err, sym, ◌∙◌, subst, 
 use Rattle.tm_refute.specs.Runs.{Reads}
 use Rattle.tm_refute.specs.TextForms.{IsProofText}
 use Rattle.tm_refute.specs.declared.refutation.Proof.{Proof}
-use Rattle.tm_refute.proofs.PieceReadLemmas.{no-forward, no-proof, no-reverse}
+use Rattle.tm_refute.proofs.reading.PieceLemmas.{no-forward, no-proof, no-reverse}
 use Rattle.tm_refute.proofs.text.piece_text.proof.Goals as goal
 
 pub returns-in_err-piece : goal.returns-in_err-piece

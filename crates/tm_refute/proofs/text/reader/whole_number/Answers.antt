@@ -1,6 +1,6 @@
 use Rattle.std.proofs.Common.{sym, subst}
 use Rattle.tm_refute.specs.Taken.{ReadsAll, IsWholeNumber}
-use Rattle.tm_refute.proofs.NumberLemmas.{more-behind, none-whole, not-empty}
+use Rattle.tm_refute.proofs.forms.NumberLemmas.{more-behind, none-whole, not-empty}
 use Rattle.tm_refute.proofs.text.reader.whole_number.Goals as goal
 
 pub returns-in_err-number : goal.returns-in_err-number

@@ -4,8 +4,8 @@ use Rattle.std.specs.Cmp.Lexicographic.{pointwise}
 use Rattle.tm_base.specs.Cells.{Word}
 use Rattle.tm_refute.specs.Runs.{Reads, run_cells}
 use Rattle.tm_refute.specs.WordForms.{IsWordText}
-use Rattle.tm_refute.proofs.LineReadLemmas.{not-text}
-use Rattle.tm_refute.proofs.WordReadLemmas.{go-on, last, no-run, none-left, run-stops, spaced, too-many}
+use Rattle.tm_refute.proofs.reading.LineLemmas.{not-text}
+use Rattle.tm_refute.proofs.reading.WordLemmas.{go-on, last, no-run, none-left, run-stops, spaced, too-many}
 use Rattle.tm_refute.proofs.text.word.word.Goals as goal
 
 pub returns-in_default : goal.returns-in_default

@@ -1,5 +1,5 @@
 use Rattle.std.proofs.Common.{length}
-use Rattle.tm_refute.proofs.WordReadLemmas.{IsSoFar}
+use Rattle.tm_refute.proofs.reading.WordLemmas.{IsSoFar}
 use Rattle.tm_refute.proofs.text.word.word.Given as goal
 
 abbrev pub invariant-loop-run : goal.invariant-loop-run

@@ -1,5 +1,5 @@
 use Rattle.std.proofs.Common.{arith}
-use Rattle.tm_refute.proofs.WrittenLemmas.{entry-back}
+use Rattle.tm_refute.proofs.forms.WrittenLemmas.{entry-back}
 use Rattle.tm_refute.proofs.text.writing.write_entry.Goals as goal
 
 pub returns-clause-form : goal.returns-clause-form

@@ -4,7 +4,7 @@ use Rattle.std.proofs.lemmas.List.{take_all}
 use Rattle.std.proofs.lemmas.List.Elements.{All-push}
 use Rattle.tm_refute.specs.Written.{IsEntryReadBack}
 use Rattle.tm_refute.specs.declared.refutation.Entry.{Entry}
-use Rattle.tm_refute.proofs.WrittenLemmas.{entry_lines, line-more, one-more, refutation-back, whole-written}
+use Rattle.tm_refute.proofs.forms.WrittenLemmas.{entry_lines, line-more, one-more, refutation-back, whole-written}
 use Rattle.tm_refute.proofs.text.writing.write_text.Goals as goal
 
 pub loop-entry-preserved : goal.loop-entry-preserved

@@ -1,5 +1,5 @@
 use Rattle.std.proofs.Common.{◌∙◌, sym}
-use Rattle.tm_run.proofs.AnswerLemmas.{answer-means-holding}
+use Rattle.tm_run.proofs.answers.AnswerLemmas.{answer-means-holding}
 use Rattle.tm_run.proofs.court.CourtAskYes.yes.Goals as goal
 
 pub returns-clause-answer : goal.returns-clause-answer

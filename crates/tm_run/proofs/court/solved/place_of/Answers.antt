@@ -1,5 +1,5 @@
 use Rattle.std.proofs.Common.{◌∙◌, sym}
-use Rattle.tm_run.proofs.CourtLemmas.{same-flags, table-found}
+use Rattle.tm_run.proofs.answers.CourtLemmas.{same-flags, table-found}
 use Rattle.tm_run.proofs.court.solved.place_of.Goals as goal
 
 pub returns-then-eq : goal.returns-then-eq

@@ -2,7 +2,7 @@ use Rattle.std.proofs.Common.{◌∙◌, List, ap, subst, sym}
 use Rattle.tm_names.specs.InForm.{IsInForm}
 use Rattle.tm_names.specs.declared.resolved.OpenAsk.{OpenAsk}
 use Rattle.tm_run.specs.Asking.{own_questions}
-use Rattle.tm_run.proofs.AskingLemmas.{own-questions-in-form}
+use Rattle.tm_run.proofs.files.AskingLemmas.{own-questions-in-form}
 use Rattle.tm_run.proofs.examining.asking.with_questions.Goals as goal
 
 pub returns-in_ok-own_questions-in-Some-Matrix-clause-form : goal.returns-in_ok-own_questions-in-Some-Matrix-clause-form

@@ -2,8 +2,8 @@ use Rattle.std.proofs.Common.{◌≡◌, ◌∙◌, ℕ, Bool, true, false, Opti
 use Rattle.tm_base.specs.declared.limit.LimitKind.TheVariants.{MatrixTypes}
 use Rattle.tm_run.specs.Asking.{is_no_question, lacks_question, number_asked, passes_mode}
 use Rattle.tm_run.specs.Examined.{IsStop, stop_of}
-use Rattle.tm_run.proofs.ClosingLemmas.{as-many, cause_stops, examined, limit_only, question_only}
-use Rattle.tm_run.proofs.FaultLemmas.{passed_on}
+use Rattle.tm_run.proofs.files.ClosingLemmas.{as-many, cause_stops, examined, limit_only, question_only}
+use Rattle.tm_run.proofs.files.FaultLemmas.{passed_on}
 use Rattle.tm_run.proofs.examining.closing.world.Goals as goal
 
 pub returns-in_err-world-clause-stop : goal.returns-in_err-world-clause-stop

@@ -6,9 +6,9 @@ use Rattle.tm_base.specs.Answers.{IsAnswer}
 use Rattle.tm_base.specs.Tables.{Tables}
 use Rattle.tm_base.specs.Worlds.{IsTypeOver, tables_of}
 use Rattle.tm_run.specs.Answers.{AreAnswered, IsAnswered}
-use Rattle.tm_run.proofs.AnswerLemmas.{answered-so}
-use Rattle.tm_run.proofs.OverLemmas.{asked-at}
-use Rattle.tm_run.proofs.VerdictLemmas.{zip-push}
+use Rattle.tm_run.proofs.answers.AnswerLemmas.{answered-so}
+use Rattle.tm_run.proofs.answers.OverLemmas.{asked-at}
+use Rattle.tm_run.proofs.answers.VerdictLemmas.{zip-push}
 use Rattle.tm_run.proofs.reported.judging.answers.Goals as goal
 
 pub answer-requires-clause-source : goal.answer-requires-clause-source

@@ -5,8 +5,8 @@ use Rattle.tm_base.specs.declared.ask.Ask.{Ask}
 use Rattle.tm_base.specs.Worlds.{tables_of}
 use Rattle.tm_run.specs.Matches.{IsMatch}
 use Rattle.tm_run.specs.declared.matched.Match.{Match}
-use Rattle.tm_run.proofs.OverLemmas.{asked-at}
-use Rattle.tm_run.proofs.VerdictLemmas.{zip-push}
+use Rattle.tm_run.proofs.answers.OverLemmas.{asked-at}
+use Rattle.tm_run.proofs.answers.VerdictLemmas.{zip-push}
 use Rattle.tm_run.proofs.reported.matching.matches.Goals as goal
 
 pub match_with-requires-clause-over : goal.match_with-requires-clause-over

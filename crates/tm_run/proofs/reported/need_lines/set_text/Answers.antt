@@ -1,6 +1,6 @@
 use Rattle.std.proofs.Common.{◌∙◌, ap, codes}
 use Rattle.tm_run.specs.NeedTexts.{or_nothing, with_flag}
-use Rattle.tm_run.proofs.NeedTextLemmas.{flags-told}
+use Rattle.tm_run.proofs.answers.NeedTextLemmas.{flags-told}
 use Rattle.tm_run.proofs.reported.need_lines.set_text.Goals as goal
 
 pub returns : goal.returns

@@ -1,8 +1,8 @@
 use Rattle.std.proofs.Common.{◌∙◌, ◌<◌, length, subst, sym, arith}
 use Rattle.tm_base.specs.Answers.{IsAnswer}
 use Rattle.tm_base.specs.Tables.{Tables}
-use Rattle.tm_run.proofs.AnswerLemmas.{unrefused-judged}
-use Rattle.tm_run.proofs.NeedLemmas.{some-judged}
+use Rattle.tm_run.proofs.answers.AnswerLemmas.{unrefused-judged}
+use Rattle.tm_run.proofs.answers.NeedLemmas.{some-judged}
 use Rattle.tm_run.proofs.reported.needing.need.Goals as goal
 
 pub returns-then-len-gt0-clause-need : goal.returns-then-len-gt0-clause-need

@@ -6,8 +6,8 @@ use Rattle.tm_base.specs.Tables.{Tables}
 use Rattle.tm_base.specs.Worlds.{IsTypeOver, tables_of}
 use Rattle.tm_run.specs.Needs.{IsNeed}
 use Rattle.tm_run.specs.declared.reported.need.Need.{Need}
-use Rattle.tm_run.proofs.OverLemmas.{asked-at}
-use Rattle.tm_run.proofs.VerdictLemmas.{zip-push}
+use Rattle.tm_run.proofs.answers.OverLemmas.{asked-at}
+use Rattle.tm_run.proofs.answers.VerdictLemmas.{zip-push}
 use Rattle.tm_run.proofs.reported.needing.needs.Goals as goal
 
 pub need-requires-clause-source : goal.need-requires-clause-source

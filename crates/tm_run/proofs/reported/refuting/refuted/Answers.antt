@@ -6,9 +6,9 @@ use Rattle.tm_base.specs.Worlds.{IsTypeOver, tables_of}
 use Rattle.tm_refute.specs.Chosen.{IsRefutable, IsRefutationOf}
 use Rattle.tm_run.specs.Examined.{IsRefutationStop, stop_of_refuting}
 use Rattle.tm_run.specs.Report.{status_when}
-use Rattle.tm_run.proofs.AnswerLemmas.{answer-whole}
-use Rattle.tm_run.proofs.FaultLemmas.{passed_on}
-use Rattle.tm_run.proofs.RefuteLemmas.{chosen-writable, question-over, refuting-stops}
+use Rattle.tm_run.proofs.answers.AnswerLemmas.{answer-whole}
+use Rattle.tm_run.proofs.files.FaultLemmas.{passed_on}
+use Rattle.tm_run.proofs.answers.RefuteLemmas.{chosen-writable, question-over, refuting-stops}
 use Rattle.tm_run.proofs.reported.refuting.refuted.Goals as goal
 
 pub refutation-requires-clause-source : goal.refutation-requires-clause-source

@@ -1,4 +1,4 @@
-use Rattle.tm_run.proofs.RefuteLemmas.{question-over}
+use Rattle.tm_run.proofs.answers.RefuteLemmas.{question-over}
 use Rattle.tm_run.proofs.reported.refuting.verified.Goals as goal
 
 pub verify-requires-clause-source : goal.verify-requires-clause-source

@@ -6,7 +6,7 @@ use Rattle.tm_base.specs.Worlds.{tables_of}
 use Rattle.tm_walk.proofs.NextLayerLemmas.{on_ok}
 use Rattle.tm_refute.specs.Asking.{is_of}
 use Rattle.tm_refute.specs.Chosen.{shown}
-use Rattle.tm_refute.proofs.AskingLemmas.{asked-too}
+use Rattle.tm_refute.proofs.making.AskingLemmas.{asked-too}
 use Rattle.tm_refute.proofs.refuting.maker.Maker.ask.Goals as goal
 
 pub returns : goal.returns

@@ -9,7 +9,7 @@ use Rattle.tm_refute.specs.Asking.{IsAskedBy}
 use Rattle.tm_refute.specs.Entries.{AreEntriesFor, AreJudgedPair, AreKept}
 use Rattle.tm_refute.specs.Failing.{AreFailing}
 use Rattle.tm_refute.specs.declared.refuting.failing.Failing.{Failing}
-use Rattle.tm_refute.proofs.EntriesLemmas.{all-fail, before-at, finished, made, none-made, pair-judged, skipped}
+use Rattle.tm_refute.proofs.making.EntriesLemmas.{all-fail, before-at, finished, made, none-made, pair-judged, skipped}
 use Rattle.tm_refute.proofs.refuting.maker.Maker.entries.Goals as goal
 use Rattle.tm_refute.proofs.refuting.maker.Maker.entries.Goals.{then-has+in_ok-entry+in_ok-add, else-has}
 use Rattle.tm_refute.specs.declared.refuting.asked.Asked.{Asked}

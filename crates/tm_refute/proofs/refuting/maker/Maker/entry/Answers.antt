@@ -2,7 +2,7 @@ use Rattle.std.proofs.Common.{◌≡◌, Some, rules, slice_get}
 use Rattle.tm_base.specs.Worlds.{tables_of}
 use Rattle.tm_refs.specs.Local.{AreJudged}
 use Rattle.tm_refs.proofs.PointeeLemmas.{OnRows-gives, pointee-over}
-use Rattle.tm_refute.proofs.EntriesLemmas.{entry-asks}
+use Rattle.tm_refute.proofs.making.EntriesLemmas.{entry-asks}
 use Rattle.tm_base.proofs.HeldLemmas.{judged-laid_out}
 use Rattle.tm_refute.proofs.refuting.maker.Maker.entry.Goals as goal
 

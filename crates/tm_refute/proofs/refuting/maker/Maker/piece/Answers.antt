@@ -2,7 +2,7 @@ use Rattle.std.proofs.Common.{ℕ, subst}
 use Rattle.tm_base.specs.Worlds.{tables_of}
 use Rattle.tm_refs.specs.Solved.{depth_in}
 use Rattle.tm_refute.specs.Depths.{stands}
-use Rattle.tm_refute.proofs.ChosenPieceLemmas.{every-fits, first-refused}
+use Rattle.tm_refute.proofs.chosen.PieceLemmas.{every-fits, first-refused}
 use Rattle.tm_walk.specs.Refusals.{IsRefusalAnswer}
 use Rattle.tm_refute.proofs.refuting.maker.Maker.piece.Goals as goal
 

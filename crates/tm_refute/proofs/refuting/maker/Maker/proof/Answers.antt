@@ -4,7 +4,7 @@ use Rattle.tm_base.specs.Worlds.{tables_of}
 use Rattle.tm_refs.specs.Solved.{FailsFirstAt, IsWhyAnswer}
 use Rattle.tm_refs.proofs.PointeeLemmas.{pointee-over}
 use Rattle.tm_refute.specs.Making.{IsPieceAnswer}
-use Rattle.tm_refute.proofs.ChosenProofLemmas.{fails-some_way, is-mutable, some-told}
+use Rattle.tm_refute.proofs.chosen.ProofLemmas.{fails-some_way, is-mutable, some-told}
 use Rattle.tm_refute.proofs.refuting.maker.Maker.proof.Goals as goal
 
 pub unreachable-requires : goal.unreachable-requires

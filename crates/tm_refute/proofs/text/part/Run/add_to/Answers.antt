@@ -2,7 +2,7 @@ use Rattle.std.proofs.Common.{◌≡◌, ℕ, ◌*◌, ◌∙◌, ap, length, �
 use Rattle.tm_base.specs.Cells.{Word}
 use Rattle.tm_refute.specs.Runs.{as_part}
 use Rattle.tm_refute.specs.WordForms.{part_cells, repeated}
-use Rattle.tm_refute.proofs.RunLemmas.{length-repeated, repeated-more}
+use Rattle.tm_refute.proofs.reading.RunLemmas.{length-repeated, repeated-more}
 use Rattle.tm_refute.proofs.text.part.Run.add_to.Goals as goal
 
 pub returns-then-from-len-gt65536 : goal.returns-then-from-len-gt65536

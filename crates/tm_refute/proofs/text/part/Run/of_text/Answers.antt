@@ -2,7 +2,7 @@ use Rattle.std.proofs.Common.{sym, subst}
 use Rattle.tm_refute.specs.Runs.{IsRunText}
 use Rattle.tm_refute.specs.Taken.{ReadsAll}
 use Rattle.tm_refute.specs.declared.text.part.Run.{Run}
-use Rattle.tm_refute.proofs.RunLemmas.{back-times, front-part}
+use Rattle.tm_refute.proofs.reading.RunLemmas.{back-times, front-part}
 use Rattle.tm_refute.proofs.text.part.Run.of_text.Goals as goal
 
 pub returns-in_err-part : goal.returns-in_err-part

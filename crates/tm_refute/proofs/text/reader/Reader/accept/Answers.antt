@@ -1,5 +1,5 @@
 use Rattle.std.proofs.Common.{refl}
-use Rattle.tm_refute.proofs.NumberLemmas.{text-is, text-not}
+use Rattle.tm_refute.proofs.forms.NumberLemmas.{text-is, text-not}
 use Rattle.tm_refute.proofs.text.reader.Reader.accept.Goals as goal
 
 pub returns-in-Some : goal.returns-in-Some

@@ -1,4 +1,4 @@
-use Rattle.tm_refute.proofs.LineReadLemmas.{no-line}
+use Rattle.tm_refute.proofs.reading.LineLemmas.{no-line}
 use Rattle.tm_refute.proofs.text.reader.Reader.line.Goals as goal
 
 pub returns-then-not-accept : goal.returns-then-not-accept

@@ -1,7 +1,7 @@
 use Rattle.std.proofs.Common.{◌≡◌, ◌+◌, ◌*◌, ◌<◌, ◌^◌, ℕ, ◌++◌, sym, subst, arith}
 use Rattle.std.specs.Fmt.{decimal}
 use Rattle.tm_refute.specs.Taken.{IsNumber, Takes}
-use Rattle.tm_refute.proofs.NumberLemmas.{at-least, first-one, not-zero, leading-zero, no-digit, one-more, too-large}
+use Rattle.tm_refute.proofs.forms.NumberLemmas.{at-least, first-one, not-zero, leading-zero, no-digit, one-more, too-large}
 use Rattle.tm_refute.proofs.text.reader.Reader.number.Goals as goal
 
 pub returns-in_err-number : goal.returns-in_err-number

@@ -1,4 +1,4 @@
-use Rattle.tm_refute.proofs.NumberLemmas.{number-behind}
+use Rattle.tm_refute.proofs.forms.NumberLemmas.{number-behind}
 use Rattle.tm_refute.proofs.text.reader.Reader.numbered.Goals as goal
 
 pub returns : goal.returns

@@ -1,7 +1,7 @@
 use Rattle.std.proofs.Common.{slice_get}
 use Rattle.tm_base.specs.Worlds.{tables_of}
 use Rattle.tm_base.proofs.CompatibleLemmas.{OnRows-grows}
-use Rattle.tm_refute.proofs.VerifyLemmas.{broken, kept}
+use Rattle.tm_refute.proofs.checking.VerifyLemmas.{broken, kept}
 use Rattle.tm_refute.proofs.verifying.verifier.Verifier.breaks_locally.Goals as goal
 
 pub returns-in-Ok : goal.returns-in-Ok

@@ -6,8 +6,8 @@ use Rattle.tm_base.specs.Worlds.{tables_of}
 use Rattle.tm_refute.specs.Chosen.{shown}
 use Rattle.tm_refute.specs.Depths.{depth_in, stands}
 use Rattle.tm_refute.specs.Refutes.{Stands}
-use Rattle.tm_refute.proofs.DepthLemmas.{stands-exact}
-use Rattle.tm_refute.proofs.VerifyLemmas.{viable-same}
+use Rattle.tm_refute.proofs.making.DepthLemmas.{stands-exact}
+use Rattle.tm_refute.proofs.checking.VerifyLemmas.{viable-same}
 use Rattle.tm_refute.proofs.verifying.verifier.Verifier.goes_along.Goals as goal
 
 pub returns : goal.returns

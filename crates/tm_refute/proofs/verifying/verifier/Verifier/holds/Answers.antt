@@ -1,7 +1,7 @@
 use Rattle.std.proofs.Common.{sym}
 use Rattle.std.proofs.lemmas.Result.{IfOk-weaker}
 use Rattle.tm_base.specs.Worlds.{tables_of}
-use Rattle.tm_refute.proofs.ShownLemmas.{holds-from}
+use Rattle.tm_refute.proofs.checking.ShownLemmas.{holds-from}
 use Rattle.tm_refute.proofs.verifying.verifier.Verifier.holds.Goals as goal
 
 pub returns : goal.returns

@@ -1,7 +1,7 @@
 use Rattle.std.proofs.lemmas.Result.{IfOk-weaker}
 use Rattle.tm_base.specs.Worlds.{tables_of}
 use Rattle.tm_refs.proofs.PointeeLemmas.{pointee-laid_out}
-use Rattle.tm_refute.proofs.ShownLemmas.{forward-shown, reverse-shown}
+use Rattle.tm_refute.proofs.checking.ShownLemmas.{forward-shown, reverse-shown}
 use Rattle.tm_refute.proofs.verifying.verifier.Verifier.is_shown.Goals as goal
 
 pub breaks-requires-clause-source : goal.breaks-requires-clause-source

@@ -1,6 +1,6 @@
 use Rattle.std.proofs.Common.{◌≡◌, Bool, true, false, refl}
 use Rattle.tm_validate.specs.Digits.{are_digits}
-use Rattle.tm_run.proofs.ByteLemmas.{bytes-few}
+use Rattle.tm_run.proofs.runs.ByteLemmas.{bytes-few}
 use Rattle.tm_run.proofs.words.bytes.Bytes.read.Goals as goal
 
 pub invariant_of-result : goal.invariant_of-result

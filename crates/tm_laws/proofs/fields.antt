@@ -1,0 +1,9 @@
+pub mod SliceLemmas
+pub mod StructLemmas
+pub mod EnumLemmas
+pub mod PlacesLemmas
+pub mod PlacesTypes
+pub mod PlacesRows
+pub mod JudgedPlaces
+pub mod JudgedRows
+pub mod PartLemmas

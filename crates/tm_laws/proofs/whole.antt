@@ -1,0 +1,4 @@
+pub mod Leaves
+pub mod Words
+pub mod Types
+pub mod Runs

@@ -1,0 +1,3 @@
+pub mod LawLemmas
+mod ShownLemmas
+mod VerifyLemmas

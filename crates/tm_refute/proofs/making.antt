@@ -1,0 +1,5 @@
+mod AskingLemmas
+mod DepthLemmas
+mod EntriesLemmas
+mod FailingLemmas
+mod JudgedLemmas

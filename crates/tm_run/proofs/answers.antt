@@ -1,0 +1,10 @@
+pub mod CourtLemmas
+pub mod OverLemmas
+pub mod AnswerLemmas
+pub mod VerdictLemmas
+pub mod MarkLemmas
+pub mod MatchLemmas
+pub mod NeedLemmas
+pub mod NeedTextLemmas
+pub mod RefuteLemmas
+pub mod OnlyLemmas

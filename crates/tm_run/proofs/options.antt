@@ -1,0 +1,4 @@
+pub mod WordLemmas
+pub mod ClapFacts
+pub mod ClapWalk
+pub mod ClapReads
