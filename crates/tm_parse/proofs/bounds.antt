@@ -14,4 +14,4 @@ pub mod TypeLengths
 pub mod DeclaredClasses
 pub mod IntegerTerminals
 pub mod WithinLimits
-mod Spans
+pub mod Spans

@@ -19,4 +19,4 @@ pub mod DefinitionLaws
 pub mod BehindAttributes
 pub mod FileLaws
 pub mod LookedUp
-mod Tables
+pub mod Tables

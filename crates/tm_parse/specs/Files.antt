@@ -13,6 +13,7 @@ use Rattle.tm_parse.specs.declared.class.Class.{Class}
 use Rattle.tm_parse.specs.declared.class.Class.TheVariants as c
 use Rattle.tm_parse.specs.declared.reader.items.Item.{Item}
 use Rattle.tm_parse.specs.declared.reader.items.Item.TheVariants as sort
+use Rattle.tm_parse.specs.declared.parsed.Expr.{Expr}
 use Rattle.tm_parse.specs.declared.parsed.Parsed.{Parsed}
 use Rattle.tm_parse.specs.declared.terminal.Terminal.{Terminal}
 
@@ -40,6 +41,10 @@ flag = any (c.Alignment ∷ c.Lifetimes ∷ c.Safety ∷ c.Validity ∷ [])
 -- `assume` with its flags, which may be left out
 abbrev pub assume : Part (Option (Terminal × List Terminal))
 assume = optional (the c.Assume >> listed1 flag)
+
+-- what stands behind the source of a question
+abbrev pub behind_source : ℕ → Part (Expr × Assume)
+behind_source levels = to (λ (arrow, (dst, (given, end))). (dst, assumed given)) (the c.Arrow >> type_at 0 levels >> assume >> the c.Semicolon)
 
 abbrev pub question : ℕ → Part Item
 question levels = to (λ (word, (src, (arrow, (dst, (given, end))))). sort.Question (record { src = src; dst = dst; assume = assumed given }))

@@ -1,3 +1,3 @@
 pub mod LawLemmas
-mod ShownLemmas
-mod VerifyLemmas
+pub mod ShownLemmas
+pub mod VerifyLemmas

@@ -1,11 +1,11 @@
 pub mod AloneLemmas
-mod FewLemmas
+pub mod FewLemmas
 pub mod HoldsLemmas
-mod LeafLemmas
-mod OneLemmas
-mod OrderLemmas
-mod PieceLemmas
-mod ProofLemmas
-mod StopLemmas
-mod WordLemmas
-mod WritableLemmas
+pub mod LeafLemmas
+pub mod OneLemmas
+pub mod OrderLemmas
+pub mod PieceLemmas
+pub mod ProofLemmas
+pub mod StopLemmas
+pub mod WordLemmas
+pub mod WritableLemmas

@@ -1,9 +1,9 @@
-mod TextLemmas
-mod NumberLemmas
-mod PartLemmas
-mod WordLemmas
-mod LineLemmas
-mod LeadsLemmas
+pub mod TextLemmas
+pub mod NumberLemmas
+pub mod PartLemmas
+pub mod WordLemmas
+pub mod LineLemmas
+pub mod LeadsLemmas
 pub mod GoingOnLemmas
-mod WrittenLemmas
-mod WrittenWordLemmas
+pub mod WrittenLemmas
+pub mod WrittenWordLemmas

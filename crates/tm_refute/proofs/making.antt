@@ -1,5 +1,5 @@
-mod AskingLemmas
-mod DepthLemmas
-mod EntriesLemmas
-mod FailingLemmas
-mod JudgedLemmas
+pub mod AskingLemmas
+pub mod DepthLemmas
+pub mod EntriesLemmas
+pub mod FailingLemmas
+pub mod JudgedLemmas

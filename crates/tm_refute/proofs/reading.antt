@@ -1,7 +1,7 @@
-mod HeaderLemmas
-mod LineLemmas
-mod PieceLemmas
-mod RunLemmas
-mod WordLemmas
-mod TextLemmas
-mod ReadBackLemmas
+pub mod HeaderLemmas
+pub mod LineLemmas
+pub mod PieceLemmas
+pub mod RunLemmas
+pub mod WordLemmas
+pub mod TextLemmas
+pub mod ReadBackLemmas

@@ -25,10 +25,14 @@ AreNumbered (row ∷ rows) = (row.0.items ≡ row.1) × (¬ Among row.1 (sets_of
 abbrev pub entry_by : List ℕ → List ℕ → Way → Entry
 entry_by src dst way = record { src = src; dst = dst; parent = way.parent; cell = way.cell }
 
+-- a pair that was reached
+abbrev pub reached_entry : Reached → Entry
+reached_entry pair = entry_by pair.src pair.dst pair.way
+
 -- the only pair, or else several
 abbrev pub only_or : Option Reached → List Entry → List Entry
 only_or None several = several
-only_or (Some only) several = entry_by only.src only.dst only.way ∷ []
+only_or (Some only) several = reached_entry only ∷ []
 
 -- several pairs, where there are some
 abbrev pub pairs_in : Option (Box (List Entry)) → List Entry

@@ -8,7 +8,7 @@ ghost use Rattle.tm_walk.specs.Layers.{Entry, HasStates, AreSymbols, AreOffered,
 use crate::layer::Layer;
 use crate::live::is_live;
 use crate::quantifier::Quantifier;
-use crate::way::Way;
+use crate::way::{Reached, Way};
 use std::alloc::Global;
 use std::sync::ledger::Ledger;
 use tm_auto::{Auto, OnlyStep, StateSet, Symbol, classes, only_step};
@@ -34,7 +34,8 @@ impl<'a, Q: Quantifier, M: RefTest> Walk<'a, Q, M> {
         let src = self.src.start(self.alloc)?;
         if is_live(&src) {
             let dst = self.dst.start(self.alloc)?;
-            layer.offer(self.alloc, src, dst, Way::default())?;
+            let way = Way::default();
+            layer.offer(self.alloc, Reached { src, dst, way })?;
         }
         Ok(layer)
     }
@@ -96,7 +97,7 @@ impl<'a, Q: Quantifier, M: RefTest> Walk<'a, Q, M> {
                 parent: k,
                 cell: symbol.least(),
             };
-            next.offer(self.alloc, src, dst, way)?;
+            next.offer(self.alloc, Reached { src, dst, way })?;
         }
         Ok(())
     }
@@ -130,7 +131,8 @@ impl<'a, Q: Quantifier, M: RefTest> Walk<'a, Q, M> {
                 parent: k,
                 cell: step.symbol.least(),
             };
-            return next.offer(self.alloc, step.src, step.dst, way);
+            let OnlyStep { src, dst, .. } = step;
+            return next.offer(self.alloc, Reached { src, dst, way });
         }
         let symbols = self.symbols(place, from, to)?;
         self.offer_steps(from, to, k, symbols.as_slice(), next)

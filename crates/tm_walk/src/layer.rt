@@ -1,9 +1,9 @@
 ghost use Rattle.std.specs.Prelude.{◌≡◌, ◌<◌, [], ◌∷◌, Some, IfOk, OnOk, length, map, slice_get};
 ghost use Rattle.tm_walk.specs.Layers.{Entry, IsOffered};
-ghost use Rattle.tm_walk.specs.Numbers.{entry_by, way_of};
+ghost use Rattle.tm_walk.specs.Numbers.{reached_entry, way_of};
 
 use crate::pairs::Pairs;
-use crate::way::{Reached, Way, Ways};
+use crate::way::{Reached, Ways};
 use std::alloc::Global;
 use std::marker::Model;
 use tm_auto::StateSet;
@@ -68,27 +68,21 @@ impl Layer {
     }
 
     /// Puts a pair last, unless it is there.
-    pub fn offer(
-        &mut self,
-        alloc: Global,
-        src: StateSet,
-        dst: StateSet,
-        way: Way,
-    ) -> Result<(), Memory>
-        ensures { OnOk result (IsOffered (entry_by src dst way) self.old self.new) }
+    pub fn offer(&mut self, alloc: Global, pair: Reached) -> Result<(), Memory>
+        ensures { OnOk result (IsOffered (reached_entry pair) self.old self.new) }
     {
         if let Some(several) = &mut self.several {
-            return several.offer(alloc, src, dst, way);
+            return several.offer(alloc, pair);
         }
         let Some(only) = self.only.take() else {
-            self.only = Some(Reached { src, dst, way });
+            self.only = Some(pair);
             return Ok(());
         };
-        if only.has(&src, &dst) {
+        if only.has_sets_of(&pair) {
             self.only = Some(only);
             return Ok(());
         }
-        self.several = Some(both(alloc, only, Reached { src, dst, way })?);
+        self.several = Some(both(alloc, only, pair)?);
         Ok(())
     }
 
@@ -106,11 +100,11 @@ impl Layer {
 
 /// A pair, and one that is put behind it unless it has the same sets.
 fn both(alloc: Global, first: Reached, second: Reached) -> Result<Box<Pairs>, Memory>
-    ensures { IfOk result (λ several. IsOffered (entry_by second.src second.dst second.way)
-        (entry_by first.src first.dst first.way ∷ []) several.value) }
+    ensures { IfOk result (λ several.
+        IsOffered (reached_entry second) (reached_entry first ∷ []) several.value) }
 {
     let mut several = Pairs::new(alloc);
-    several.offer(alloc, first.src, first.dst, first.way)?;
-    several.offer(alloc, second.src, second.dst, second.way)?;
+    several.offer(alloc, first)?;
+    several.offer(alloc, second)?;
     Ok(Box::new(alloc, several)?)
 }

@@ -1,9 +1,9 @@
 ghost use Rattle.std.specs.Prelude.{◌≡◌, ◌<◌, [], Some, IfOk, OnOk, length, map, slice_get};
 ghost use Rattle.tm_walk.specs.Layers.{Entry, IsOffered};
-ghost use Rattle.tm_walk.specs.Numbers.{entry_by, way_of};
+ghost use Rattle.tm_walk.specs.Numbers.{reached_entry, way_of};
 
 use crate::sets::Sets;
-use crate::way::{Pair, Way};
+use crate::way::{Pair, Reached, Way};
 use indexmap::IndexMap;
 use std::alloc::Global;
 use std::marker::Model;
@@ -61,15 +61,10 @@ impl Pairs {
     }
 
     /// Puts a pair last, unless it is there.
-    pub fn offer(
-        &mut self,
-        alloc: Global,
-        src: StateSet,
-        dst: StateSet,
-        way: Way,
-    ) -> Result<(), Memory>
-        ensures { OnOk result (IsOffered (entry_by src dst way) self.old self.new) }
+    pub fn offer(&mut self, alloc: Global, pair: Reached) -> Result<(), Memory>
+        ensures { OnOk result (IsOffered (reached_entry pair) self.old self.new) }
     {
+        let Reached { src, dst, way } = pair;
         let source = self.sources.number(alloc, src)?;
         let target = self.targets.number(alloc, dst)?;
         let pair = Pair { source, target };

@@ -40,10 +40,11 @@ pub struct Reached {
 }
 
 impl Reached {
-    /// Whether they are these sets.
-    pub fn has(&self, src: &StateSet, dst: &StateSet) -> bool
-        ensures { IsTrue result ↔ ((self.now.src ≡ src.now) × (self.now.dst ≡ dst.now)) }
+    /// Whether the sets are those of another pair.
+    pub fn has_sets_of(&self, other: &Reached) -> bool
+        ensures { IsTrue result
+            ↔ ((self.now.src ≡ other.now.src) × (self.now.dst ≡ other.now.dst)) }
     {
-        self.src.as_slice() == src.as_slice() && self.dst.as_slice() == dst.as_slice()
+        self.src.as_slice() == other.src.as_slice() && self.dst.as_slice() == other.dst.as_slice()
     }
 }

@@ -3,6 +3,7 @@ ghost use Rattle.tm_parse.specs.Combinators.{to};
 ghost use Rattle.tm_parse.specs.Files.{
   assume as assume_rule,
   assumed,
+  behind_source as behind_source_rule,
   flags as flags_of,
   is_flagged as is_flagged_by,
   question as question_rule,
@@ -11,7 +12,7 @@ ghost use Rattle.tm_parse.specs.Reads.{Reads};
 
 use crate::class::Class;
 use crate::mark::Mark;
-use crate::parsed::DeclAsk;
+use crate::parsed::{DeclAsk, Expr};
 use crate::reader::Reader;
 use crate::reader::items::Item;
 use crate::reader::rule::AnyOf;
@@ -61,6 +62,17 @@ impl<'a> Reader<'a> {
         Ok(flags(written.as_slice()))
     }
 
+    /// What stands behind the source of a question.
+    fn behind_source(&mut self) -> Result<(Expr, Assume), Stop>
+        ensures { Reads (behind_source_rule 0) self.old self.new result }
+    {
+        self.take(Class::Arrow)?;
+        let dst = self.outermost()?;
+        let assume = self.assume()?;
+        self.take(Class::Semicolon)?;
+        Ok((dst, assume))
+    }
+
     /// A question.
     pub fn question(&mut self) -> Result<Item, Stop>
         ensures { Reads (question_rule 0) self.old self.new result }
@@ -69,10 +81,7 @@ impl<'a> Reader<'a> {
         self.begin(begins, Mark::Question)?;
         self.take(Class::Ask)?;
         let src = self.outermost()?;
-        self.take(Class::Arrow)?;
-        let dst = self.outermost()?;
-        let assume = self.assume()?;
-        self.take(Class::Semicolon)?;
+        let (dst, assume) = self.behind_source()?;
         Ok(Item::Question(DeclAsk { src, dst, assume }))
     }
 }
