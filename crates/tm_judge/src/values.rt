@@ -7,7 +7,7 @@ ghost use Rattle.tm_base.specs.Parts.{HasNoAlternatives};
 ghost use Rattle.tm_base.specs.Reaches.{IsJudged};
 ghost use Rattle.tm_base.specs.Rules.{HasTargetWord, IsWholeRule, source, target};
 ghost use Rattle.tm_base.specs.Worlds.{IsTypeOver, tables_of};
-ghost use Rattle.tm_judge.specs.Ready.{AnswersEach, HasStart};
+ghost use Rattle.tm_judge.specs.Ready.{AnswersEach, HasStart, IsReady};
 ghost use Rattle.tm_layout.specs.Made.{IsMadeFor};
 ghost use Rattle.tm_refs.specs.Serves.{ServesFor};
 
@@ -48,19 +48,53 @@ pub fn judge_values<L: Ledger>(
 {
     let src = automaton_of(alloc, world, layouts, &ask.src, true)?;
     let dst = automaton_of(alloc, world, layouts, &ask.dst, ask.assume.safety)?;
+    let automata = Automata {
+        src: &src,
+        dst: &dst,
+    };
+    answer(alloc, world, layouts, compat, ask, &automata, steps)
+}
+
+/// The automata of a question's types.
+#[derive(Clone, Copy)]
+struct Automata<'a> {
+    /// Of the values that the source has.
+    src: &'a Auto,
+    /// Of those that may be made of the target.
+    dst: &'a Auto,
+}
+
+/// The answer to a question from the automata of its types.
+fn answer<L: Ledger>(
+    alloc: Global,
+    world: &World,
+    layouts: &Layouts,
+    compat: &Compat,
+    ask: &Ask,
+    automata: &Automata,
+    steps: &mut Steps<L>,
+) -> Result<Answer, Memory>
+    requires made { IsMadeFor (tables_of world.now) layouts.now }
+    requires ready { IsReady world.now ask.now compat.now
+        automata.now.src.now automata.now.dst.now }
+    ensures answer { IfOk result (IsAnswer (tables_of world.now) ask.now) }
+    ensures cost { HasOneStateALayer automata.now.src.now → HasOneStateALayer automata.now.dst.now
+        → steps.new ≤ steps.old + (automata.now.dst.now.size + 1) }
+{
+    let (src, dst) = (automata.src, automata.dst);
     src.law();
     dst.law();
-    if !has_start(alloc, &src)? {
+    if !has_start(alloc, src)? {
         return Ok(Answer::Yes);
     }
-    if !has_start(alloc, &dst)? {
+    if !has_start(alloc, dst)? {
         let rule = rule_without_values(alloc, world, layouts, ask)?;
         return Ok(Answer::No(rule));
     }
     if ask.assume.validity {
-        some_value(alloc, compat, &src, &dst, steps)
+        some_value(alloc, compat, src, dst, steps)
     } else {
-        each_value(alloc, compat, &src, &dst, steps)
+        each_value(alloc, compat, src, dst, steps)
     }
 }
 
