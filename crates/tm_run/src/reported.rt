@@ -105,6 +105,35 @@ fn matched(
 }
 
 /// What the options ask for of a file's world.
+fn in_mode<L: Ledger>(
+    alloc: Global,
+    options: &Options,
+    file: &[u8],
+    world: &World,
+    layouts: &Layouts,
+    court: &mut Court<L>,
+) -> Result<(Status, Text), Stop>
+    requires court { court.old ≡ tables_of world.now }
+    requires made { IsMadeFor (tables_of world.now) layouts.now }
+    requires few { passes_mode options.now.mode (length world.now.questions) ≡ false }
+    requires there { lacks_question (number_asked options.now.mode)
+        (length world.now.questions) ≡ false }
+    requires utf8 { IsUtf8 file.now }
+    ensures report { IfOk result (λ outcome.
+        IsReported options.now.mode options.now file.now world.now outcome.0 outcome.1) }
+    ensures stop { IfErr result (IsReportStop options.now.mode world.now) }
+{
+    match &options.mode {
+        None => Ok(answered(alloc, options, file, world, court)?),
+        Some(Mode::Needs) => Ok(needed(alloc, world, court)?),
+        Some(Mode::Matrix) => Ok(matrixed(alloc, world, layouts, court)?),
+        Some(Mode::Bytes(bytes)) => Ok(matched(alloc, world, layouts, bytes.as_slice())?),
+        Some(Mode::Refute(number)) => refuted(alloc, file, world, court, *number),
+        Some(Mode::Verify(number, x)) => Ok(verified(alloc, world, layouts, *number, x)?),
+    }
+}
+
+/// The same, with layouts and a court of its own.
 fn reported_by<L: Ledger>(
     alloc: Global,
     options: &Options,
@@ -125,14 +154,7 @@ fn reported_by<L: Ledger>(
 {
     let layouts = Layouts::new(alloc, world)?;
     let mut court: Court<L> = Court::new(alloc, world, &layouts, blank)?;
-    match &options.mode {
-        None => Ok(answered(alloc, options, file, world, &mut court)?),
-        Some(Mode::Needs) => Ok(needed(alloc, world, &mut court)?),
-        Some(Mode::Matrix) => Ok(matrixed(alloc, world, &layouts, &mut court)?),
-        Some(Mode::Bytes(bytes)) => Ok(matched(alloc, world, &layouts, bytes.as_slice())?),
-        Some(Mode::Refute(number)) => refuted(alloc, file, world, &mut court, *number),
-        Some(Mode::Verify(number, x)) => Ok(verified(alloc, world, &layouts, *number, x)?),
-    }
+    in_mode(alloc, options, file, world, &layouts, &mut court)
 }
 
 /// The status and the text of what the options ask for of a file's world.

@@ -6,8 +6,7 @@ ghost use Rattle.tm_base.specs.Worlds.{IsTypeOver, tables_of};
 ghost use Rattle.tm_refs.specs.Local.{AreJudged};
 ghost use Rattle.tm_refs.specs.Solved.{FailsFirstAt};
 ghost use Rattle.tm_refute.specs.Chosen.{IsChosenProof};
-ghost use Rattle.tm_refute.specs.Making.{IsMaking, IsPieceAnswer};
-ghost use Rattle.tm_walk.specs.Refusals.{IsRefusalAnswer};
+ghost use Rattle.tm_refute.specs.Making.{IsMaking, IsPieceAnswer, IsRefusedWord};
 
 use crate::refutation::{Piece, Proof};
 use crate::refuting::below::Below;
@@ -51,15 +50,7 @@ impl Maker<'_> {
             compat: self.compat,
             limit,
         };
-        match refusal::<Below<'_>, Brand>(alloc, &src, &dst, &refs, Blank::new(1))? {
-            None => Ok(None),
-            Some(found) => {
-                Ok(Some(Piece {
-                    word: found.word,
-                    offset: found.offset,
-                }))
-            }
-        }
+        refused::<Below<'_>, Brand>(alloc, &src, &dst, &refs, Blank::new(1))
     }
 
     /// Why two references with judged pointees fail first at a depth.
@@ -97,18 +88,21 @@ impl Maker<'_> {
 }
 
 /// The word of the source that the target refuses first; the steps are counted by a counter of their own.
-fn refusal<M: RefTest, L: Ledger>(
+fn refused<M: RefTest, L: Ledger>(
     alloc: Global,
     src: &Auto,
     dst: &Auto,
     refs: &M,
     blank: Blank,
-) -> Result<Option<Found>, Memory>
+) -> Result<Option<Piece>, Memory>
     requires name { blank.name ≡ L.name }
     requires parts { blank.parts ≡ L.parts }
     requires some { 0 < L.parts }
-    ensures { IfOk result (IsRefusalAnswer (M.test refs.now) src.now dst.now) }
+    ensures { IfOk result (IsRefusedWord (M.test refs.now) src.now dst.now) }
 {
     let mut steps = Steps::<L>::new(blank);
-    first_refusal(alloc, src, dst, refs, &mut steps)
+    match first_refusal(alloc, src, dst, refs, &mut steps)? {
+        None => Ok(None),
+        Some(Found { word, offset }) => Ok(Some(Piece { word, offset })),
+    }
 }
