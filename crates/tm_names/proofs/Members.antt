@@ -76,9 +76,12 @@ first_left f [] i n x h e at = absurd (omega arith)
 first_left f (y ∷ ys) zero n x h e at = ap (λ k. f x ∷ map f (drop k (y ∷ ys))) e ∙ ap (λ z. f z ∷ map f ys) at
 first_left f (y ∷ ys) (suc i) n x h e at = ap (λ k. f x ∷ map f (drop k (y ∷ ys))) e ∙ first_left f ys i (suc i) x (omega arith) refl at
 
-pub one_taken : {X Y : Type 0} (f : X → Y) (found : List Y) (xs : List X) (i n : ℕ) (x : X) → i < length xs → n ≡ suc i → x ≡ get_or xs i x
-    → (found ++ (f x ∷ [])) ++ map f (drop n xs) ≡ found ++ map f (drop i xs)
-one_taken f found xs i n x h e at = append_assoc found (f x ∷ []) (map f (drop n xs)) ∙ ap (λ left. found ++ left) (first_left f xs i n x h e at)
+-- one turn of a loop over a list: what is found so far, and what the rest gives, is the whole
+pub next_found : {X Y : Type 0} (f : X → Y) (found next whole : List Y) (xs : List X) (i n : ℕ) (x : X)
+    → i < length xs → n ≡ suc i → x ≡ get_or xs i x → next ≡ found ++ (f x ∷ []) → found ++ map f (drop i xs) ≡ whole
+    → next ++ map f (drop n xs) ≡ whole
+next_found f found next whole xs i n x h e at put rest =
+    ap (λ those. those ++ map f (drop n xs)) put ∙ (append_assoc found (f x ∷ []) (map f (drop n xs)) ∙ (ap (λ left. found ++ left) (first_left f xs i n x h e at) ∙ rest))
 
 -- the item at a place is one of the list
 pub member_from_get : {X : Type 0} (x : X) (xs : List X) (k : ℕ) → slice_get xs k ≡ Some x → Member x xs

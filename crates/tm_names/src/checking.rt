@@ -10,11 +10,11 @@ ghost use Rattle.tm_names.specs.Written.{name_at};
 ghost use Rattle.tm_parse.specs.Parsing.{SpellsFile};
 ghost use Rattle.tm_parse.specs.Spelling.{terminals_of};
 
-use crate::definitions::indexed;
 use crate::fault::NameErr;
 use crate::faults::first_fault;
+use crate::file::File;
+use crate::indexed::Definitions;
 use crate::resolved::Resolved;
-use crate::resolving::resolved;
 use crate::source::Source;
 use std::alloc::Global;
 use tm_base::Profile;
@@ -55,13 +55,18 @@ pub fn check(
         tokens,
         profile,
     };
-    let Ok(definitions) = indexed(alloc, &source, parsed.decls.as_slice()) else {
+    let Ok(definitions) = Definitions::indexed(alloc, &source, parsed.decls.as_slice()) else {
         return Err(NameErr::Memory);
     };
-    match first_fault(alloc, &source, &definitions, parsed) {
+    let file = File {
+        alloc,
+        source,
+        definitions: &definitions,
+    };
+    match first_fault(&file, parsed) {
         Err(_) => Err(NameErr::Memory),
         Ok(Some(fault)) => Err(NameErr::Fault(fault.why, fault.place)),
-        Ok(None) => match resolved(alloc, &source, &definitions, parsed) {
+        Ok(None) => match file.resolved(parsed) {
             Ok(found) => Ok(found),
             Err(_) => Err(NameErr::Memory),
         },

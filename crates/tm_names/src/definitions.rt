@@ -6,6 +6,7 @@ ghost use Rattle.tm_names.specs.Indexing.{IsIndexed};
 ghost use Rattle.tm_names.specs.Meanings.{IsAtPlace, first_named, meaning_of};
 ghost use Rattle.tm_names.specs.Source.{names_in};
 
+use crate::file::File;
 use crate::indexed::Definitions;
 use crate::meaning::Meaning;
 use crate::source::Source;
@@ -27,55 +28,54 @@ fn note<'a>(
     if firsts.contains_key(name) {
         return Ok(());
     }
-    match firsts.insert(name, number) {
-        Ok(_) => Ok(()),
-        Err(_) => Err(Memory),
-    }
+    firsts.insert(name, number)?;
+    Ok(())
 }
 
-/// Definitions with the first of each name.
-pub fn indexed<'a>(
-    alloc: Global,
-    source: &Source<'a>,
-    decls: &'a [Decl],
-) -> Result<Definitions<'a>, Memory>
-    requires few { length decls.now ≤ 256 }
-    ensures decls { IfOk result (λ definitions. definitions.decls.now ≡ decls.now) }
-    ensures indexed { IfOk result (IsIndexed (names_in source.now)) }
-{
-    let mut firsts = IndexMap::new(alloc);
-    'definitions: for (number, decl) in decls.iter().enumerate() {
-        match note(&mut firsts, source.name(decl.name), number) {
-            Ok(()) => {}
-            Err(_) => return Err(Memory),
-        }
-    }
-    Ok(Definitions { decls, firsts })
-}
-
-impl Definitions<'_> {
-    /// The number of the first definition that has the name of the token at a place.
-    pub fn first_named(&self, source: &Source, place: u32) -> Option<usize>
-        requires { IsIndexed (names_in source.now) self.now }
-        ensures first { result ≡ first_named (names_in source.now) self.now.decls.now place }
-        ensures within { IfSome result (λ number. number < length self.now.decls.now) }
+impl<'a> Definitions<'a> {
+    /// Definitions with the first of each name.
+    pub fn indexed(
+        alloc: Global,
+        source: &Source<'a>,
+        decls: &'a [Decl],
+    ) -> Result<Definitions<'a>, Memory>
+        requires few { length decls.now ≤ 256 }
+        ensures decls { IfOk result (λ definitions. definitions.decls.now ≡ decls.now) }
+        ensures indexed { IfOk result (IsIndexed (names_in source.now)) }
     {
-        self.firsts.get(source.name(place)).copied()
+        let mut firsts = IndexMap::new(alloc);
+        for (number, decl) in decls.iter().enumerate() {
+            note(&mut firsts, source.name(decl.name), number)?;
+        }
+        Ok(Definitions { decls, firsts })
+    }
+}
+
+impl File<'_, '_> {
+    /// The number of the first definition that has the name of the token at a place.
+    pub fn first_named(&self, place: u32) -> Option<usize>
+        ensures first { result
+            ≡ first_named (names_in self.now.source) self.now.definitions.now.decls.now place }
+        ensures within { IfSome result (λ number.
+            number < length self.now.definitions.now.decls.now) }
+    {
+        self.definitions
+            .firsts
+            .get(self.source.name(place))
+            .copied()
     }
 
     /// What the name of the token at a place means, where these type parameters are in sight.
-    pub fn meaning(&self, source: &Source, types: &[u32], place: u32) -> Option<Meaning>
-        requires { IsIndexed (names_in source.now) self.now }
-        ensures meant { result
-            ≡ meaning_of (names_in source.now) self.now.decls.now types.now place }
-        ensures within { IfSome result (IsAtPlace self.now.decls.now types.now) }
+    pub fn meaning(&self, types: &[u32], place: u32) -> Option<Meaning>
+        ensures meant { result ≡ meaning_of (names_in self.now.source)
+            self.now.definitions.now.decls.now types.now place }
+        ensures within { IfSome result
+            (IsAtPlace self.now.definitions.now.decls.now types.now) }
     {
-        if let Some(number) = source.first_among(types, place) {
+        if let Some(number) = self.source.first_among(types, place) {
             return Some(Meaning::Parameter(number));
         }
-        match self.first_named(source, place) {
-            None => None,
-            Some(number) => Some(Meaning::Definition(number)),
-        }
+        let number = self.first_named(place)?;
+        Some(Meaning::Definition(number))
     }
 }

@@ -5,7 +5,6 @@ ghost use Rattle.tm_names.specs.Held.{bit_at, row_at};
 ghost use Rattle.tm_names.specs.Found.{decl_faults, scope_faults};
 ghost use Rattle.tm_names.specs.Least.{earliest};
 ghost use Rattle.tm_names.specs.Scopes.{ask_mentions, bound_mentions, outer_scope};
-ghost use Rattle.tm_names.specs.Indexing.{IsIndexed};
 ghost use Rattle.tm_names.specs.Source.{names_in};
 
 mod closure;
@@ -24,11 +23,8 @@ use crate::faults::least::{Faults, NameFault};
 use crate::faults::listing::decl_names;
 use crate::faults::mentioning::{add_mentions, mentions};
 use crate::faults::mentions::Mention;
-use crate::faults::own::{own_rows, rows};
+use crate::file::File;
 use crate::forms::{items, tag};
-use crate::indexed::Definitions;
-use crate::source::Source;
-use std::alloc::Global;
 use tm_base::{List, Memory, NameWhy};
 use tm_parse::{Decl, DeclAsk, DeclBound, Parsed};
 
@@ -56,65 +52,49 @@ fn add_asks(found: &mut List<Mention>, asks: &[DeclAsk]) -> Result<(), Memory>
 
 impl Faults {
     /// Takes note of the faults of a definition, but for that it holds itself.
-    fn note_decl(
-        &mut self,
-        alloc: Global,
-        source: &Source,
-        definitions: &Definitions,
-        decl: &Decl,
-    ) -> Result<(), Memory>
-        requires { IsIndexed (names_in source.now) definitions.now }
-        ensures { OnOk result (self.new.first ≡ earliest self.old.first (decl_faults
-            source.now.profile (names_in source.now) definitions.now.decls.now decl.now)) }
+    fn note_decl(&mut self, file: &File, decl: &Decl) -> Result<(), Memory>
+        ensures { OnOk result (self.new.first ≡ earliest self.old.first
+            (decl_faults file.now.source.profile (names_in file.now.source)
+            file.now.definitions.now.decls.now decl.now)) }
     {
-        let items = items(alloc, decl)?;
-        let mentions = mentions(alloc, decl)?;
+        let items = items(file.alloc, decl)?;
+        let mentions = mentions(file.alloc, decl)?;
         let params = decl.params.as_slice();
-        self.note_lists(alloc, source, decl)?;
-        self.note_reserved(source, params);
-        let types = decl.type_params.as_slice();
-        self.note_mentions(source, definitions, params, types, mentions.as_slice());
-        let tag = tag(items.as_slice());
-        self.note_values(alloc, source.profile, tag, decl.variants.as_slice())?;
+        self.note_lists(file, decl)?;
+        self.note_reserved(file, params);
+        self.note_mentions(
+            file,
+            params,
+            decl.type_params.as_slice(),
+            mentions.as_slice(),
+        );
+        self.note_values(file, tag(items.as_slice()), decl.variants.as_slice())?;
         self.note_repr(decl, items.as_slice());
         Ok(())
     }
 
     /// Takes note of the faults of definitions, but for that some hold themselves.
-    fn note_decls(
-        &mut self,
-        alloc: Global,
-        source: &Source,
-        definitions: &Definitions,
-    ) -> Result<(), Memory>
-        requires { IsIndexed (names_in source.now) definitions.now }
-        ensures { OnOk result (self.new.first ≡ earliest self.old.first (flat_map (decl_faults
-            source.now.profile (names_in source.now) definitions.now.decls.now)
-            definitions.now.decls.now)) }
+    fn note_decls(&mut self, file: &File) -> Result<(), Memory>
+        ensures { OnOk result (self.new.first ≡ earliest self.old.first (flat_map
+            (decl_faults file.now.source.profile (names_in file.now.source)
+            file.now.definitions.now.decls.now) file.now.definitions.now.decls.now)) }
     {
-        for decl in definitions.decls {
-            self.note_decl(alloc, source, definitions, decl)?;
+        for decl in file.definitions.decls {
+            self.note_decl(file, decl)?;
         }
         Ok(())
     }
 
     /// Takes note of the faults of what stands outside of definitions.
-    fn note_outer(
-        &mut self,
-        alloc: Global,
-        source: &Source,
-        definitions: &Definitions,
-        parsed: &Parsed,
-    ) -> Result<(), Memory>
-        requires { IsIndexed (names_in source.now) definitions.now }
+    fn note_outer(&mut self, file: &File, parsed: &Parsed) -> Result<(), Memory>
         ensures { OnOk result (self.new.first ≡ earliest self.old.first (scope_faults
-            (names_in source.now) definitions.now.decls.now (outer_scope parsed.now))) }
+            (names_in file.now.source) file.now.definitions.now.decls.now
+            (outer_scope parsed.now))) }
     {
-        let mut mentions = List::new(alloc);
+        let mut mentions = List::new(file.alloc);
         add_bounds(&mut mentions, parsed.bounds.as_slice())?;
         add_asks(&mut mentions, parsed.questions.as_slice())?;
-        let sight = parsed.lifetimes.as_slice();
-        self.note_mentions(source, definitions, sight, &[], mentions.as_slice());
+        self.note_mentions(file, parsed.lifetimes.as_slice(), &[], mentions.as_slice());
         Ok(())
     }
 
@@ -130,43 +110,31 @@ impl Faults {
     }
 
     /// Takes note of the definitions that hold themselves.
-    fn note_infinite(
-        &mut self,
-        alloc: Global,
-        source: &Source,
-        definitions: &Definitions,
-    ) -> Result<(), Memory>
-        requires { IsIndexed (names_in source.now) definitions.now }
-        ensures { OnOk result (WithInfinite (names_in source.now) definitions.now.decls.now
-            self.old.first self.new.first) }
+    fn note_infinite(&mut self, file: &File) -> Result<(), Memory>
+        ensures { OnOk result (WithInfinite (names_in file.now.source)
+            file.now.definitions.now.decls.now self.old.first self.new.first) }
     {
-        let own = own_rows(alloc, source, definitions)?;
-        let rows = rows(alloc, source, definitions, own.as_slice())?;
-        let closed = closure(alloc, rows)?;
-        self.note_cyclic(definitions.decls, closed.as_slice());
+        let own = file.own_rows()?;
+        let rows = file.rows(own.as_slice())?;
+        let closed = closure(file.alloc, rows)?;
+        self.note_cyclic(file.definitions.decls, closed.as_slice());
         Ok(())
     }
 }
 
 /// The first name fault of a file with these definitions.
-pub fn first_fault(
-    alloc: Global,
-    source: &Source,
-    definitions: &Definitions,
-    parsed: &Parsed,
-) -> Result<Option<NameFault>, Memory>
-    requires indexed { IsIndexed (names_in source.now) definitions.now }
-    requires same { definitions.now.decls.now ≡ parsed.now.decls }
-    ensures { IfOk result (IsFirst source.now.profile (names_in source.now) parsed.now) }
+pub fn first_fault(file: &File, parsed: &Parsed) -> Result<Option<NameFault>, Memory>
+    requires { file.now.definitions.now.decls.now ≡ parsed.now.decls }
+    ensures { IfOk result (IsFirst file.now.source.profile (names_in file.now.source) parsed.now) }
 {
     let lifetimes = parsed.lifetimes.as_slice();
-    let names = decl_names(alloc, definitions.decls)?;
+    let names = decl_names(file.alloc, file.definitions.decls)?;
     let mut faults = Faults::new();
-    faults.note_repeats(source, names.as_slice());
-    faults.note_repeats(source, lifetimes);
-    faults.note_reserved(source, lifetimes);
-    faults.note_decls(alloc, source, definitions)?;
-    faults.note_outer(alloc, source, definitions, parsed)?;
-    faults.note_infinite(alloc, source, definitions)?;
+    faults.note_repeats(file, names.as_slice());
+    faults.note_repeats(file, lifetimes);
+    faults.note_reserved(file, lifetimes);
+    faults.note_decls(file)?;
+    faults.note_outer(file, parsed)?;
+    faults.note_infinite(file)?;
     Ok(faults.first)
 }

@@ -8,6 +8,7 @@ mod counting;
 mod definitions;
 mod fault;
 mod faults;
+mod file;
 mod forms;
 mod indexed;
 mod meaning;

@@ -6,7 +6,7 @@ ghost use Rattle.tm_names.specs.Source.{names_in};
 
 use crate::adding::add;
 use crate::faults::least::Faults;
-use crate::source::Source;
+use crate::file::File;
 use std::alloc::Global;
 use tm_base::{List, Memory};
 use tm_parse::{Decl, DeclVariant};
@@ -56,31 +56,26 @@ pub fn decl_names(alloc: Global, decls: &[Decl]) -> Result<List<u32>, Memory>
 
 impl Faults {
     /// Takes note of the fields whose names stand before in their variant.
-    fn note_fields(
-        &mut self,
-        alloc: Global,
-        source: &Source,
-        variants: &[DeclVariant],
-    ) -> Result<(), Memory>
-        ensures { OnOk result (self.new.first ≡ earliest self.old.first
-            (flat_map (repeats (names_in source.now)) (map field_names variants.now))) }
+    fn note_fields(&mut self, file: &File, variants: &[DeclVariant]) -> Result<(), Memory>
+        ensures { OnOk result (self.new.first ≡ earliest self.old.first (flat_map
+            (repeats (names_in file.now.source)) (map field_names variants.now))) }
     {
         for variant in variants {
-            let names = field_names(alloc, variant)?;
-            self.note_repeats(source, names.as_slice());
+            let names = field_names(file.alloc, variant)?;
+            self.note_repeats(file, names.as_slice());
         }
         Ok(())
     }
 
     /// Takes note of the names that stand before in a list of a definition's.
-    pub fn note_lists(&mut self, alloc: Global, source: &Source, decl: &Decl) -> Result<(), Memory>
+    pub fn note_lists(&mut self, file: &File, decl: &Decl) -> Result<(), Memory>
         ensures { OnOk result (self.new.first ≡ earliest self.old.first
-            (flat_map (repeats (names_in source.now)) (decl_lists decl.now))) }
+            (flat_map (repeats (names_in file.now.source)) (decl_lists decl.now))) }
     {
-        let variants = variant_names(alloc, decl)?;
-        self.note_repeats(source, decl.params.as_slice());
-        self.note_repeats(source, decl.type_params.as_slice());
-        self.note_repeats(source, variants.as_slice());
-        self.note_fields(alloc, source, decl.variants.as_slice())
+        let variants = variant_names(file.alloc, decl)?;
+        self.note_repeats(file, decl.params.as_slice());
+        self.note_repeats(file, decl.type_params.as_slice());
+        self.note_repeats(file, variants.as_slice());
+        self.note_fields(file, decl.variants.as_slice())
     }
 }

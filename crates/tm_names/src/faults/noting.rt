@@ -3,120 +3,104 @@ ghost use Rattle.tm_names.specs.Found.{mention_faults, name_faults, repeats, res
 ghost use Rattle.tm_names.specs.Least.{earliest};
 ghost use Rattle.tm_names.specs.Meanings.{meaning_of, takes};
 ghost use Rattle.tm_names.specs.Scopes.{is_in_sight};
-ghost use Rattle.tm_names.specs.Indexing.{IsIndexed};
 ghost use Rattle.tm_names.specs.Source.{names_in};
 
 use crate::faults::least::Faults;
 use crate::faults::mentions::{Mention, NameMention};
+use crate::file::File;
 use crate::indexed::Definitions;
 use crate::meaning::Meaning;
 use crate::source::Source;
 use tm_base::NameWhy;
 
-/// Whether the lifetime at a place is in sight.
-fn is_in_sight(source: &Source, sight: &[u32], place: u32) -> bool
-    ensures { result ≡ is_in_sight (names_in source.now) sight.now place }
-{
-    source.is_static(place) || source.is_among(sight, place)
+impl Source<'_> {
+    /// Whether the lifetime at a place is in sight.
+    fn is_in_sight(&self, sight: &[u32], place: u32) -> bool
+        ensures { result ≡ is_in_sight (names_in self.now) sight.now place }
+    {
+        self.is_static(place) || self.is_among(sight, place)
+    }
 }
 
-/// Whether what is given to a name is what it takes.
-fn takes(definitions: &Definitions, meaning: Meaning, mention: NameMention) -> bool
-    ensures { result ≡ takes definitions.now.decls.now meaning mention }
-{
-    match meaning {
-        Meaning::Definition(number) => match definitions.decls.get(number) {
-            None => true,
-            Some(decl) => {
-                mention.lifetimes == decl.params.len() && mention.types == decl.type_params.len()
-            }
-        },
-        Meaning::Parameter(_) => mention.lifetimes == 0 && mention.types == 0,
+impl Definitions<'_> {
+    /// Whether what is given to a name is what it takes.
+    fn takes(&self, meaning: Meaning, mention: NameMention) -> bool
+        ensures { result ≡ takes self.now.decls.now meaning mention }
+    {
+        match meaning {
+            Meaning::Definition(number) => match self.decls.get(number) {
+                None => true,
+                Some(decl) => {
+                    mention.lifetimes == decl.params.len()
+                        && mention.types == decl.type_params.len()
+                }
+            },
+            Meaning::Parameter(_) => mention.lifetimes == 0 && mention.types == 0,
+        }
     }
 }
 
 impl Faults {
     /// Takes note of the names in a list that stand before in it.
-    pub fn note_repeats(&mut self, source: &Source, places: &[u32])
+    pub fn note_repeats(&mut self, file: &File, places: &[u32])
         ensures { self.new.first ≡ earliest self.old.first
-            (repeats (names_in source.now) places.now) }
+            (repeats (names_in file.now.source) places.now) }
     {
         for (number, place) in places.iter().enumerate() {
-            let again = source.is_among(&places[..number], *place);
+            let again = file.source.is_among(&places[..number], *place);
             self.note(again, NameWhy::Twice, *place);
         }
     }
 
     /// Takes note of the lifetimes in a list that can't be declared.
-    pub fn note_reserved(&mut self, source: &Source, places: &[u32])
+    pub fn note_reserved(&mut self, file: &File, places: &[u32])
         ensures { self.new.first ≡ earliest self.old.first
-            (reserved (names_in source.now) places.now) }
+            (reserved (names_in file.now.source) places.now) }
     {
         for place in places {
-            self.note(source.is_reserved(*place), NameWhy::Lifetime, *place);
+            self.note(file.source.is_reserved(*place), NameWhy::Lifetime, *place);
         }
     }
 
     /// Takes note of the fault of a name in a type, where these type parameters are in sight.
-    fn note_name(
-        &mut self,
-        source: &Source,
-        definitions: &Definitions,
-        types: &[u32],
-        mention: NameMention,
-    )
-        requires { IsIndexed (names_in source.now) definitions.now }
+    fn note_name(&mut self, file: &File, types: &[u32], mention: NameMention)
         ensures { self.new.first ≡ earliest self.old.first
-            (name_faults definitions.now.decls.now mention (meaning_of (names_in source.now)
-            definitions.now.decls.now types.now mention.place)) }
+            (name_faults file.now.definitions.now.decls.now mention (meaning_of
+            (names_in file.now.source) file.now.definitions.now.decls.now types.now
+            mention.place)) }
     {
-        match definitions.meaning(source, types, mention.place) {
+        match file.meaning(types, mention.place) {
             None => self.note(true, NameWhy::Unknown, mention.place),
             Some(meaning) => {
-                let differs = !takes(definitions, meaning, mention);
+                let differs = !file.definitions.takes(meaning, mention);
                 self.note(differs, NameWhy::Arity, mention.place);
             }
         }
     }
 
     /// Takes note of the fault of a mention, where these lifetimes and type parameters are in sight.
-    fn note_mention(
-        &mut self,
-        source: &Source,
-        definitions: &Definitions,
-        sight: &[u32],
-        types: &[u32],
-        mention: Mention,
-    )
-        requires { IsIndexed (names_in source.now) definitions.now }
-        ensures { self.new.first ≡ earliest self.old.first (mention_faults (names_in source.now)
-            definitions.now.decls.now sight.now types.now mention) }
+    fn note_mention(&mut self, file: &File, sight: &[u32], types: &[u32], mention: Mention)
+        ensures { self.new.first ≡ earliest self.old.first (mention_faults
+            (names_in file.now.source) file.now.definitions.now.decls.now sight.now types.now
+            mention) }
     {
         match mention {
-            Mention::Name(mention) => self.note_name(source, definitions, types, mention),
+            Mention::Name(mention) => self.note_name(file, types, mention),
             Mention::Life(place) => {
-                let hidden = !is_in_sight(source, sight, place);
+                let hidden = !file.source.is_in_sight(sight, place);
                 self.note(hidden, NameWhy::Lifetime, place);
             }
         }
     }
 
     /// Takes note of the faults of mentions, where these lifetimes and type parameters are in sight.
-    pub fn note_mentions(
-        &mut self,
-        source: &Source,
-        definitions: &Definitions,
-        sight: &[u32],
-        types: &[u32],
-        mentions: &[Mention],
-    )
-        requires { IsIndexed (names_in source.now) definitions.now }
-        ensures { self.new.first ≡ earliest self.old.first (flat_map
-            (mention_faults (names_in source.now) definitions.now.decls.now sight.now types.now)
+    pub fn note_mentions(&mut self, file: &File, sight: &[u32], types: &[u32], mentions: &[Mention])
+        ensures { self.new.first ≡ earliest self.old.first (flat_map (mention_faults
+            (names_in file.now.source) file.now.definitions.now.decls.now sight.now types.now)
             mentions.now) }
     {
         for mention in mentions {
-            self.note_mention(source, definitions, sight, types, *mention);
+            self.note_mention(file, sight, types, *mention);
         }
     }
 }

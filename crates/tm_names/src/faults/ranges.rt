@@ -10,8 +10,8 @@ ghost use Rattle.tm_names.specs.declared.value.Value.TheVariants as value_is;
 use crate::adding::add;
 use crate::counting::{next, value_in};
 use crate::faults::least::Faults;
+use crate::file::File;
 use crate::value::Value;
-use std::alloc::Global;
 use tm_base::{List, Memory, NameWhy, Primitive, Profile};
 use tm_parse::DeclVariant;
 
@@ -111,15 +111,15 @@ impl Faults {
     /// Takes note of the faults of an enum's discriminants.
     pub fn note_values(
         &mut self,
-        alloc: Global,
-        profile: Profile,
+        file: &File,
         tag: Option<Primitive>,
         variants: &[DeclVariant],
     ) -> Result<(), Memory>
         ensures { OnOk result (self.new.first ≡ earliest self.old.first
-            (value_faults profile tag [] (value_is.AtLeastZero 0) variants.now)) }
+            (value_faults file.now.source.profile tag [] (value_is.AtLeastZero 0) variants.now)) }
     {
-        let mut before = List::new(alloc);
+        let profile = file.source.profile;
+        let mut before = List::new(file.alloc);
         let mut implied = Value::AtLeastZero(0);
         for variant in variants {
             let value = value_in(implied, variant);

@@ -16,11 +16,11 @@ noted true o x h = rw (h refl) refl
 noted false None x h = refl
 noted false (Some y) x h = refl
 
-pub returns-in-Ok : goal.returns-in-Ok
-returns-in-Ok c = λ bytes.
+pub returns : goal.returns
+returns c = λ bytes.
     let name = c.args.name.now in
     let old = c.args.firsts.now in
     let new_name : get_by (λ key. bytes_eq name key.now) old ≡ None = none_of (get_by (λ key. bytes_eq name key.now) old) c.if-contains_key.ensures in
-    hash_map_updates_str name old c.insert.new.self (Some c.args.number) c.in-Ok.ensures.updates bytes
+    hash_map_updates_str name old c.insert.new.self (Some c.args.number) c.in_ok-insert.ensures.updates bytes
     ∙ noted (bytes_eq name bytes) (get_by (λ key. bytes_eq bytes key.now) old) c.args.number
     (λ same. subst (λ l. get_by (λ key. bytes_eq l key.now) old ≡ None) ((bytes_decides name bytes).0 same) new_name)

@@ -13,10 +13,10 @@ use Rattle.tm_names.proofs.faults.first_fault.Goals as goal
 
 pub returns : goal.returns
 returns c =
-    let name = names_in c.args.source.now in
+    let name = names_in c.args.file.now.source in
     let file = c.args.parsed.now in
-    let profile = c.args.source.now.profile in
-    let decls = c.requires.same in
+    let profile = c.args.file.now.source.profile in
+    let decls = c.requires in
     let lifetimes = c.as_slice-lifetimes.ensures in
     let named = rw (c.as_slice.ensures, c.in_ok-names.ensures, decls, c.new-faults.ensures) at c.note_repeats.ensures in
     let declared = rw lifetimes at c.note_repeats-2.ensures in

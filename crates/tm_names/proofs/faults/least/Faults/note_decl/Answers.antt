@@ -12,13 +12,13 @@ use Rattle.tm_names.proofs.faults.least.Faults.note_decl.Goals as goal
 pub returns : goal.returns
 returns c =
     let params = c.as_slice-params.ensures in
-    let types = c.as_slice-types.ensures in
+    let types = c.as_slice.ensures in
     let reserved_ones = rw params at c.note_reserved.ensures in
-    let mentioned = rw (c.as_slice.ensures, c.in_ok-mentions.ensures, params, types) at c.note_mentions.ensures in
-    let values = rw (c.tag-tag.ensures, c.as_slice-2.ensures, c.in_ok-items.ensures, c.as_slice-3.ensures) at c.in_ok-note_values.ensures in
-    let name = names_in c.args.source.now in
+    let mentioned = rw (c.as_slice-2.ensures, c.in_ok-mentions.ensures, params, types) at c.note_mentions.ensures in
+    let values = rw (c.tag.ensures, c.as_slice-3.ensures, c.in_ok-items.ensures, c.as_slice-4.ensures) at c.in_ok-note_values.ensures in
+    let name = names_in c.args.file.now.source in
     let d = c.args.decl.now in
     chain c.args.self.now.first c.note_lists.new.self.first c.note_reserved.new.self.first c.note_mentions.new.self.first c.note_values.new.self.first c.note_repr.new.self.first
-    (flat_map (repeats name) (decl_lists d)) (reserved name d.params) (scope_faults name c.args.definitions.now.decls.now (decl_scope d))
-    (value_faults c.args.source.now.profile (tag_of d) [] (AtLeastZero 0) d.variants) (repr_faults d)
+    (flat_map (repeats name) (decl_lists d)) (reserved name d.params) (scope_faults name c.args.file.now.definitions.now.decls.now (decl_scope d))
+    (value_faults c.args.file.now.source.profile (tag_of d) [] (AtLeastZero 0) d.variants) (repr_faults d)
     c.in_ok-note_lists.ensures reserved_ones mentioned values c.note_repr.ensures

@@ -8,5 +8,5 @@ use Rattle.tm_names.proofs.faults.least.Faults.note_fields.Given as goal
 
 abbrev pub invariant-loop-variant : goal.invariant-loop-variant
 invariant-loop-variant l =
-    earliest l.self.first (flat_map (repeats (names_in l.source)) (map field_names (drop l.variant-index l.variants)))
-    ≡ earliest l.initial.self.first (flat_map (repeats (names_in l.fn.source)) (map field_names l.fn.variants))
+    earliest l.self.first (flat_map (repeats (names_in l.file.source)) (map field_names (drop l.variant-index l.variants)))
+    ≡ earliest l.initial.self.first (flat_map (repeats (names_in l.fn.file.source)) (map field_names l.fn.variants))

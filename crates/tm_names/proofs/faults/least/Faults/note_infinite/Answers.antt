@@ -7,8 +7,8 @@ use Rattle.tm_names.proofs.faults.least.Faults.note_infinite.Goals as goal
 
 pub returns : goal.returns
 returns c =
-    let name = names_in c.args.source.now in
-    let decls = c.args.definitions.now.decls.now in
+    let name = names_in c.args.file.now.source in
+    let decls = c.args.file.now.definitions.now.decls.now in
     let rows = c.in_ok-rows.ensures ∙ ap (λ own. map (definition_flags name decls own) decls) c.as_slice.ensures in
     let closed = c.as_slice-2.ensures.value ∙ (c.in_ok-closed.ensures ∙ ap (λ those. closure 0 (length those) those) rows) in
     record {

@@ -7,5 +7,5 @@ use Rattle.tm_names.proofs.faults.least.Faults.note_mentions.Given as goal
 
 abbrev pub invariant-loop-mention : goal.invariant-loop-mention
 invariant-loop-mention l =
-    earliest l.self.first (flat_map (mention_faults (names_in l.source) l.definitions.decls.now l.sight l.types) (drop l.mention-index l.mentions))
-    ≡ earliest l.initial.self.first (flat_map (mention_faults (names_in l.fn.source) l.fn.definitions.decls.now l.fn.sight l.fn.types) l.fn.mentions)
+    earliest l.self.first (flat_map (mention_faults (names_in l.file.source) l.file.definitions.now.decls.now l.sight l.types) (drop l.mention-index l.mentions))
+    ≡ earliest l.initial.self.first (flat_map (mention_faults (names_in l.fn.file.source) l.fn.file.definitions.now.decls.now l.fn.sight l.fn.types) l.fn.mentions)

@@ -6,4 +6,4 @@ use Rattle.tm_names.proofs.faults.least.Faults.note_repeats.Given as goal
 
 abbrev pub invariant-loop-number : goal.invariant-loop-number
 invariant-loop-number l =
-    earliest l.self.first (repeats_behind (names_in l.source) (take l.number l.places) (drop l.number l.places)) ≡ earliest l.initial.self.first (repeats (names_in l.fn.source) l.fn.places)
+    earliest l.self.first (repeats_behind (names_in l.file.source) (take l.number l.places) (drop l.number l.places)) ≡ earliest l.initial.self.first (repeats (names_in l.fn.file.source) l.fn.places)

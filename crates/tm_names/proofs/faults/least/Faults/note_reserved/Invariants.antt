@@ -6,4 +6,4 @@ use Rattle.tm_names.proofs.faults.least.Faults.note_reserved.Given as goal
 
 abbrev pub invariant-loop-place : goal.invariant-loop-place
 invariant-loop-place l =
-    earliest l.self.first (reserved (names_in l.source) (drop l.place-index l.places)) ≡ earliest l.initial.self.first (reserved (names_in l.fn.source) l.fn.places)
+    earliest l.self.first (reserved (names_in l.file.source) (drop l.place-index l.places)) ≡ earliest l.initial.self.first (reserved (names_in l.fn.file.source) l.fn.places)

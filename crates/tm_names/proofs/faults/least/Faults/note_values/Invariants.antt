@@ -6,4 +6,4 @@ use Rattle.tm_names.proofs.faults.least.Faults.note_values.Given as goal
 
 abbrev pub invariant-loop-variant : goal.invariant-loop-variant
 invariant-loop-variant l =
-    earliest l.self.first (value_faults l.profile l.tag l.before l.implied (drop l.variant-index l.variants)) ≡ earliest l.initial.self.first (value_faults l.fn.profile l.fn.tag [] (AtLeastZero 0) l.fn.variants)
+    earliest l.self.first (value_faults l.file.source.profile l.tag l.before l.implied (drop l.variant-index l.variants)) ≡ earliest l.initial.self.first (value_faults l.fn.file.source.profile l.fn.tag [] (AtLeastZero 0) l.fn.variants)

@@ -1,9 +1,0 @@
-use Rattle.std.proofs.Common.{◌≡◌, ◌++◌, drop, map}
-use Rattle.tm_names.specs.Held.{definition_flags}
-use Rattle.tm_names.specs.Source.{names_in}
-use Rattle.tm_names.proofs.faults.own.rows.Given as goal
-
-abbrev pub invariant-loop-decl : goal.invariant-loop-decl
-invariant-loop-decl l =
-    l.rows.items ++ map (definition_flags (names_in l.source) l.definitions.decls.now l.own) (drop l.decl-index l.definitions.decls.now)
-    ≡ map (definition_flags (names_in l.fn.source) l.fn.definitions.decls.now l.fn.own) l.fn.definitions.decls.now

@@ -1,9 +1,0 @@
-use Rattle.std.proofs.Common.{◌≡◌, ◌++◌, drop, map}
-use Rattle.tm_names.specs.Resolutions.{variant_types}
-use Rattle.tm_names.specs.Source.{names_in}
-use Rattle.tm_names.proofs.resolving.types.Given as goal
-
-abbrev pub invariant-loop-variant : goal.invariant-loop-variant
-invariant-loop-variant l =
-    l.types ++ map (variant_types (names_in l.source) l.definitions.decls.now l.declared) (drop l.variant-index l.variant-items)
-    ≡ map (variant_types (names_in l.fn.source) l.fn.definitions.decls.now l.fn.declared) l.fn.declared.variants
