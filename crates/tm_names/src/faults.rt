@@ -50,58 +50,58 @@ fn add_asks(found: &mut List<Mention>, asks: &[DeclAsk]) -> Result<(), Memory>
     Ok(())
 }
 
-impl Faults {
+impl Faults<'_, '_> {
     /// Takes note of the faults of a definition, but for that it holds itself.
-    fn note_decl(&mut self, file: &File, decl: &Decl) -> Result<(), Memory>
-        ensures { OnOk result (self.new.first ≡ earliest self.old.first
-            (decl_faults file.now.source.profile (names_in file.now.source)
-            file.now.definitions.now.decls.now decl.now)) }
+    fn note_decl(&mut self, decl: &Decl) -> Result<(), Memory>
+        ensures first { OnOk result (self.new.first ≡ earliest self.old.first
+            (decl_faults self.old.file.source.profile (names_in self.old.file.source)
+            self.old.file.definitions.now.decls.now decl.now)) }
+        ensures file { self.new.file ≡ self.old.file }
     {
-        let items = items(file.alloc, decl)?;
-        let mentions = mentions(file.alloc, decl)?;
+        let items = items(self.file.alloc, decl)?;
+        let mentions = mentions(self.file.alloc, decl)?;
         let params = decl.params.as_slice();
-        self.note_lists(file, decl)?;
-        self.note_reserved(file, params);
-        self.note_mentions(
-            file,
-            params,
-            decl.type_params.as_slice(),
-            mentions.as_slice(),
-        );
-        self.note_values(file, tag(items.as_slice()), decl.variants.as_slice())?;
+        self.note_lists(decl)?;
+        self.note_reserved(params);
+        self.note_mentions(params, decl.type_params.as_slice(), mentions.as_slice());
+        self.note_values(tag(items.as_slice()), decl.variants.as_slice())?;
         self.note_repr(decl, items.as_slice());
         Ok(())
     }
 
     /// Takes note of the faults of definitions, but for that some hold themselves.
-    fn note_decls(&mut self, file: &File) -> Result<(), Memory>
-        ensures { OnOk result (self.new.first ≡ earliest self.old.first (flat_map
-            (decl_faults file.now.source.profile (names_in file.now.source)
-            file.now.definitions.now.decls.now) file.now.definitions.now.decls.now)) }
+    fn note_decls(&mut self) -> Result<(), Memory>
+        ensures first { OnOk result (self.new.first ≡ earliest self.old.first (flat_map
+            (decl_faults self.old.file.source.profile (names_in self.old.file.source)
+            self.old.file.definitions.now.decls.now) self.old.file.definitions.now.decls.now)) }
+        ensures file { self.new.file ≡ self.old.file }
     {
-        for decl in file.definitions.decls {
-            self.note_decl(file, decl)?;
+        let decls = self.file.definitions.decls;
+        for decl in decls {
+            self.note_decl(decl)?;
         }
         Ok(())
     }
 
     /// Takes note of the faults of what stands outside of definitions.
-    fn note_outer(&mut self, file: &File, parsed: &Parsed) -> Result<(), Memory>
-        ensures { OnOk result (self.new.first ≡ earliest self.old.first (scope_faults
-            (names_in file.now.source) file.now.definitions.now.decls.now
+    fn note_outer(&mut self, parsed: &Parsed) -> Result<(), Memory>
+        ensures first { OnOk result (self.new.first ≡ earliest self.old.first (scope_faults
+            (names_in self.old.file.source) self.old.file.definitions.now.decls.now
             (outer_scope parsed.now))) }
+        ensures file { self.new.file ≡ self.old.file }
     {
-        let mut mentions = List::new(file.alloc);
+        let mut mentions = List::new(self.file.alloc);
         add_bounds(&mut mentions, parsed.bounds.as_slice())?;
         add_asks(&mut mentions, parsed.questions.as_slice())?;
-        self.note_mentions(file, parsed.lifetimes.as_slice(), &[], mentions.as_slice());
+        self.note_mentions(parsed.lifetimes.as_slice(), &[], mentions.as_slice());
         Ok(())
     }
 
     /// Takes note of the definitions from which a way leads back.
     fn note_cyclic(&mut self, decls: &[Decl], closed: &[List<bool>])
-        ensures { self.new.first ≡ earliest self.old.first
+        ensures first { self.new.first ≡ earliest self.old.first
             (infinite_faults (λ i. bit_at (row_at closed.now i) i) decls.now) }
+        ensures file { self.new.file ≡ self.old.file }
     {
         for (number, decl) in decls.iter().enumerate() {
             let cyclic = is_cyclic(closed, number);
@@ -110,10 +110,12 @@ impl Faults {
     }
 
     /// Takes note of the definitions that hold themselves.
-    fn note_infinite(&mut self, file: &File) -> Result<(), Memory>
-        ensures { OnOk result (WithInfinite (names_in file.now.source)
-            file.now.definitions.now.decls.now self.old.first self.new.first) }
+    fn note_infinite(&mut self) -> Result<(), Memory>
+        ensures first { OnOk result (WithInfinite (names_in self.old.file.source)
+            self.old.file.definitions.now.decls.now self.old.first self.new.first) }
+        ensures file { self.new.file ≡ self.old.file }
     {
+        let file = self.file;
         let own = file.own_rows()?;
         let rows = file.rows(own.as_slice())?;
         let closed = closure(file.alloc, rows)?;
@@ -129,12 +131,15 @@ pub fn first_fault(file: &File, parsed: &Parsed) -> Result<Option<NameFault>, Me
 {
     let lifetimes = parsed.lifetimes.as_slice();
     let names = decl_names(file.alloc, file.definitions.decls)?;
-    let mut faults = Faults::new();
-    faults.note_repeats(file, names.as_slice());
-    faults.note_repeats(file, lifetimes);
-    faults.note_reserved(file, lifetimes);
-    faults.note_decls(file)?;
-    faults.note_outer(file, parsed)?;
-    faults.note_infinite(file)?;
+    let mut faults = Faults {
+        file: *file,
+        first: None,
+    };
+    faults.note_repeats(names.as_slice());
+    faults.note_repeats(lifetimes);
+    faults.note_reserved(lifetimes);
+    faults.note_decls()?;
+    faults.note_outer(parsed)?;
+    faults.note_infinite()?;
     Ok(faults.first)
 }

@@ -144,10 +144,11 @@ pub fn tag(items: &[ReprItem]) -> Option<Primitive>
     None
 }
 
-impl Faults {
+impl Faults<'_, '_> {
     /// Takes note of a fault at the first item, if there is one and something is wrong.
     fn note_first(&mut self, wrong: bool, reprs: &[DeclRepr])
-        ensures { self.new.first ≡ earliest self.old.first (first_repr wrong reprs.now) }
+        ensures first { self.new.first ≡ earliest self.old.first (first_repr wrong reprs.now) }
+        ensures file { self.new.file ≡ self.old.file }
     {
         match reprs {
             [] => {}
@@ -158,7 +159,8 @@ impl Faults {
     /// Takes note of the fault of a definition's representation, where these are its items.
     pub fn note_repr(&mut self, decl: &Decl, items: &[ReprItem])
         requires { items.now ≡ items_of decl.now }
-        ensures { self.new.first ≡ earliest self.old.first (repr_faults decl.now) }
+        ensures first { self.new.first ≡ earliest self.old.first (repr_faults decl.now) }
+        ensures file { self.new.file ≡ self.old.file }
     {
         let wrong = !is_form(decl.kind, decl.variants.as_slice(), items);
         self.note_first(wrong, decl.reprs.as_slice());

@@ -1,7 +1,8 @@
-ghost use Rattle.std.specs.Prelude.{◌≡◌, None};
+ghost use Rattle.std.specs.Prelude.{◌≡◌};
 ghost use Rattle.tm_names.specs.Least.{earliest, fault_where, is_no_later, keep};
 ghost use Rattle.tm_names.specs.Ranks.{rank};
 
+use crate::file::File;
 use tm_base::NameWhy;
 
 /// A name fault and the token at which it stands.
@@ -33,23 +34,18 @@ fn is_no_later(fault: NameFault, other: NameFault) -> bool
     fault.place < other.place || fault.place == other.place && rank(fault.why) <= rank(other.why)
 }
 
-/// The faults that are found, of which the first is kept.
-#[derive(Clone, Copy, Debug)]
-pub struct Faults {
+/// The faults that are found in a file, of which the first is kept.
+#[derive(Clone, Copy)]
+pub struct Faults<'d, 'a> {
+    pub file: File<'d, 'a>,
     pub first: Option<NameFault>,
 }
 
-impl Faults {
-    /// None is found.
-    pub fn new() -> Faults
-        ensures { result.first ≡ None }
-    {
-        Faults { first: None }
-    }
-
+impl Faults<'_, '_> {
     /// Takes note of a fault.
     fn keep(&mut self, fault: NameFault)
-        ensures { self.new.first ≡ keep self.old.first fault }
+        ensures first { self.new.first ≡ keep self.old.first fault }
+        ensures file { self.new.file ≡ self.old.file }
     {
         match self.first {
             Some(kept) if is_no_later(kept, fault) => {}
@@ -59,7 +55,8 @@ impl Faults {
 
     /// Takes note of a fault at a place, if something is wrong there.
     pub fn note(&mut self, wrong: bool, why: NameWhy, place: u32)
-        ensures { self.new.first ≡ earliest self.old.first (fault_where wrong why place) }
+        ensures first { self.new.first ≡ earliest self.old.first (fault_where wrong why place) }
+        ensures file { self.new.file ≡ self.old.file }
     {
         if wrong {
             self.keep(NameFault { why, place });

@@ -6,7 +6,6 @@ ghost use Rattle.tm_names.specs.Source.{names_in};
 
 use crate::adding::add;
 use crate::faults::least::Faults;
-use crate::file::File;
 use std::alloc::Global;
 use tm_base::{List, Memory};
 use tm_parse::{Decl, DeclVariant};
@@ -54,28 +53,30 @@ pub fn decl_names(alloc: Global, decls: &[Decl]) -> Result<List<u32>, Memory>
     Ok(names)
 }
 
-impl Faults {
+impl Faults<'_, '_> {
     /// Takes note of the fields whose names stand before in their variant.
-    fn note_fields(&mut self, file: &File, variants: &[DeclVariant]) -> Result<(), Memory>
-        ensures { OnOk result (self.new.first ≡ earliest self.old.first (flat_map
-            (repeats (names_in file.now.source)) (map field_names variants.now))) }
+    fn note_fields(&mut self, variants: &[DeclVariant]) -> Result<(), Memory>
+        ensures first { OnOk result (self.new.first ≡ earliest self.old.first (flat_map
+            (repeats (names_in self.old.file.source)) (map field_names variants.now))) }
+        ensures file { self.new.file ≡ self.old.file }
     {
         for variant in variants {
-            let names = field_names(file.alloc, variant)?;
-            self.note_repeats(file, names.as_slice());
+            let names = field_names(self.file.alloc, variant)?;
+            self.note_repeats(names.as_slice());
         }
         Ok(())
     }
 
     /// Takes note of the names that stand before in a list of a definition's.
-    pub fn note_lists(&mut self, file: &File, decl: &Decl) -> Result<(), Memory>
-        ensures { OnOk result (self.new.first ≡ earliest self.old.first
-            (flat_map (repeats (names_in file.now.source)) (decl_lists decl.now))) }
+    pub fn note_lists(&mut self, decl: &Decl) -> Result<(), Memory>
+        ensures first { OnOk result (self.new.first ≡ earliest self.old.first
+            (flat_map (repeats (names_in self.old.file.source)) (decl_lists decl.now))) }
+        ensures file { self.new.file ≡ self.old.file }
     {
-        let variants = variant_names(file.alloc, decl)?;
-        self.note_repeats(file, decl.params.as_slice());
-        self.note_repeats(file, decl.type_params.as_slice());
-        self.note_repeats(file, variants.as_slice());
-        self.note_fields(file, decl.variants.as_slice())
+        let variants = variant_names(self.file.alloc, decl)?;
+        self.note_repeats(decl.params.as_slice());
+        self.note_repeats(decl.type_params.as_slice());
+        self.note_repeats(variants.as_slice());
+        self.note_fields(decl.variants.as_slice())
     }
 }

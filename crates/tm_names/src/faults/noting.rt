@@ -7,7 +7,6 @@ ghost use Rattle.tm_names.specs.Source.{names_in};
 
 use crate::faults::least::Faults;
 use crate::faults::mentions::{Mention, NameMention};
-use crate::file::File;
 use crate::indexed::Definitions;
 use crate::meaning::Meaning;
 use crate::source::Source;
@@ -40,67 +39,74 @@ impl Definitions<'_> {
     }
 }
 
-impl Faults {
+impl Faults<'_, '_> {
     /// Takes note of the names in a list that stand before in it.
-    pub fn note_repeats(&mut self, file: &File, places: &[u32])
-        ensures { self.new.first ≡ earliest self.old.first
-            (repeats (names_in file.now.source) places.now) }
+    pub fn note_repeats(&mut self, places: &[u32])
+        ensures first { self.new.first ≡ earliest self.old.first
+            (repeats (names_in self.old.file.source) places.now) }
+        ensures file { self.new.file ≡ self.old.file }
     {
+        let source = self.file.source;
         for (number, place) in places.iter().enumerate() {
-            let again = file.source.is_among(&places[..number], *place);
+            let again = source.is_among(&places[..number], *place);
             self.note(again, NameWhy::Twice, *place);
         }
     }
 
     /// Takes note of the lifetimes in a list that can't be declared.
-    pub fn note_reserved(&mut self, file: &File, places: &[u32])
-        ensures { self.new.first ≡ earliest self.old.first
-            (reserved (names_in file.now.source) places.now) }
+    pub fn note_reserved(&mut self, places: &[u32])
+        ensures first { self.new.first ≡ earliest self.old.first
+            (reserved (names_in self.old.file.source) places.now) }
+        ensures file { self.new.file ≡ self.old.file }
     {
+        let source = self.file.source;
         for place in places {
-            self.note(file.source.is_reserved(*place), NameWhy::Lifetime, *place);
+            self.note(source.is_reserved(*place), NameWhy::Lifetime, *place);
         }
     }
 
     /// Takes note of the fault of a name in a type, where these type parameters are in sight.
-    fn note_name(&mut self, file: &File, types: &[u32], mention: NameMention)
-        ensures { self.new.first ≡ earliest self.old.first
-            (name_faults file.now.definitions.now.decls.now mention (meaning_of
-            (names_in file.now.source) file.now.definitions.now.decls.now types.now
+    fn note_name(&mut self, types: &[u32], mention: NameMention)
+        ensures first { self.new.first ≡ earliest self.old.first
+            (name_faults self.old.file.definitions.now.decls.now mention (meaning_of
+            (names_in self.old.file.source) self.old.file.definitions.now.decls.now types.now
             mention.place)) }
+        ensures file { self.new.file ≡ self.old.file }
     {
-        match file.meaning(types, mention.place) {
+        match self.file.meaning(types, mention.place) {
             None => self.note(true, NameWhy::Unknown, mention.place),
             Some(meaning) => {
-                let differs = !file.definitions.takes(meaning, mention);
+                let differs = !self.file.definitions.takes(meaning, mention);
                 self.note(differs, NameWhy::Arity, mention.place);
             }
         }
     }
 
     /// Takes note of the fault of a mention, where these lifetimes and type parameters are in sight.
-    fn note_mention(&mut self, file: &File, sight: &[u32], types: &[u32], mention: Mention)
-        ensures { self.new.first ≡ earliest self.old.first (mention_faults
-            (names_in file.now.source) file.now.definitions.now.decls.now sight.now types.now
+    fn note_mention(&mut self, sight: &[u32], types: &[u32], mention: Mention)
+        ensures first { self.new.first ≡ earliest self.old.first (mention_faults
+            (names_in self.old.file.source) self.old.file.definitions.now.decls.now sight.now types.now
             mention) }
+        ensures file { self.new.file ≡ self.old.file }
     {
         match mention {
-            Mention::Name(mention) => self.note_name(file, types, mention),
+            Mention::Name(mention) => self.note_name(types, mention),
             Mention::Life(place) => {
-                let hidden = !file.source.is_in_sight(sight, place);
+                let hidden = !self.file.source.is_in_sight(sight, place);
                 self.note(hidden, NameWhy::Lifetime, place);
             }
         }
     }
 
     /// Takes note of the faults of mentions, where these lifetimes and type parameters are in sight.
-    pub fn note_mentions(&mut self, file: &File, sight: &[u32], types: &[u32], mentions: &[Mention])
-        ensures { self.new.first ≡ earliest self.old.first (flat_map (mention_faults
-            (names_in file.now.source) file.now.definitions.now.decls.now sight.now types.now)
+    pub fn note_mentions(&mut self, sight: &[u32], types: &[u32], mentions: &[Mention])
+        ensures first { self.new.first ≡ earliest self.old.first (flat_map (mention_faults
+            (names_in self.old.file.source) self.old.file.definitions.now.decls.now sight.now types.now)
             mentions.now) }
+        ensures file { self.new.file ≡ self.old.file }
     {
         for mention in mentions {
-            self.note_mention(file, sight, types, *mention);
+            self.note_mention(sight, types, *mention);
         }
     }
 }

@@ -10,7 +10,6 @@ ghost use Rattle.tm_names.specs.declared.value.Value.TheVariants as value_is;
 use crate::adding::add;
 use crate::counting::{next, value_in};
 use crate::faults::least::Faults;
-use crate::file::File;
 use crate::value::Value;
 use tm_base::{List, Memory, NameWhy, Primitive, Profile};
 use tm_parse::DeclVariant;
@@ -97,10 +96,11 @@ fn is_wrong(profile: Profile, tag: Option<Primitive>, before: &[Value], value: V
     false
 }
 
-impl Faults {
+impl Faults<'_, '_> {
     /// Takes note of a fault at a name, if there is one and something is wrong.
     fn note_at(&mut self, wrong: bool, why: NameWhy, name: Option<u32>)
-        ensures { self.new.first ≡ earliest self.old.first (fault_at wrong why name) }
+        ensures first { self.new.first ≡ earliest self.old.first (fault_at wrong why name) }
+        ensures file { self.new.file ≡ self.old.file }
     {
         match name {
             None => {}
@@ -111,15 +111,15 @@ impl Faults {
     /// Takes note of the faults of an enum's discriminants.
     pub fn note_values(
         &mut self,
-        file: &File,
         tag: Option<Primitive>,
         variants: &[DeclVariant],
     ) -> Result<(), Memory>
-        ensures { OnOk result (self.new.first ≡ earliest self.old.first
-            (value_faults file.now.source.profile tag [] (value_is.AtLeastZero 0) variants.now)) }
+        ensures first { OnOk result (self.new.first ≡ earliest self.old.first
+            (value_faults self.old.file.source.profile tag [] (value_is.AtLeastZero 0) variants.now)) }
+        ensures file { self.new.file ≡ self.old.file }
     {
-        let profile = file.source.profile;
-        let mut before = List::new(file.alloc);
+        let profile = self.file.source.profile;
+        let mut before = List::new(self.file.alloc);
         let mut implied = Value::AtLeastZero(0);
         for variant in variants {
             let value = value_in(implied, variant);

@@ -6,6 +6,8 @@ use Rattle.tm_names.specs.Source.{names_in}
 use Rattle.tm_names.proofs.faults.least.Faults.note_decls.Given as goal
 
 abbrev pub invariant-loop-decl : goal.invariant-loop-decl
-invariant-loop-decl l =
-    earliest l.self.first (flat_map (decl_faults l.file.source.profile (names_in l.file.source) l.file.definitions.now.decls.now) (drop l.decl-index l.file.definitions.now.decls.now))
-    ≡ earliest l.initial.self.first (flat_map (decl_faults l.fn.file.source.profile (names_in l.fn.file.source) l.fn.file.definitions.now.decls.now) l.fn.file.definitions.now.decls.now)
+invariant-loop-decl l = record {
+  file : l.self.file ≡ l.initial.self.file;
+  all : earliest l.self.first (flat_map (decl_faults l.self.file.source.profile (names_in l.self.file.source) l.self.file.definitions.now.decls.now) (drop l.decl-index l.decls))
+      ≡ earliest l.initial.self.first (flat_map (decl_faults l.initial.self.file.source.profile (names_in l.initial.self.file.source) l.initial.self.file.definitions.now.decls.now) l.initial.self.file.definitions.now.decls.now);
+}
