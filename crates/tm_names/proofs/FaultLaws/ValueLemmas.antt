@@ -101,7 +101,7 @@ next_below n = by (nat_lt n greatest) refl
     by true e = inl refl
     by false e = inr (n, n + 1, refl, refl, grind (arith, nat_tests), grind (arith, nat_tests))
 
-one_up : (n : ℕ) → negsuc n ≡ negsuc (suc n) +ℤ pos 1
+pub one_up : (n : ℕ) → negsuc n ≡ negsuc (suc n) +ℤ pos 1
 one_up n = grind (arith, nat_tests)
 
 next_exact : (v : Value) → Agrees (next_of v) (int_of v +ℤ pos 1)

@@ -85,8 +85,8 @@ impl Faults<'_, '_> {
     /// Takes note of the fault of a mention, where these lifetimes and type parameters are in sight.
     fn note_mention(&mut self, sight: &[u32], types: &[u32], mention: Mention)
         ensures first { self.new.first ≡ earliest self.old.first (mention_faults
-            (names_in self.old.file.source) self.old.file.definitions.now.decls.now sight.now types.now
-            mention) }
+            (names_in self.old.file.source) self.old.file.definitions.now.decls.now sight.now
+            types.now mention) }
         ensures file { self.new.file ≡ self.old.file }
     {
         match mention {
@@ -101,8 +101,8 @@ impl Faults<'_, '_> {
     /// Takes note of the faults of mentions, where these lifetimes and type parameters are in sight.
     pub fn note_mentions(&mut self, sight: &[u32], types: &[u32], mentions: &[Mention])
         ensures first { self.new.first ≡ earliest self.old.first (flat_map (mention_faults
-            (names_in self.old.file.source) self.old.file.definitions.now.decls.now sight.now types.now)
-            mentions.now) }
+            (names_in self.old.file.source) self.old.file.definitions.now.decls.now sight.now
+            types.now) mentions.now) }
         ensures file { self.new.file ≡ self.old.file }
     {
         for mention in mentions {

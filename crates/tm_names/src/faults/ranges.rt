@@ -115,7 +115,8 @@ impl Faults<'_, '_> {
         variants: &[DeclVariant],
     ) -> Result<(), Memory>
         ensures first { OnOk result (self.new.first ≡ earliest self.old.first
-            (value_faults self.old.file.source.profile tag [] (value_is.AtLeastZero 0) variants.now)) }
+            (value_faults self.old.file.source.profile tag [] (value_is.AtLeastZero 0)
+            variants.now)) }
         ensures file { self.new.file ≡ self.old.file }
     {
         let profile = self.file.source.profile;
