@@ -7,7 +7,7 @@ use Rattle.tm_base.specs.declared.ground.Primitive.TheVariants.{U8, Usize}
 use Rattle.tm_base.specs.declared.ground.Wrapper.TheVariants.{PhantomData, ManuallyDrop}
 use Rattle.tm_base.specs.declared.limit.NameWhy.TheVariants.{Twice, Unknown, Arity, Lifetime, Discriminant, Infinite, BadRepr}
 use Rattle.tm_base.specs.declared.profile.Profile.TheVariants.{Le64, Be64, Le32}
-use Rattle.tm_names.proofs.FaultLaws.PartLemmas.{fault}
+use Rattle.tm_names.proofs.fault_laws.PartLemmas.{fault}
 use Rattle.tm_base.specs.declared.profile.Profile.{Profile}
 use Rattle.tm_names.specs.declared.faults.least.NameFault.{NameFault}
 use Rattle.tm_names.specs.Closures.{closure, joined_rows}

@@ -1,10 +1,10 @@
 use Rattle.std.proofs.Common.{◌∙◌, sym, ap, inl, subst, arith, All, ◌<◌, length}
-use Rattle.tm_names.proofs.FormLaws.ApartLemmas.{spelled_apart}
-use Rattle.tm_names.proofs.FaultLaws.FirstLemmas.{one_first}
-use Rattle.tm_names.proofs.FormLaws.InFormLemmas.{resolved_in_form, spelled_placed, spelled_within}
+use Rattle.tm_names.proofs.form_laws.ApartLemmas.{spelled_apart}
+use Rattle.tm_names.proofs.fault_laws.FirstLemmas.{one_first}
+use Rattle.tm_names.proofs.form_laws.InFormLemmas.{resolved_in_form, spelled_placed, spelled_within}
 use Rattle.tm_names.specs.declared.fault.NameErr.TheVariants.{Fault}
-use Rattle.tm_names.proofs.FormLaws.NarrowLemmas.{decls_narrow}
-use Rattle.tm_names.proofs.FormLaws.PlacedLemmas.{fault_placed}
+use Rattle.tm_names.proofs.form_laws.NarrowLemmas.{decls_narrow}
+use Rattle.tm_names.proofs.form_laws.PlacedLemmas.{fault_placed}
 use Rattle.tm_names.specs.ApartNames.{HasApartNames}
 use Rattle.tm_names.specs.FileFaults.{IsFirst}
 use Rattle.tm_names.specs.InForm.{IsInForm}

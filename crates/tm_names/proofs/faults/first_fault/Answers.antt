@@ -1,8 +1,8 @@
 use Rattle.std.proofs.Common.{◌≡◌, ℕ, Bool, ◌∙◌, refl, subst, map}
 use Rattle.std.specs.List.{flat_map}
 use Rattle.std.specs.Prelude.{None}
-use Rattle.tm_names.proofs.FaultLaws.FirstLemmas.{first_found}
-use Rattle.tm_names.proofs.FaultLaws.LeastLemmas.{chain, step}
+use Rattle.tm_names.proofs.fault_laws.FirstLemmas.{first_found}
+use Rattle.tm_names.proofs.fault_laws.LeastLemmas.{chain, step}
 use Rattle.tm_names.specs.Closures.{WithInfinite, infinite_faults}
 use Rattle.tm_names.specs.FileFaults.{file_faults}
 use Rattle.tm_names.specs.Found.{decl_faults, repeats, reserved, scope_faults}

@@ -1,5 +1,5 @@
 use Rattle.std.proofs.Common.{◌∙◌, sym, ap}
-use Rattle.tm_names.proofs.HoldingLaws.RowLemmas.{same_row}
+use Rattle.tm_names.proofs.holding_laws.RowLemmas.{same_row}
 use Rattle.tm_names.specs.Closures.{next_row}
 use Rattle.tm_names.specs.Held.{bit_at}
 use Rattle.tm_names.proofs.faults.closure.led_on.Goals as goal

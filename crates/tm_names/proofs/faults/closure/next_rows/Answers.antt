@@ -1,6 +1,6 @@
 use Rattle.std.proofs.Common.{◌≡◌, ◌∙◌, ap, subst, [], map}
 use Rattle.std.specs.Prelude.{IfOk}
-use Rattle.tm_names.proofs.HoldingLaws.RowLemmas.{same_row}
+use Rattle.tm_names.proofs.holding_laws.RowLemmas.{same_row}
 use Rattle.tm_names.specs.Closures.{next_row}
 use Rattle.tm_names.specs.Held.{bit_at, row_at}
 use Rattle.tm_names.proofs.faults.closure.next_rows.Goals as goal

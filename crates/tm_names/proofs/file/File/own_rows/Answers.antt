@@ -1,6 +1,6 @@
 use Rattle.std.proofs.Common.{◌∙◌, ◌<◌, sym, ap, subst, map}
-use Rattle.tm_names.proofs.HoldingLaws.NewsLemmas.{all_unset, fewer_unset}
-use Rattle.tm_names.proofs.HoldingLaws.OwnLemmas.{IsPartOfOwn, goes_on, starts, tells_own}
+use Rattle.tm_names.proofs.holding_laws.NewsLemmas.{all_unset, fewer_unset}
+use Rattle.tm_names.proofs.holding_laws.OwnLemmas.{IsPartOfOwn, goes_on, starts, tells_own}
 use Rattle.tm_names.specs.Closures.{joined_rows}
 use Rattle.tm_names.specs.Held.{have_news, parameter_flags}
 use Rattle.tm_names.specs.Source.{names_in}

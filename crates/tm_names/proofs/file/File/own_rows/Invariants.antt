@@ -1,5 +1,5 @@
-use Rattle.tm_names.proofs.HoldingLaws.NewsLemmas.{all_unset}
-use Rattle.tm_names.proofs.HoldingLaws.OwnLemmas.{IsPartOfOwn}
+use Rattle.tm_names.proofs.holding_laws.NewsLemmas.{all_unset}
+use Rattle.tm_names.proofs.holding_laws.OwnLemmas.{IsPartOfOwn}
 use Rattle.tm_names.specs.Source.{names_in}
 use Rattle.tm_names.proofs.file.File.own_rows.Given as goal
 

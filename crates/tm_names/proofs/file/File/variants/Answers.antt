@@ -6,7 +6,7 @@ use Rattle.std.specs.List.{list_all}
 use mir.Syntax.{w128}
 use Rattle.std.specs.Prelude.{ℤ, ◌+ℤ◌, pos}
 use Rattle.tm_base.specs.declared.definition.Variant.{Variant}
-use Rattle.tm_names.proofs.FaultLaws.ValueLemmas.{one_up}
+use Rattle.tm_names.proofs.fault_laws.ValueLemmas.{one_up}
 use Rattle.tm_names.specs.declared.value.Value.TheVariants.{AtLeastZero, BelowZero}
 use Rattle.tm_names.specs.declared.value.Value.{Value}
 use Rattle.tm_names.specs.Discriminants.{Valued, valued_from, value_of, written_or}

@@ -1,6 +1,6 @@
 use Rattle.std.proofs.Common.{append_assoc, Some, [], ◌∷◌, ◌∙◌, sym}
 use Rattle.std.specs.List.{enumerate_from, flat_map}
-use Rattle.tm_names.proofs.HoldingLaws.HeldLemmas.{held_in_array, held_in_named, held_in_tuple, held_in_wrap}
+use Rattle.tm_names.proofs.holding_laws.HeldLemmas.{held_in_array, held_in_named, held_in_tuple, held_in_wrap}
 use Rattle.tm_names.specs.Held.{argument_held}
 use Rattle.tm_names.specs.Source.{names_in}
 use Rattle.tm_names.proofs.faults.holding.Holding.+holding.Goals as goal

@@ -1,6 +1,6 @@
 use Rattle.std.proofs.Common.{[], ◌∙◌}
 use Rattle.std.specs.List.{flat_map}
-use Rattle.tm_names.proofs.FaultLaws.LeastLemmas.{chain}
+use Rattle.tm_names.proofs.fault_laws.LeastLemmas.{chain}
 use Rattle.tm_names.specs.declared.value.Value.TheVariants.{AtLeastZero}
 use Rattle.tm_names.specs.Faults.{decl_lists}
 use Rattle.tm_names.specs.Found.{repeats, reserved, repr_faults, scope_faults, value_faults}

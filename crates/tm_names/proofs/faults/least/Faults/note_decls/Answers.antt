@@ -1,5 +1,5 @@
 use Rattle.std.proofs.Common.{◌+◌, ◌∙◌, arith}
-use Rattle.tm_names.proofs.FaultLaws.LeastLemmas.{turn}
+use Rattle.tm_names.proofs.fault_laws.LeastLemmas.{turn}
 use Rattle.tm_names.specs.Found.{decl_faults}
 use Rattle.tm_names.specs.Least.{earliest}
 use Rattle.tm_names.specs.Source.{names_in}

@@ -1,5 +1,5 @@
 use Rattle.std.proofs.Common.{◌∙◌, sym, ap, subst, length, map}
-use Rattle.tm_names.proofs.HoldingLaws.CyclicLemmas.{tells_infinite}
+use Rattle.tm_names.proofs.holding_laws.CyclicLemmas.{tells_infinite}
 use Rattle.tm_names.specs.Closures.{TellsInfinite, closure}
 use Rattle.tm_names.specs.Held.{bit_at, definition_flags, row_at}
 use Rattle.tm_names.specs.Source.{names_in}

@@ -6,9 +6,9 @@ use Rattle.std.proofs.lemmas.List.Elements.{All-head}
 use Rattle.tm_base.specs.declared.limit.NameWhy.{NameWhy}
 use Rattle.tm_base.specs.declared.limit.NameWhy.TheVariants.{Twice, Unknown, Arity, Lifetime, Discriminant, Infinite, BadRepr}
 use Rattle.tm_base.specs.declared.profile.Profile.{Profile}
-use Rattle.tm_names.proofs.FormLaws.DefFormLemmas.{variant_among}
+use Rattle.tm_names.proofs.form_laws.DefFormLemmas.{variant_among}
 use Rattle.tm_names.proofs.Members.{Member, behind, either, from_flat_map, from_map, front, member, member_from_get}
-use Rattle.tm_names.proofs.FormLaws.TypeFormLemmas.{of_member}
+use Rattle.tm_names.proofs.form_laws.TypeFormLemmas.{of_member}
 use Rattle.tm_names.specs.declared.faults.mentions.Mention.{Mention}
 use Rattle.tm_names.specs.declared.faults.mentions.Mention.TheVariants.{Name, Life}
 use Rattle.tm_names.specs.Faults.{IsBadRepr, IsDiscriminant, IsMentioned, IsNameFault, IsReserved, IsTwice, decl_lists, field_names, lifetime_lists, name_lists, variant_names}

@@ -4,11 +4,11 @@ use Rattle.std.specs.Prelude.{slice_get, Some}
 use Rattle.std.specs.List.{filter_map}
 use Rattle.std.proofs.lemmas.Option.{none-some, same_Some}
 use Rattle.tm_base.specs.Reaches.{ChainIn}
-use Rattle.tm_names.proofs.HoldingLaws.HoldingLemmas.{Edge, decl_stands, held_within, kept, way_holds}
+use Rattle.tm_names.proofs.holding_laws.HoldingLemmas.{Edge, decl_stands, held_within, kept, way_holds}
 use Rattle.tm_names.proofs.Members.{Member, from_filter_map, into_filter_map}
-use Rattle.tm_names.proofs.HoldingLaws.OwnLemmas.{flags_length, flags_within, from_flags, into_flags}
-use Rattle.tm_names.proofs.HoldingLaws.RowLemmas.{Admits, closure_admits, length_map, row_of_map, row_within, some_at}
-use Rattle.tm_names.proofs.HoldingLaws.ThroughLemmas.{Way, through_is_way, way_is_through}
+use Rattle.tm_names.proofs.holding_laws.OwnLemmas.{flags_length, flags_within, from_flags, into_flags}
+use Rattle.tm_names.proofs.holding_laws.RowLemmas.{Admits, closure_admits, length_map, row_of_map, row_within, some_at}
+use Rattle.tm_names.proofs.holding_laws.ThroughLemmas.{Way, through_is_way, way_is_through}
 use Rattle.tm_names.specs.declared.meaning.Meaning.{Meaning}
 use Rattle.tm_names.specs.declared.meaning.Meaning.TheVariants.{Definition, Parameter}
 use Rattle.tm_names.specs.Closures.{TellsInfinite, TellsOwn, closure, through}

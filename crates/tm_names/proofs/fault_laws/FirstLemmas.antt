@@ -4,9 +4,9 @@ use Rattle.std.specs.Prelude.{Some, None, ◌==◌}
 use Rattle.tm_base.specs.declared.limit.NameWhy.{NameWhy}
 use Rattle.tm_base.specs.declared.limit.NameWhy.TheVariants.{Twice, Unknown, Arity, Lifetime, Discriminant, Infinite, BadRepr}
 use Rattle.tm_base.specs.declared.profile.Profile.{Profile}
-use Rattle.tm_names.proofs.FaultLaws.FileLemmas.{listed_stands, standing_listed}
-use Rattle.tm_names.proofs.FaultLaws.LeastLaws.{NoLater, earliest_is_least, no_earliest}
-use Rattle.tm_names.proofs.FaultLaws.PartLemmas.{fault}
+use Rattle.tm_names.proofs.fault_laws.FileLemmas.{listed_stands, standing_listed}
+use Rattle.tm_names.proofs.fault_laws.LeastLaws.{NoLater, earliest_is_least, no_earliest}
+use Rattle.tm_names.proofs.fault_laws.PartLemmas.{fault}
 use Rattle.tm_names.specs.declared.faults.least.NameFault.{NameFault}
 use Rattle.tm_names.specs.Closures.{TellsInfinite}
 use Rattle.tm_names.specs.Faults.{IsFirstFault}

@@ -13,10 +13,10 @@ use Rattle.tm_base.specs.declared.profile.Profile.TheVariants.{Le64, Be64, Le32}
 use Rattle.tm_base.specs.Integers.{fits_integer}
 use Rattle.tm_base.specs.Whole.{are_variants_in_form, field_total, is_def_in_form}
 use Rattle.tm_names.proofs.Members.{Member, behind, contained}
-use Rattle.tm_names.proofs.FormLaws.ReprFormLemmas.{IsReprKept, items_go_together, repr_kept}
-use Rattle.tm_names.proofs.FormLaws.TypeFormLemmas.{of_member}
-use Rattle.tm_names.proofs.FormLaws.ValueFormLemmas.{AreRight, as_full, as_many, fields_within, values_apart, values_in_form, variants_within}
-use Rattle.tm_names.proofs.FaultLaws.ValueLemmas.{exact_wrong}
+use Rattle.tm_names.proofs.form_laws.ReprFormLemmas.{IsReprKept, items_go_together, repr_kept}
+use Rattle.tm_names.proofs.form_laws.TypeFormLemmas.{of_member}
+use Rattle.tm_names.proofs.form_laws.ValueFormLemmas.{AreRight, as_full, as_many, fields_within, values_apart, values_in_form, variants_within}
+use Rattle.tm_names.proofs.fault_laws.ValueLemmas.{exact_wrong}
 use Rattle.tm_names.specs.Discriminants.{Valued, valued, valued_from, value_of}
 use Rattle.tm_names.specs.Faults.{HasNoFault}
 use Rattle.tm_names.specs.Representations.{items_of, tag_of}

@@ -5,7 +5,7 @@ use Rattle.std.proofs.lemmas.Bool.{false≢true}
 use Rattle.tm_base.specs.declared.limit.NameWhy.TheVariants as why
 use Rattle.tm_base.specs.declared.profile.Profile.{Profile}
 use Rattle.tm_names.proofs.Members.{Member, contained, from_flat_map}
-use Rattle.tm_names.proofs.FaultLaws.PartLemmas.{from_repeats, from_where}
+use Rattle.tm_names.proofs.fault_laws.PartLemmas.{from_repeats, from_where}
 use Rattle.tm_names.specs.declared.faults.least.NameFault.{NameFault}
 use Rattle.tm_names.specs.declared.meaning.Meaning.{Meaning}
 use Rattle.tm_names.specs.declared.faults.mentions.Mention.{Mention}

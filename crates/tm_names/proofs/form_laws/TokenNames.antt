@@ -17,7 +17,7 @@ use Rattle.tm_lex.specs.declared.token.Token.{Token}
 use Rattle.tm_lex.specs.declared.token.TokenKind.{TokenKind}
 use Rattle.tm_lex.specs.declared.token.TokenKind.TheVariants as kind
 use Rattle.tm_names.proofs.Members.{Member, from_numbered, member_from_get}
-use Rattle.tm_names.proofs.FormLaws.TypeFormLemmas.{of_member}
+use Rattle.tm_names.proofs.form_laws.TypeFormLemmas.{of_member}
 use Rattle.tm_names.specs.ApartNames.{is_own_name, is_quoted, is_region_name, is_word, is_word_byte, taken_words}
 use Rattle.tm_names.specs.Written.{bytes_of, name_at}
 use Rattle.tm_parse.proofs.grammar.LookedUp.{mark_no_lifetime, mark_no_name, word_no_lifetime}

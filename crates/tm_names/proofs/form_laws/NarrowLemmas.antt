@@ -12,12 +12,12 @@ use Rattle.tm_base.specs.declared.profile.Profile.{Profile}
 use Rattle.tm_base.specs.declared.profile.Profile.TheVariants.{Le64, Be64, Le32}
 use Rattle.tm_base.specs.Integers.{fits_integer, is_tag_type}
 use Rattle.tm_base.specs.Whole.{is_alignment}
-use Rattle.tm_names.proofs.FormLaws.DefFormLemmas.{values_right}
+use Rattle.tm_names.proofs.form_laws.DefFormLemmas.{values_right}
 use Rattle.tm_names.proofs.Members.{Member}
-use Rattle.tm_names.proofs.FormLaws.ReprFormLemmas.{items_go_together}
-use Rattle.tm_names.proofs.FormLaws.TypeFormLemmas.{each_passes, of_member}
-use Rattle.tm_names.proofs.FormLaws.ValueFormLemmas.{all_of_members, in_range}
-use Rattle.tm_names.proofs.FaultLaws.ValueLemmas.{TagOk, tag_is_ok}
+use Rattle.tm_names.proofs.form_laws.ReprFormLemmas.{items_go_together}
+use Rattle.tm_names.proofs.form_laws.TypeFormLemmas.{each_passes, of_member}
+use Rattle.tm_names.proofs.form_laws.ValueFormLemmas.{all_of_members, in_range}
+use Rattle.tm_names.proofs.fault_laws.ValueLemmas.{TagOk, tag_is_ok}
 use Rattle.tm_names.specs.Discriminants.{Valued, is_in_range, valued}
 use Rattle.tm_names.specs.Faults.{HasNoFault}
 use Rattle.tm_names.specs.Narrow.{IsItemNarrow, IsNarrow, is_value_narrow}

@@ -15,8 +15,8 @@ use Rattle.tm_base.specs.declared.ground.Primitive.{Primitive}
 use Rattle.tm_base.specs.declared.profile.Profile.{Profile}
 use Rattle.tm_base.specs.Whole.{field_total, is_value_in_form}
 use Rattle.tm_names.proofs.Members.{Member, member}
-use Rattle.tm_names.proofs.FormLaws.TypeFormLemmas.{each_passes}
-use Rattle.tm_names.proofs.FaultLaws.ValueLemmas.{exact_wrong}
+use Rattle.tm_names.proofs.form_laws.TypeFormLemmas.{each_passes}
+use Rattle.tm_names.proofs.fault_laws.ValueLemmas.{exact_wrong}
 use Rattle.tm_names.specs.Discriminants.{Valued, is_in_range, valued_from, value_of}
 use Rattle.tm_names.specs.Representations.{has_field}
 use Rattle.tm_names.specs.Resolutions.{field_of, variant_of}

@@ -6,12 +6,12 @@ use Rattle.std.proofs.lemmas.Option.{slice_get_within}
 use Rattle.tm_base.specs.declared.limit.NameWhy.{NameWhy}
 use Rattle.tm_base.specs.declared.limit.NameWhy.TheVariants.{Twice, Unknown, Arity, Lifetime, Discriminant, Infinite, BadRepr}
 use Rattle.tm_base.specs.declared.profile.Profile.{Profile}
-use Rattle.tm_names.proofs.FaultLaws.DiscriminantLemmas.{value_listed, values_stand}
-use Rattle.tm_names.proofs.FaultLaws.ListedLemmas.{arity_listed, hidden_listed, repr_listed, reserved_listed, unknown_listed}
+use Rattle.tm_names.proofs.fault_laws.DiscriminantLemmas.{value_listed, values_stand}
+use Rattle.tm_names.proofs.fault_laws.ListedLemmas.{arity_listed, hidden_listed, repr_listed, reserved_listed, unknown_listed}
 use Rattle.tm_names.proofs.Members.{Member, behind, either, from_flat_map, from_numbered, front, into_flat_map, into_map, member, numbered}
-use Rattle.tm_names.proofs.FaultLaws.PartLemmas.{fault, from_where, into_repeats, into_where}
-use Rattle.tm_names.proofs.FaultLaws.PlaceLemmas.{at_infinite, at_lifetimes, at_list, at_repr, at_scope, at_values, in_row}
-use Rattle.tm_names.proofs.FaultLaws.StandingLemmas.{Stands, repeats_stand, repr_stands, reserved_stand, scope_stands}
+use Rattle.tm_names.proofs.fault_laws.PartLemmas.{fault, from_where, into_repeats, into_where}
+use Rattle.tm_names.proofs.fault_laws.PlaceLemmas.{at_infinite, at_lifetimes, at_list, at_repr, at_scope, at_values, in_row}
+use Rattle.tm_names.proofs.fault_laws.StandingLemmas.{Stands, repeats_stand, repr_stands, reserved_stand, scope_stands}
 use Rattle.tm_names.specs.declared.faults.least.NameFault.{NameFault}
 use Rattle.tm_names.specs.declared.faults.mentions.Mention.TheVariants.{Name, Life}
 use Rattle.tm_names.specs.declared.value.Value.TheVariants.{AtLeastZero}

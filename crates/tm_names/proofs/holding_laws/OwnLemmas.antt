@@ -5,10 +5,10 @@ use Rattle.std.specs.List.{filter_map, range_with_len}
 use Rattle.std.proofs.lemmas.Bool.{cases_Bool, false≢true, or_cases}
 use Rattle.std.proofs.lemmas.Bool.Decides.{nat_tests}
 use Rattle.std.proofs.lemmas.Option.{none-some, same_Some, slice_get_within}
-use Rattle.tm_names.proofs.HoldingLaws.HoldingLemmas.{decl_stands, held_within, kept}
+use Rattle.tm_names.proofs.holding_laws.HoldingLemmas.{decl_stands, held_within, kept}
 use Rattle.tm_names.proofs.Members.{Member, from_filter_map, into_filter_map}
-use Rattle.tm_names.proofs.HoldingLaws.NewsLemmas.{length_joined, row_at_joined, settled}
-use Rattle.tm_names.proofs.HoldingLaws.RowLemmas.{bit_within, length_map, next_bit, next_length, row_of_map, row_within, some_at}
+use Rattle.tm_names.proofs.holding_laws.NewsLemmas.{length_joined, row_at_joined, settled}
+use Rattle.tm_names.proofs.holding_laws.RowLemmas.{bit_within, length_map, next_bit, next_length, row_of_map, row_within, some_at}
 use Rattle.tm_names.specs.declared.meaning.Meaning.{Meaning}
 use Rattle.tm_names.specs.declared.meaning.Meaning.TheVariants.{Definition, Parameter}
 use Rattle.tm_names.specs.Closures.{TellsOwn, joined_rows, next_row}

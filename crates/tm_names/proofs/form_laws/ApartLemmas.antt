@@ -11,8 +11,8 @@ use Rattle.tm_base.specs.declared.profile.Profile.{Profile}
 use Rattle.tm_lex.specs.Lexes.{Tokenizes}
 use Rattle.tm_lex.specs.declared.token.Token.{Token}
 use Rattle.tm_names.proofs.Members.{Member, contained, from_map}
-use Rattle.tm_names.proofs.FormLaws.TokenNames.{all_mapped, terminals_suit}
-use Rattle.tm_names.proofs.FormLaws.TypeFormLemmas.{each_passes, of_member}
+use Rattle.tm_names.proofs.form_laws.TokenNames.{all_mapped, terminals_suit}
+use Rattle.tm_names.proofs.form_laws.TypeFormLemmas.{each_passes, of_member}
 use Rattle.tm_names.specs.ApartNames.{HasApartNames, is_own_name, is_region_name, is_word_byte}
 use Rattle.tm_names.specs.Faults.{HasNoFault, lifetime_lists, name_lists}
 use Rattle.tm_names.specs.Resolutions.{def_of, resolved_of}

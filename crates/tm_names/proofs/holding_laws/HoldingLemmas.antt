@@ -6,7 +6,7 @@ use Rattle.std.proofs.lemmas.Option.{none-some, same_Some}
 use Rattle.tm_base.specs.Reaches.{ChainIn}
 use Rattle.tm_names.proofs.MeaningLemmas.{meant_within}
 use Rattle.tm_names.proofs.Members.{Member, behind, contained, either, from_flat_map, from_map, front, into_flat_map, into_map, member}
-use Rattle.tm_names.proofs.HoldingLaws.ThroughLemmas.{Way, way_of_step, ways}
+use Rattle.tm_names.proofs.holding_laws.ThroughLemmas.{Way, way_of_step, ways}
 use Rattle.tm_names.specs.declared.meaning.Meaning.{Meaning}
 use Rattle.tm_names.specs.declared.meaning.Meaning.TheVariants.{Definition, Parameter}
 use Rattle.tm_names.specs.Held.{arguments_held, bit_at, decl_held, held_in, is_open, row_at, row_held, variant_held, with_meaning}

@@ -4,7 +4,7 @@ use Rattle.std.specs.Prelude.{Option, Some, None, not, is_some}
 use Rattle.std.proofs.lemmas.Bool.{false≢true}
 use Rattle.tm_base.specs.declared.limit.NameWhy.TheVariants as why
 use Rattle.tm_names.proofs.Members.{Member, into_flat_map}
-use Rattle.tm_names.proofs.FaultLaws.PartLemmas.{fault, into_where}
+use Rattle.tm_names.proofs.fault_laws.PartLemmas.{fault, into_where}
 use Rattle.tm_names.specs.declared.meaning.Meaning.{Meaning}
 use Rattle.tm_names.specs.declared.faults.mentions.Mention.TheVariants.{Name, Life}
 use Rattle.tm_names.specs.declared.faults.mentions.NameMention.{NameMention}

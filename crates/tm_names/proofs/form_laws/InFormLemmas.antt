@@ -6,10 +6,10 @@ use Rattle.std.proofs.lemmas.List.{length-map}
 use Rattle.tm_base.specs.declared.definition.Def.{Def}
 use Rattle.tm_base.specs.declared.profile.Profile.{Profile}
 use Rattle.tm_base.specs.Whole.{AreValuesDistinct, are_defs_in_form, is_def_in_form}
-use Rattle.tm_names.proofs.FormLaws.DefFormLemmas.{def_in_form, values_distinct}
+use Rattle.tm_names.proofs.form_laws.DefFormLemmas.{def_in_form, values_distinct}
 use Rattle.tm_names.proofs.KnownLemmas.{bounds_known}
 use Rattle.tm_names.proofs.Members.{Member, from_map, member_from_get}
-use Rattle.tm_names.proofs.FormLaws.TypeFormLemmas.{asks_in_form, each_passes, fields_in_form}
+use Rattle.tm_names.proofs.form_laws.TypeFormLemmas.{asks_in_form, each_passes, fields_in_form}
 use Rattle.tm_names.specs.Discriminants.{valued_from, value_of}
 use Rattle.tm_names.specs.Faults.{HasNoFault}
 use Rattle.tm_names.specs.InForm.{IsInForm, are_defs_typed, is_variant_typed}

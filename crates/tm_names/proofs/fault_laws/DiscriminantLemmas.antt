@@ -5,9 +5,9 @@ use Rattle.tm_base.specs.declared.ground.Primitive.{Primitive}
 use Rattle.tm_base.specs.declared.limit.NameWhy.TheVariants.{Discriminant}
 use Rattle.tm_base.specs.declared.profile.Profile.{Profile}
 use Rattle.tm_names.proofs.Members.{Member, behind, contained, either, front}
-use Rattle.tm_names.proofs.FaultLaws.PartLemmas.{fault, from_where, into_where}
-use Rattle.tm_names.proofs.FaultLaws.StandingLemmas.{Stands}
-use Rattle.tm_names.proofs.FaultLaws.ValueLemmas.{exact_faults, exact_wrong, same_faults, tag_is_ok}
+use Rattle.tm_names.proofs.fault_laws.PartLemmas.{fault, from_where, into_where}
+use Rattle.tm_names.proofs.fault_laws.StandingLemmas.{Stands}
+use Rattle.tm_names.proofs.fault_laws.ValueLemmas.{exact_faults, exact_wrong, same_faults, tag_is_ok}
 use Rattle.tm_names.specs.declared.faults.least.NameFault.{NameFault}
 use Rattle.tm_names.specs.declared.value.Value.TheVariants.{AtLeastZero}
 use Rattle.tm_names.specs.Discriminants.{Valued, valued}
