@@ -1,5 +1,5 @@
 -- What follows from the facts of an automaton: where its paths lead, and which lists are viable.
-use Rattle.std.proofs.Common.{◌≡◌, ◌≢◌, ℕ, zero, suc, ◌+◌, ◌^◌, ◌<◌, ◌≤◌, inl, inr, ◌↔◌, Bool, true, List, [], ◌∷◌, ◌++◌, length, refl, sym, ap, ◌∙◌, subst, arith, append_assoc, length-append, eq-eqb}
+use Rattle.std.proofs.Common.{◌≡◌, ◌≢◌, ℕ, zero, suc, ◌+◌, ◌^◌, ◌<◌, ◌≤◌, inl, inr, ◌↔◌, Bool, true, List, [], ◌∷◌, ◌++◌, length, refl, sym, ap, ◌∙◌, subst, arith, append_assoc, length-append, eq-eqb, Contains}
 use Rattle.std.specs.Prelude.{◌==◌, ◌||◌}
 use Rattle.std.proofs.lemmas.Bool.{cases_lt, or_left, or_right}
 use Rattle.tm_base.specs.declared.cell.Cell.{Cell}
@@ -7,6 +7,7 @@ use Rattle.tm_base.specs.declared.cell.Cell.TheVariants.{Byte, Uninit, Ptr}
 use Rattle.tm_base.specs.declared.cell.RefId.{RefId}
 use Rattle.tm_base.specs.Cells.{Word, OrOwn, own}
 use Rattle.tm_base.specs.Transmutes.{holds, is_itself}
+use Rattle.tm_base.proofs.JudgedLemmas.{Contains-none}
 use Rattle.tm_auto.specs.declared.edge.Edge.{Edge}
 use Rattle.tm_auto.specs.declared.edge.Label.{Label}
 use Rattle.tm_auto.specs.declared.edge.Label.TheVariants.{Bytes, Free, Leaf}
@@ -14,9 +15,9 @@ use Rattle.tm_auto.specs.declared.edge.Symbol.{Symbol}
 use Rattle.tm_auto.specs.Automata.{Automaton, AutoWord, IsViable, IsInLayer, IsAutomaton, LiesOnWord, IsLayered, ReadsWords, IsStep, BeginsReference, IsOfReferences, reached}
 use Rattle.tm_auto.specs.Joined.{Follows, JoinedAfter, IsJoined, IsNotOwn, HasNoOwn, IsUnbroken}
 use Rattle.tm_auto.specs.Labels.{Takes, CanTake, Begins, Joins}
-use Rattle.tm_auto.specs.Paths.{Among, SpellsTo, IsPath}
+use Rattle.tm_auto.specs.Paths.{SpellsTo, IsPath}
 use Rattle.tm_auto.specs.Sets.{next, reached_from, symbol_of}
-use Rattle.tm_auto.proofs.AmongLemmas.{some_among, none_among}
+use Rattle.tm_auto.proofs.ContainsLemmas.{some_among}
 use Rattle.tm_auto.proofs.SetLemmas.{same_at, rises_same, increasing_rises}
 use Rattle.tm_auto.proofs.JoinedLemmas.{joined_left}
 use Rattle.tm_auto.proofs.StepLemmas.{id_at, place_at, next_to, to_next, next-IsStrictlyIncreasing, reached_to, to_reached}
@@ -149,12 +150,12 @@ module _ (auto : Automaton) (h : IsAutomaton auto) where
 
     -- after the cell p each edge of the state passes some cell that may follow
     record Fits (p : Cell) (s : ℕ) : Type 0 where
-      each : (f : Edge) → Among f auto.edges → f.from ≡ s → (d : Cell) × Takes B f.label d × Follows p d
+      each : (f : Edge) → Contains auto.edges f → f.from ≡ s → (d : Cell) × Takes B f.label d × Follows p d
 
-    fits_start : (s : ℕ) → Among s auto.starts → Fits Uninit s
-    fits_start s m = record { each = λ f a q. first f.label (h.begins f a (subst (λ (z : ℕ). Among z auto.starts) (sym q) m)) (h.takes f a) }
+    fits_start : (s : ℕ) → Contains auto.starts s → Fits Uninit s
+    fits_start s m = record { each = λ f a q. first f.label (h.begins f a (subst (λ (z : ℕ). Contains auto.starts z) (sym q) m)) (h.takes f a) }
 
-    fits_next : (e : Edge) (c : Cell) → Among e auto.edges → Takes B e.label c → Fits c e.to
+    fits_next : (e : Edge) (c : Cell) → Contains auto.edges e → Takes B e.label c → Fits c e.to
     fits_next e c a k = record { each = λ f b q. follow e.label f.label c (h.joins e f a b (sym q)) (h.takes f b) k }
 
     fits_after : (w : Word) (p : Cell) (a s : ℕ) → Fits p a → SpellsTo B auto.edges w a s → Fits (last_of p w) s
@@ -170,19 +171,19 @@ module _ (auto : Automaton) (h : IsAutomaton auto) where
         (d ∷ w, omega arith, (e, m, f, i, l), (j, jw))
 
     -- a joined list that leads somewhere goes on to a word
-    goes_on : (w : Word) (a s : ℕ) → Among a auto.starts → IsJoined w → SpellsTo B auto.edges w a s → (v : Word) × SpellsTo B auto.edges v s 0 × IsJoined (w ++ v)
+    goes_on : (w : Word) (a s : ℕ) → Contains auto.starts a → IsJoined w → SpellsTo B auto.edges w a s → (v : Word) × SpellsTo B auto.edges v s 0 × IsJoined (w ++ v)
     goes_on w a s m j q =
         let (k, p) = path_down (suc s) s (omega arith) (leads_below B w a s (h.below a m) q) in
         let (v, n, l, jv) = along k s 0 (last_of Uninit w) (fits_after w Uninit a s (fits_start a m) q) p in
         (v, l, joined_on Uninit w v j jv)
 
-    word_of : (w v : Word) (a s : ℕ) → Among a auto.starts → SpellsTo B auto.edges w a s → SpellsTo B auto.edges v s 0 → IsJoined (w ++ v) → AutoWord B auto (w ++ v)
+    word_of : (w v : Word) (a s : ℕ) → Contains auto.starts a → SpellsTo B auto.edges w a s → SpellsTo B auto.edges v s 0 → IsJoined (w ++ v) → AutoWord B auto (w ++ v)
     word_of w v a s m l k j = record { joined = j; reaches = record { state = a; among = m; spells = leads_on B auto.edges w v a s 0 l k } }
 
     -- some joined list leads to each state
     record Comes (s : ℕ) : Type 0 where
       start : ℕ
-      among : Among start auto.starts
+      among : Contains auto.starts start
       word : Word
       leads : SpellsTo B auto.edges word start s
       joined : IsJoined word
@@ -268,7 +269,7 @@ module _ (auto : Automaton) (h : IsAutomaton auto) where
         let r = word.reaches in
         let (s, l, k) = leads_parts (OrOwn (holds A)) auto.edges w v r.state 0 r.spells in
         let m = to_reached A auto.edges auto.starts w r.state s r.among (no_own A w r.state s n l) in
-        none_among (subst (λ (z : List ℕ). Among s z) q m)),
+        Contains-none _ (subst (λ (z : List ℕ). Contains z s) q m)),
   )
 
   -- where a target reference may begin
@@ -288,17 +289,17 @@ module _ (auto : Automaton) (h : IsAutomaton auto) where
         let (s2, l, k) = leads_parts (OrOwn (holds A)) auto.edges (w ++ own_byte t ∷ []) v r.state 0 r.spells in
         let (s, l1, (e, em, ef, et, eq)) = leads_parts (OrOwn (holds A)) auto.edges w (own_byte t ∷ []) r.state s2 l in
         let m = to_reached A auto.edges auto.starts w r.state s r.among (no_own A w r.state s n l1) in
-        (e, em, subst (λ (z : ℕ). Among z (reached A auto w)) (sym ef) m, own_label A auto.pointer refs t e.label (h.takes e em) et),
+        (e, em, subst (λ (z : ℕ). Contains (reached A auto w) z) (sym ef) m, own_label A auto.pointer refs t e.label (h.takes e em) et),
   )
 
   -- ---- under the test of equal references
 
-  chained : (w : Word) (p : Cell) (a s : ℕ) → ((f : Edge) (d : Cell) → Among f auto.edges → f.from ≡ a → Takes (holds is_itself) f.label d → Follows p d) → SpellsTo (holds is_itself) auto.edges w a s → JoinedAfter p w
+  chained : (w : Word) (p : Cell) (a s : ℕ) → ((f : Edge) (d : Cell) → Contains auto.edges f → f.from ≡ a → Takes (holds is_itself) f.label d → Follows p d) → SpellsTo (holds is_itself) auto.edges w a s → JoinedAfter p w
   chained [] p a s g q = tt
   chained (c ∷ w) p a s g (e, m, f, t, r) = (g e c m f t, chained w c e.to s (λ f2 d m2 q2 t2. joins_cell e.label f2.label c d (h.joins e f2 m m2 (sym q2)) t t2) r)
 
-  source_joined : (w : Word) (a s : ℕ) → Among a auto.starts → SpellsTo (holds is_itself) auto.edges w a s → IsJoined w
-  source_joined w a s m q = chained w Uninit a s (λ f d fm ff t. begins_cell Uninit f.label d (h.begins f fm (subst (λ (z : ℕ). Among z auto.starts) (sym ff) m)) t) q
+  source_joined : (w : Word) (a s : ℕ) → Contains auto.starts a → SpellsTo (holds is_itself) auto.edges w a s → IsJoined w
+  source_joined w a s m q = chained w Uninit a s (λ f d fm ff t. begins_cell Uninit f.label d (h.begins f fm (subst (λ (z : ℕ). Contains auto.starts z) (sym ff) m)) t) q
 
   reached_joined : (w : Word) → reached is_itself auto w ≢ [] → IsJoined w
   reached_joined w ne =
@@ -318,7 +319,7 @@ module _ (auto : Automaton) (h : IsAutomaton auto) where
         let r = word.reaches in
         let (s, l, k) = leads_parts (holds is_itself) auto.edges w v r.state 0 r.spells in
         let m = to_reached is_itself auto.edges auto.starts w r.state s r.among l in
-        none_among (subst (λ (z : List ℕ). Among s z) q m)),
+        Contains-none _ (subst (λ (z : List ℕ). Contains z s) q m)),
   )
 
   -- ---- references stay whole
@@ -339,7 +340,7 @@ module _ (auto : Automaton) (h : IsAutomaton auto) where
 
   pub next_is : (A : ℕ → ℕ → Bool) (from : List ℕ) (x : Symbol) (set : List ℕ) → IsStep A auto from x set → set ≡ next A auto.edges from x
   next_is A from x set s = rises_same set (next A auto.edges from x) (increasing_rises set s.rising) (increasing_rises _ (next-IsStrictlyIncreasing A auto.edges from x))
-      (λ t a. let (e, ea, ef, ep, eq) = (s.states t).0 a in subst (λ (z : ℕ). Among z (next A auto.edges from x)) eq (to_next A auto.edges from x e ea ef ep))
+      (λ t a. let (e, ea, ef, ep, eq) = (s.states t).0 a in subst (λ (z : ℕ). Contains (next A auto.edges from x) z) eq (to_next A auto.edges from x e ea ef ep))
       (λ t a. (s.states t).1 (next_to A auto.edges from x t a))
 
   reached_more : (A : ℕ → ℕ → Bool) (states : List ℕ) (w : Word) (c : Cell) → reached_from A auto.edges states (w ++ c ∷ []) ≡ next A auto.edges (reached_from A auto.edges states w) (symbol_of c)

@@ -1,11 +1,12 @@
 -- What the builder made is an automaton of the tree.
-use Rattle.std.proofs.Common.{◌≡◌, ℕ, zero, suc, ◌+◌, ◌^◌, ◌<◌, ◌≤◌, ◌⊎◌, inl, inr, ◌↔◌, Bool, true, List, [], ◌∷◌, ◌++◌, length, refl, sym, ap, ◌∙◌, subst, arith, append-nil}
+use Rattle.std.proofs.Common.{◌≡◌, ℕ, zero, suc, ◌+◌, ◌^◌, ◌<◌, ◌≤◌, ◌⊎◌, inl, inr, ◌↔◌, Bool, true, List, [], ◌∷◌, ◌++◌, length, refl, sym, ap, ◌∙◌, subst, arith, append-nil, Contains}
 use Rattle.std.proofs.lemmas.Bool.{cases_lt}
 use Rattle.tm_base.specs.declared.tree.Tree.{Tree}
 use Rattle.tm_base.specs.Cells.{Word}
 use Rattle.tm_base.specs.Shapes.{leaves_of, HasNoPrivate, HasNoChoice, HasSize}
 use Rattle.tm_base.specs.Transmutes.{holds}
 use Rattle.tm_base.specs.Trees.{TreeWord}
+use Rattle.tm_base.proofs.JudgedLemmas.{Contains-none, Contains-one}
 use Rattle.tm_auto.specs.declared.build.Building.{Building}
 use Rattle.tm_auto.specs.declared.edge.Edge.{Edge}
 use Rattle.tm_auto.specs.declared.extent.Extent.{Extent}
@@ -13,9 +14,9 @@ use Rattle.tm_auto.specs.declared.extent.Extent.TheVariants.{Dead, Empty, Long}
 use Rattle.tm_auto.specs.Automata.{Automaton, AutoWord, HasOneStateALayer, IsAutomaton}
 use Rattle.tm_auto.specs.Builds.{of_tree, IsForward, IsReady, CanBegin, CanGrow, MakesTree, IsPlacedTree, IsSealed, HasNoLoose}
 use Rattle.tm_auto.specs.Loose.{LooseWord}
-use Rattle.tm_auto.specs.Paths.{here, SpellsTo, Among, IsPath}
+use Rattle.tm_auto.specs.Paths.{SpellsTo, IsPath}
 use Rattle.tm_auto.specs.Shapes.{extent_of}
-use Rattle.tm_auto.proofs.AmongLemmas.{none_among, only}
+use Rattle.tm_auto.proofs.ContainsLemmas.{here}
 use Rattle.tm_auto.proofs.EvenLemmas.{sized_even}
 use Rattle.tm_auto.proofs.ExtentLemmas.{IsExtent, extent_is, empty_alone}
 use Rattle.tm_auto.proofs.JoinedLemmas.{words_are}
@@ -33,8 +34,8 @@ pub record IsAutomatonOf (t : Tree) (auto : Automaton) : Type 0 where
 -- ---- the whole tree
 
 module _ (t : Tree) (b : Building) (can : CanBegin t b) where
-  no_edge : (e : Edge) → Among e b.edges.items → ⊥
-  no_edge e a = none_among (subst (λ (xs : List Edge). Among e xs) can.edges a)
+  no_edge : (e : Edge) → Contains b.edges.items e → ⊥
+  no_edge e a = Contains-none _ (subst (λ (xs : List Edge). Contains xs e) can.edges a)
 
   -- there is the end alone
   ready : IsReady b 0
@@ -75,7 +76,7 @@ module _ (t : Tree) (b : Building) (can : CanBegin t b) where
 
 end_only : (A : ℕ → ℕ → Type 0) (v : Word) (s : ℕ) → SpellsTo A [] v s 0 → v ≡ []
 end_only A [] s h = refl
-end_only A (c ∷ v) s (e, a, f, t, r) = absurd (none_among a)
+end_only A (c ∷ v) s (e, a, f, t, r) = absurd (Contains-none _ a)
 
 forward_path : (es : List Edge) → IsForward es → (k a s t : ℕ) → IsPath es k a s → IsPath es k a t → s ≡ t
 forward_path es f zero a s t p q = sym p ∙ q
@@ -88,24 +89,24 @@ pub built_none : (t : Tree) (size pointer : ℕ) → (0 < pointer) × (pointer �
 built_none t size pointer small g none = record {
   automaton = record {
     small = small;
-    down = λ e a. absurd (none_among a);
+    down = λ e a. absurd (Contains-none _ a);
     ordered = tt;
     left = λ s lo hi. absurd (omega arith);
     entered = λ s l. absurd (omega arith);
-    takes = λ e a. absurd (none_among a);
-    joins = λ e f a b q. absurd (none_among a);
-    begins = λ e a s. absurd (none_among a);
+    takes = λ e a. absurd (Contains-none _ a);
+    joins = λ e f a b q. absurd (Contains-none _ a);
+    begins = λ e a s. absurd (Contains-none _ a);
     rising = rises_increasing [] tt;
-    one = λ s u a b. absurd (none_among a);
-    below = λ s a. absurd (none_among a);
-    sized = λ A w word. absurd (none_among word.reaches.among);
-    whole = λ A w word. absurd (none_among word.reaches.among);
+    one = λ s u a b. absurd (Contains-none _ a);
+    below = λ s a. absurd (Contains-none _ a);
+    sized = λ A w word. absurd (Contains-none _ word.reaches.among);
+    whole = λ A w word. absurd (Contains-none _ word.reaches.among);
   };
   words = λ A keep w. (
     λ x. absurd (none A w ((words_are pointer (holds A) keep small.0 t g w).0 x).1),
-    λ word. absurd (none_among word.reaches.among),
+    λ word. absurd (Contains-none _ word.reaches.among),
   );
-  single = λ l k s t2 p q. absurd (none_among p.among);
+  single = λ l k s t2 p q. absurd (Contains-none _ p.among);
   linear = omega arith;
 }
 
@@ -122,33 +123,33 @@ built_some t size b c state can sized h = record {
     ];
     takes = rw h.extended.pointer at h.extended.sound.takes;
     joins = h.extended.sound.joins;
-    begins = λ e a s. h.opens e a (only e.from state s);
+    begins = λ e a s. h.opens e a (sym (Contains-one state e.from s));
     rising = rises_increasing (state ∷ []) tt;
-    one = λ s u a d. only s state a ∙ sym (only u state d);
-    below = λ s a. let e = only s state a in let x = h.below in omega arith;
+    one = λ s u a d. sym (Contains-one state s a) ∙ Contains-one state u d;
+    below = λ s a. let e = sym (Contains-one state s a) in let x = h.below in omega arith;
     sized = λ A w word. sized A w ((words A true w).1 word);
     whole = λ A w word. tree_whole b.pointer (holds A) true t w ((words A true w).1 word);
   };
   words = words;
   single = λ l k s u p q.
-      let f = h.forward l (λ d e a x w. absurd (none_among (subst (λ (xs : List Edge). Among d xs) can.edges a))) in
-      let one : p.start ≡ q.start = only p.start state p.among ∙ sym (only q.start state q.among) in
+      let f = h.forward l (λ d e a x w. absurd (Contains-none _ (subst (λ (xs : List Edge). Contains xs d) can.edges a))) in
+      let one : p.start ≡ q.start = sym (Contains-one state p.start p.among) ∙ Contains-one state q.start q.among in
       forward_path c.edges.items f k q.start s u (subst (λ (z : ℕ). IsPath c.edges.items k z s) one p.path) q.path;
   linear = let x = h.linear in let y = ap length (h.extended.longer ∙ ap (λ (z : List Edge). z ++ h.extended.more) can.edges) in omega arith;
 }
   where
-    start : (s : ℕ) → s ≡ state → Among s (state ∷ [])
-    start s q = rw q here
+    start : (s : ℕ) → s ≡ state → Contains (state ∷ []) s
+    start s q = rw q (here [])
 
     words : (A : ℕ → ℕ → Bool) (keep : Bool) (w : Word) → TreeWord b.pointer (holds A) keep t w ↔ AutoWord (holds A) (record { states = c.states; edges = c.edges.items; starts = state ∷ []; size = size; pointer = b.pointer }) w
     words A keep w = (
       λ x. (
           let (j, loose) = (words_are b.pointer (holds A) keep can.pointer.0 t can.public w).0 x in
           let r = h.back A w [] loose refl in
-          record { joined = j; reaches = record { state = state; among = here; spells = subst (λ (z : Word). SpellsTo (holds A) c.edges.items z state 0) (append-nil w) r } }),
+          record { joined = j; reaches = record { state = state; among = here []; spells = subst (λ (z : Word). SpellsTo (holds A) c.edges.items z state 0) (append-nil w) r } }),
       λ word. (
           let r = word.reaches in
-          let (u, v, e, x, k) = h.forth A w (subst (λ (z : ℕ). SpellsTo (holds A) c.edges.items w z 0) (only r.state state r.among) r.spells) in
+          let (u, v, e, x, k) = h.forth A w (subst (λ (z : ℕ). SpellsTo (holds A) c.edges.items w z 0) (sym (Contains-one state r.state r.among)) r.spells) in
           let q : w ≡ u = e ∙ ap (λ z. u ++ z) (end_only (holds A) v 0 (rw can.edges at k)) ∙ append-nil u in
           (words_are b.pointer (holds A) keep can.pointer.0 t can.public w).1 (word.joined, subst (λ (z : Word). LooseWord b.pointer (holds A) t z) (sym q) x)),
     )

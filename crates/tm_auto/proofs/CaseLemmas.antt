@@ -1,5 +1,5 @@
 -- What is built along a list of trees, turn by turn, and for a reference.
-use Rattle.std.proofs.Common.{◌≡◌, ◌≢◌, ℕ, zero, suc, ◌+◌, ◌-◌, ◌^◌, ◌<◌, ◌≤◌, ◌⊎◌, inl, inr, Bool, List, [], ◌∷◌, ◌++◌, length, take, drop, get_or, refl, sym, ap, ◌∙◌, subst, arith, ◌↔◌, drop-cons, length-append, Result, Ok, Err, OnOk}
+use Rattle.std.proofs.Common.{◌≡◌, ◌≢◌, ℕ, zero, suc, ◌+◌, ◌-◌, ◌^◌, ◌<◌, ◌≤◌, ◌⊎◌, inl, inr, Bool, List, [], ◌∷◌, ◌++◌, length, take, drop, get_or, refl, sym, ap, ◌∙◌, subst, arith, ◌↔◌, drop-cons, length-append, Result, Ok, Err, OnOk, Contains}
 use Rattle.std.proofs.lemmas.Bool.{cases_lt}
 use Rattle.std.proofs.lemmas.List.{take_all}
 use Rattle.tm_base.specs.declared.cell.Cell.TheVariants.{Byte, Ptr}
@@ -17,7 +17,6 @@ use Rattle.tm_auto.specs.declared.extent.Extent.TheVariants.{Dead, Empty, Long}
 use Rattle.tm_auto.specs.Builds.{Piece, of_tree, MayFollow, IsReady, IsGrowable, CanGrow, MakesBy, MakesTree, IsPlacedBy, IsAdded, IsSealed, AreEven, any}
 use Rattle.tm_auto.specs.Labels.{CanTake, Begins}
 use Rattle.tm_auto.specs.Loose.{LooseBytes, LooseWord, LooseInTurn}
-use Rattle.tm_auto.specs.Paths.{Among}
 use Rattle.tm_auto.specs.Shapes.{extent_of, in_turn}
 use Rattle.tm_auto.proofs.ExtentLemmas.{IsExtent, extent_is, turn_is, empty_alone, live_at, even_at}
 use Rattle.tm_auto.proofs.GrowLemmas.{Both, CellWords}
@@ -40,7 +39,7 @@ module _ (p : Piece) {b c : Building} {next : ℕ} where
   front_room mark all e l r (inr h) more = let x = h.few in omega arith
 
   -- once it is sealed
-  pub front_placed : (mark : ℕ) (d : Building) (state : ℕ) → mark ≡ length b.head.items → IsReady b p.target → ((e : Edge) → Among e b.edges.items → e.from ≡ p.target → p.opens e.label) → Front p b c next → IsSealed mark next c d state → IsPlacedBy p b d state
+  pub front_placed : (mark : ℕ) (d : Building) (state : ℕ) → mark ≡ length b.head.items → IsReady b p.target → ((e : Edge) → Contains b.edges.items e → e.from ≡ p.target → p.opens e.label) → Front p b c next → IsSealed mark next c d state → IsPlacedBy p b d state
   front_placed mark d state em ready opens (inl (at, same, none)) sealed =
       let size : length c.head.items ≡ mark = ap length same.head ∙ sym em in
       let (ee, es, en) = sealed.none size in

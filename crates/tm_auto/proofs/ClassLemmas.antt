@@ -1,13 +1,15 @@
 -- Why the classes that are made are those of two sets.
-use Rattle.std.proofs.Common.{◌≡◌, ℕ, zero, suc, ◌+◌, ◌-◌, ◌<◌, ◌≤◌, ◌⊎◌, inl, inr, Bool, true, false, ◌&&◌, nat_le, nat_lt, List, [], ◌∷◌, ◌++◌, refl, sym, ap, ◌∙◌, subst, arith, append-nil, append_assoc, length, take, drop, get_or, add-one, drop-cons}
+use Rattle.std.proofs.Common.{◌≡◌, ℕ, zero, suc, ◌+◌, ◌-◌, ◌<◌, ◌≤◌, ◌⊎◌, inl, inr, Bool, true, false, ◌&&◌, nat_le, nat_lt, List, [], ◌∷◌, ◌++◌, refl, sym, ap, ◌∙◌, subst, arith, append-nil, append_assoc, length, take, drop, get_or, add-one, drop-cons, Contains}
 use Rattle.std.specs.Prelude.{◌||◌, ◌==◌}
 use Rattle.std.proofs.Math.Seq.{take-suc}
 use Rattle.std.proofs.lemmas.Bool.{cases_lt, or_left, or_right}
+use Rattle.std.proofs.lemmas.List.Elements.{Contains-append_left, Contains-append_right, Contains-append_cases}
 use Rattle.tm_base.specs.declared.cell.Cell.{Cell}
 use Rattle.tm_base.specs.declared.cell.Cell.TheVariants as cell
 use Rattle.tm_base.specs.declared.cell.RefId.{RefId}
 use Rattle.tm_base.specs.Orders.{cell_less}
 use Rattle.tm_base.specs.Transmutes.{is_itself}
+use Rattle.tm_base.proofs.JudgedLemmas.{Contains-none, Contains-one}
 use Rattle.tm_auto.specs.declared.edge.Edge.{Edge}
 use Rattle.tm_auto.specs.declared.edge.Label.{Label}
 use Rattle.tm_auto.specs.declared.edge.Label.TheVariants as label
@@ -15,9 +17,8 @@ use Rattle.tm_auto.specs.declared.edge.Symbol.{Symbol}
 use Rattle.tm_auto.specs.declared.edge.Symbol.TheVariants as symbol
 use Rattle.tm_auto.specs.Automata.{edges_from}
 use Rattle.tm_auto.specs.Classes.{HasCell, AreInOrder, IsUncut, AreUncut, passes_some, IsRange, AreRanges, labels_in, labels_from, places_of}
-use Rattle.tm_auto.specs.Paths.{Among, here, there}
 use Rattle.tm_auto.specs.Sets.{passes}
-use Rattle.tm_auto.proofs.AmongLemmas.{among_left, among_right, among_either, none_among}
+use Rattle.tm_auto.proofs.ContainsLemmas.{here, there, first_or_later}
 use Rattle.tm_auto.proofs.SetLemmas.{bool_cases, same_at}
 use Rattle.tm_auto.proofs.StepLemmas.{byte_at, both_true}
 
@@ -53,11 +54,7 @@ pub all_less : (ls : List Label) (a e f : ℕ) → f ≤ e → AreUncut ls a e �
 all_less ls a e f le h l m = uncut_less l a e f le (h l m)
 
 pub uncut_more : (ls : List Label) (l : Label) (a e f : ℕ) → f ≤ e → AreUncut ls a e → IsUncut l a f → AreUncut (ls ++ l ∷ []) a f
-uncut_more ls l a e f le h k m am = elim (among_either ls (l ∷ []) am) [ inl b ↦ uncut_less m a e f le (h m b) | inr b ↦ (let q = only m l b in subst (λ (z : Label). IsUncut z a f) (sym q) k) ]
-  where
-    only : (m l : Label) → Among m (l ∷ []) → m ≡ l
-    only m l here = refl
-    only m l (there h) = absurd (none_among h)
+uncut_more ls l a e f le h k m am = elim (Contains-append_cases ls (l ∷ []) _ am) [ inl b ↦ uncut_less m a e f le (h m b) | inr b ↦ subst (λ (z : Label). IsUncut z a f) (Contains-one l m b) k ]
 
 -- a range that a label doesn't cut passes it just as each of its bytes does
 pub passes_range : (A : ℕ → ℕ → Bool) (l : Label) (a m b : ℕ) → IsUncut l a (m + 1) → a ≤ b → b ≤ m → m < 256 → passes A l (symbol.Bytes a m) ≡ passes A l (symbol.Bytes b b)
@@ -71,29 +68,25 @@ passes_range A (label.Leaf t k) a m b h lo hi byte = refl
 some_same : (ls : List Label) (a b : ℕ) → AreUncut ls a (b + 1) → a ≤ b → b < 256 → passes_some ls (symbol.Bytes a a) ≡ passes_some ls (symbol.Bytes b b)
 some_same [] a b h le byte = refl
 some_same (l ∷ ls) a b h le byte =
-    let u = h l here in
+    let u = h l (here _) in
     let first = passes_range is_itself l a b b u le (omega arith) byte in
     let second = passes_range is_itself l a b a u (omega arith) le byte in
     let one : passes is_itself l (symbol.Bytes a a) ≡ passes is_itself l (symbol.Bytes b b) = sym second ∙ first in
-    ap (λ (z : Bool). z || passes_some ls (symbol.Bytes a a)) one ∙ ap (λ (z : Bool). passes is_itself l (symbol.Bytes b b) || z) (some_same ls a b (λ m am. h m (there am)) le byte)
+    ap (λ (z : Bool). z || passes_some ls (symbol.Bytes a a)) one ∙ ap (λ (z : Bool). passes is_itself l (symbol.Bytes b b) || z) (some_same ls a b (λ m am. h m (there _ _ am)) le byte)
 
 -- ---- in order
 
-pub only_symbol : (y x : Symbol) → Among y (x ∷ []) → y ≡ x
-only_symbol y x here = refl
-only_symbol y x (there h) = absurd (none_among h)
-
-pub order_more : (xs : List Symbol) (x : Symbol) → AreInOrder xs → ((y : Symbol) (c d : Cell) → Among y xs → HasCell y c → HasCell x d → cell_less c d ≡ true) → AreInOrder (xs ++ x ∷ [])
-order_more [] x h less = (λ y c d m. absurd (none_among m), tt)
+pub order_more : (xs : List Symbol) (x : Symbol) → AreInOrder xs → ((y : Symbol) (c d : Cell) → Contains xs y → HasCell y c → HasCell x d → cell_less c d ≡ true) → AreInOrder (xs ++ x ∷ [])
+order_more [] x h less = (λ y c d m. absurd (Contains-none _ m), tt)
 order_more (z ∷ xs) x h less = (
-  λ y c d m hc hd. elim (among_either xs (x ∷ []) m) [ inl b ↦ h.0 y c d b hc hd | inr b ↦ less z c d here hc (subst (λ (s : Symbol). HasCell s d) (only_symbol y x b) hd) ],
-  order_more xs x h.1 (λ y c d m. less y c d (there m)),
+  λ y c d m hc hd. elim (Contains-append_cases xs (x ∷ []) _ m) [ inl b ↦ h.0 y c d b hc hd | inr b ↦ less z c d (here _) hc (subst (λ (s : Symbol). HasCell s d) (sym (Contains-one x y b)) hd) ],
+  order_more xs x h.1 (λ y c d m. less y c d (there _ _ m)),
 )
 
 -- ---- classes of bytes
 
 pub ranges_none : (src dst : List Label) (xs : List Symbol) → xs ≡ [] → AreRanges src dst 0 xs
-ranges_none src dst xs e = rw e (record { each = λ x m. absurd (none_among m); ordered = tt; covers = λ b l. absurd (omega arith) })
+ranges_none src dst xs e = rw e (record { each = λ x m. absurd (Contains-none _ m); ordered = tt; covers = λ b l. absurd (omega arith) })
 
 range_more : (src dst : List Label) (at end : ℕ) (x : Symbol) → at ≤ end → IsRange src dst at x → IsRange src dst end x
 range_more src dst at end x le r = record { first = r.first; last = r.last; is = r.is; formed = r.formed; below = let y = r.below in omega arith; source = r.source; target = r.target }
@@ -128,20 +121,20 @@ module _ (src dst : List Label) (at end : ℕ) (xs : List Symbol) (h : AreRanges
   ranges_add some =
       let last : (end - 1) + 1 ≡ end = omega arith in
       record {
-        each = λ x m. elim (among_either xs (new ∷ []) m) [
+        each = λ x m. elim (Contains-append_cases xs (new ∷ []) _ m) [
           | inl a ↦ range_more src dst at end x (omega arith) (h.each x a)
-          | inr a ↦ record { first = at; last = end - 1; is = only_symbol x new a; formed = omega arith; below = omega arith; source = rw last su; target = rw last du }
+          | inr a ↦ record { first = at; last = end - 1; is = sym (Contains-one new x a); formed = omega arith; below = omega arith; source = rw last su; target = rw last du }
         ];
         ordered = order_more xs new h.ordered (λ y c d m hc hd. less y c d (h.each y m) hc hd);
         covers = λ b l. elim (cases_lt b at) [
           | inl lo ↦ (
-            λ e. let (x, m, c) = (h.covers b lo).0 e in (x, among_left (new ∷ []) m, c),
-            λ (x, m, c). elim (among_either xs (new ∷ []) m) [
+            λ e. let (x, m, c) = (h.covers b lo).0 e in (x, Contains-append_left _ (new ∷ []) _ m, c),
+            λ (x, m, c). elim (Contains-append_cases xs (new ∷ []) _ m) [
               | inl a ↦ (h.covers b lo).1 (x, a, c)
-              | inr a ↦ (let (p, q) = subst (λ (s : Symbol). HasCell s (cell.Byte b)) (only_symbol x new a) c in absurd (omega arith))
+              | inr a ↦ (let (p, q) = subst (λ (s : Symbol). HasCell s (cell.Byte b)) (sym (Contains-one new x a)) c in absurd (omega arith))
             ],
           )
-          | inr lo ↦ (λ e. (new, among_right xs here, (lo, omega arith)), λ k. sym (above b lo l) ∙ some)
+          | inr lo ↦ (λ e. (new, Contains-append_right xs _ _ (here []), (lo, omega arith)), λ k. sym (above b lo l) ∙ some)
         ];
       }
     where
@@ -156,17 +149,19 @@ both_or : (a b : Bool) → (a || b) ≡ true → (a ≡ true) ⊎ (b ≡ true)
 both_or true b e = inl refl
 both_or false b e = inr e
 
-pub some_to : (ls : List Label) (x : Symbol) → passes_some ls x ≡ true → (l : Label) × Among l ls × (passes is_itself l x ≡ true)
+pub some_to : (ls : List Label) (x : Symbol) → passes_some ls x ≡ true → (l : Label) × Contains ls l × (passes is_itself l x ≡ true)
 some_to [] x e = cc
 some_to (l ∷ ls) x e = elim (both_or (passes is_itself l x) (passes_some ls x) e) [
-  | inl p ↦ (l, here, p)
-  | inr p ↦ (let (m, a, q) = some_to ls x p in (m, there a, q))
+  | inl p ↦ (l, here _, p)
+  | inr p ↦ (let (m, a, q) = some_to ls x p in (m, there _ _ a, q))
 ]
 
-pub to_some : (ls : List Label) (x : Symbol) (l : Label) → Among l ls → passes is_itself l x ≡ true → passes_some ls x ≡ true
-to_some [] x l a p = absurd (none_among a)
-to_some (m ∷ ls) x l here p = or_left (passes is_itself l x) (passes_some ls x) p
-to_some (m ∷ ls) x l (there a) p = or_right (passes is_itself m x) (passes_some ls x) (to_some ls x l a p)
+pub to_some : (ls : List Label) (x : Symbol) (l : Label) → Contains ls l → passes is_itself l x ≡ true → passes_some ls x ≡ true
+to_some [] x l a p = absurd (Contains-none _ a)
+to_some (m ∷ ls) x l a p = elim (first_or_later _ _ a) [
+  | inl e ↦ or_left (passes is_itself m x) (passes_some ls x) (subst (λ (z : Label). passes is_itself z x ≡ true) e p)
+  | inr b ↦ or_right (passes is_itself m x) (passes_some ls x) (to_some ls x l b p)
+]
 
 -- under the test of equal references a label passes a reference's byte where it is that byte's own
 pub passes_own : (l : Label) (r : RefId) (k : ℕ) → passes is_itself l (symbol.Ptr r k) ≡ true → l ≡ label.Leaf r k
@@ -178,21 +173,21 @@ passes_own (label.Leaf t j) r k e =
     rw (same, ← same_at k j p) refl
 
 -- where they begin, and that they rise
-pub places_is : (ls : List Label) (id n : ℕ) (x : Symbol) → Among x (places_of ls id n) → (k : ℕ) × (k < n) × (x ≡ symbol.Ptr (record { 0 = id }) k) × (passes_some ls x ≡ true)
-places_is ls id zero x a = absurd (none_among a)
+pub places_is : (ls : List Label) (id n : ℕ) (x : Symbol) → Contains (places_of ls id n) x → (k : ℕ) × (k < n) × (x ≡ symbol.Ptr (record { 0 = id }) k) × (passes_some ls x ≡ true)
+places_is ls id zero x a = absurd (Contains-none _ a)
 places_is ls id (suc k) x a = elim (bool_cases (passes_some ls (symbol.Ptr (record { 0 = id }) k))) [
-  | inl p ↦ elim (among_either (places_of ls id k) (symbol.Ptr (record { 0 = id }) k ∷ []) (rw p at a)) [
+  | inl p ↦ elim (Contains-append_cases (places_of ls id k) (symbol.Ptr (record { 0 = id }) k ∷ []) _ (rw p at a)) [
     | inl b ↦ (let (j, l, e, q) = places_is ls id k x b in (j, omega arith, e, q))
-    | inr b ↦ (let e = only_symbol x (symbol.Ptr (record { 0 = id }) k) b in (k, omega arith, e, rw e p))
+    | inr b ↦ (let e = sym (Contains-one (symbol.Ptr (record { 0 = id }) k) x b) in (k, omega arith, e, rw e p))
   ]
-  | inr p ↦ (let (j, l, e, q) = places_is ls id k x (subst (λ z. Among x z) (append-nil (places_of ls id k)) (rw p at a)) in (j, omega arith, e, q))
+  | inr p ↦ (let (j, l, e, q) = places_is ls id k x (subst (λ z. Contains z x) (append-nil (places_of ls id k)) (rw p at a)) in (j, omega arith, e, q))
 ]
 
-pub places_has : (ls : List Label) (id n k : ℕ) → k < n → passes_some ls (symbol.Ptr (record { 0 = id }) k) ≡ true → Among (symbol.Ptr (record { 0 = id }) k) (places_of ls id n)
+pub places_has : (ls : List Label) (id n k : ℕ) → k < n → passes_some ls (symbol.Ptr (record { 0 = id }) k) ≡ true → Contains (places_of ls id n) (symbol.Ptr (record { 0 = id }) k)
 places_has ls id zero k l p = absurd (omega arith)
 places_has ls id (suc n) k l p = elim (cases_lt k n) [
-  | inl lt ↦ among_left _ (places_has ls id n k lt p)
-  | inr ge ↦ (let e : n ≡ k = omega arith in rw (e, p) (among_right (places_of ls id k) here))
+  | inl lt ↦ Contains-append_left _ _ _ (places_has ls id n k lt p)
+  | inr ge ↦ (let e : n ≡ k = omega arith in rw (e, p) (Contains-append_right (places_of ls id k) _ _ (here [])))
 ]
 
 -- ---- turn by turn
@@ -202,11 +197,6 @@ uncut_turn ls i d a e f l le h k = subst (λ (z : List Label). AreUncut z a f) (
   where
     take_at : (ls : List Label) (i : ℕ) (d : Label) → i < length ls → take (i + 1) ls ≡ take i ls ++ get_or ls i d ∷ []
     take_at ls i d l = rw add-one (take-suc ls i d l)
-
-pub among_at : (xs : List ℕ) (i d : ℕ) → i < length xs → Among (get_or xs i d) xs
-among_at [] i d h = absurd (omega arith)
-among_at (x ∷ xs) zero d h = here
-among_at (x ∷ xs) (suc i) d h = there (among_at xs i d (omega arith))
 
 pub labels_turn : (ls : List Label) (es : List Edge) (ss : List ℕ) (i : ℕ) → i < length ss → (ls ++ labels_in (edges_from (get_or ss i 0) es)) ++ labels_from es (drop (i + 1) ss) ≡ ls ++ labels_from es (drop i ss)
 labels_turn ls es ss i l =

@@ -2,20 +2,15 @@
 use Rattle.std.proofs.Common.{◌≡◌, ℕ, zero, suc, ◌+◌, ◌-◌, ◌<◌, ◌≤◌, List, [], ◌∷◌, length, take, drop, inl, inr, refl, ap, arith, eq-eqb}
 use Rattle.std.specs.List.{slice_index_or, AllWithin}
 use Rattle.std.proofs.lemmas.Bool.{ne_eqb, cases_lt}
+use Rattle.std.proofs.lemmas.List.Elements.{Contains-get_or}
 use Rattle.tm_auto.specs.declared.edge.Edge.{Edge}
 use Rattle.tm_auto.specs.Automata.{IsOrdered, edges_from}
 use Rattle.tm_auto.specs.Firsts.{IsFirst}
-use Rattle.tm_auto.specs.Paths.{Among, here, there}
 
 pub ordered_at : (es : List Edge) → IsOrdered es → (i j : ℕ) (d : Edge) → i ≤ j → j < length es → (slice_index_or es i d).from ≤ (slice_index_or es j d).from
 ordered_at [] h i j d le l = absurd (omega arith)
 ordered_at (e ∷ es) h zero zero d le l = omega arith
-ordered_at (e ∷ es) h zero (suc j) d le l = h.0 (slice_index_or es j d) (at es j d (omega arith))
-  where
-    at : (es : List Edge) (j : ℕ) (d : Edge) → j < length es → Among (slice_index_or es j d) es
-    at [] j d l = absurd (omega arith)
-    at (e ∷ es) zero d l = here
-    at (e ∷ es) (suc j) d l = there (at es j d (omega arith))
+ordered_at (e ∷ es) h zero (suc j) d le l = h.0 (slice_index_or es j d) (Contains-get_or es j d (omega arith))
 ordered_at (e ∷ es) h (suc i) zero d le l = absurd (omega arith)
 ordered_at (e ∷ es) h (suc i) (suc j) d le l = ordered_at es h.1 i j d (omega arith) (omega arith)
 

@@ -6,6 +6,7 @@ use Rattle.tm_base.specs.declared.cell.Cell.TheVariants as cell
 use Rattle.tm_base.specs.Orders.{cell_less}
 use Rattle.tm_base.specs.Transmutes.{holds, is_itself}
 use Rattle.tm_base.proofs.OrderLemmas.{cell_less-asym}
+use Rattle.tm_base.proofs.JudgedLemmas.{Contains-none}
 use Rattle.tm_auto.specs.declared.edge.Edge.{Edge}
 use Rattle.tm_auto.specs.declared.edge.Label.{Label}
 use Rattle.tm_auto.specs.declared.edge.Label.TheVariants as label
@@ -16,8 +17,7 @@ use Rattle.tm_auto.specs.Classes.{HasCell, IsFormed, TakesFrom, AreClasses}
 use Rattle.tm_auto.specs.Labels.{Takes, CanTake}
 use Rattle.tm_auto.specs.Least.{first_cell, least_of, IsLeastCell}
 use Rattle.tm_auto.specs.OnlyEdges.{IsOnlyEdge}
-use Rattle.tm_auto.specs.Paths.{Among, here, there}
-use Rattle.tm_auto.proofs.AmongLemmas.{none_among}
+use Rattle.tm_auto.proofs.ContainsLemmas.{here, first_or_later}
 use Rattle.tm_auto.proofs.SetLemmas.{bool_cases}
 
 pub first_in : (x : Symbol) → IsFormed x → HasCell x (first_cell x)
@@ -41,21 +41,18 @@ first_least (symbol.Ptr r k) c h = subst (λ (z : Cell). cell_less z (cell.Ptr r
 
 -- ---- of several edges: the first class
 
-first_or_later : (x y : Symbol) (xs : List Symbol) (P : Type 0) → Among y (x ∷ xs) → (y ≡ x → P) → (Among y xs → P) → P
-first_or_later x y xs P here f g = f refl
-first_or_later x y xs P (there m) f g = g m
-
 pub some_class : (src dst : Automaton) (from to : List ℕ) (xs : List Symbol) → AreClasses src from dst to xs → (c : Cell) × TakesFrom src from c → 0 < length xs
-some_class src dst from to [] a (c, t) = let (x, m, h) = (a.covers c).0 t in absurd (none_among m)
+some_class src dst from to [] a (c, t) = let (x, m, h) = (a.covers c).0 t in absurd (Contains-none _ m)
 some_class src dst from to (x ∷ xs) a t = omega arith
 
 pub first_class : (src dst : Automaton) (from to : List ℕ) (xs : List Symbol) (d : Symbol) → AreClasses src from dst to xs → 0 < length xs → IsLeastCell src from (first_cell (get_or xs 0 d))
 first_class src dst from to [] d a l = absurd (omega arith)
 first_class src dst from to (x ∷ xs) d a l = record {
-  taken = (a.covers (first_cell x)).1 (x, here, first_in x (a.formed x here));
-  least = λ c t. let (y, m, h) = (a.covers c).0 t in first_or_later x y xs (cell_less c (first_cell x) ≡ false) m
-      (λ e. first_least x c (subst (λ (z : Symbol). HasCell z c) e h))
-      (λ n. cell_less-asym (first_cell x) c (a.ordered.0 y (first_cell x) c n (first_in x (a.formed x here)) h));
+  taken = (a.covers (first_cell x)).1 (x, here _, first_in x (a.formed x (here _)));
+  least = λ c t. let (y, m, h) = (a.covers c).0 t in elim (first_or_later x xs m) [
+    | inl e ↦ first_least x c (subst (λ (z : Symbol). HasCell z c) e h)
+    | inr n ↦ cell_less-asym (first_cell x) c (a.ordered.0 y (first_cell x) c n (first_in x (a.formed x (here _))) h)
+  ];
 }
 
 -- ---- of one edge

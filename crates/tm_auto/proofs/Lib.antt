@@ -1,6 +1,6 @@
 pub mod SetLemmas
 pub mod ShapeLemmas
-pub mod AmongLemmas
+pub mod ContainsLemmas
 pub mod LooseLemmas
 pub mod JoinedLemmas
 pub mod StepLemmas

@@ -1,9 +1,11 @@
 -- What is built, case by case.
-use Rattle.std.proofs.Common.{◌≡◌, ◌≢◌, ℕ, zero, suc, ◌+◌, ◌<◌, ◌≤◌, inl, inr, Bool, List, [], ◌∷◌, ◌++◌, length, take, drop, refl, sym, ap, ◌∙◌, subst, arith, ◌↔◌, append_assoc, append-nil, length-append}
+use Rattle.std.proofs.Common.{◌≡◌, ◌≢◌, ℕ, zero, suc, ◌+◌, ◌<◌, ◌≤◌, inl, inr, Bool, List, [], ◌∷◌, ◌++◌, length, take, drop, refl, sym, ap, ◌∙◌, subst, arith, ◌↔◌, append_assoc, append-nil, length-append, Contains}
 use Rattle.std.proofs.Math.Seq.{take-append_seam, drop-append_seam}
 use Rattle.std.proofs.lemmas.Bool.{cases_lt}
+use Rattle.std.proofs.lemmas.List.Elements.{Contains-append_left, Contains-append_right, Contains-append_cases}
 use Rattle.tm_base.specs.Cells.{Word}
 use Rattle.tm_base.specs.Transmutes.{holds}
+use Rattle.tm_base.proofs.JudgedLemmas.{Contains-none, Contains-one}
 use Rattle.tm_auto.specs.declared.build.Building.{Building}
 use Rattle.tm_auto.specs.declared.build.Way.{Way}
 use Rattle.tm_auto.specs.declared.edge.Edge.{Edge}
@@ -11,19 +13,14 @@ use Rattle.tm_auto.specs.declared.edge.Label.{Label}
 use Rattle.tm_auto.specs.declared.edge.Label.TheVariants.{Bytes, Free, Leaf}
 use Rattle.tm_auto.specs.Builds.{Words, Piece, edges_by, IsLedTo, IsForward, IsSound, IsReady, IsWay, Grows, IsExtended, MakesBy, IsPlacedBy, IsAdded, IsSealed}
 use Rattle.tm_auto.specs.Labels.{CanTake, Begins, Joins}
-use Rattle.tm_auto.specs.Paths.{Among, here}
-use Rattle.tm_auto.proofs.AmongLemmas.{among_left, among_right, among_either, none_among, among_edges, edges_among, ordered-append, ordered-edges_by, length-edges_by}
-use Rattle.tm_auto.proofs.GrowLemmas.{Kept, New, Both, Either, CellWords, only_way, grows_way, grows_before, grows_either, grows_same, sealed_forth, sealed_back}
+use Rattle.tm_auto.proofs.ContainsLemmas.{here, some_among, among_edges, edges_among, ordered-append, ordered-edges_by, length-edges_by}
+use Rattle.tm_auto.proofs.GrowLemmas.{Kept, New, Both, Either, CellWords, grows_way, grows_before, grows_either, grows_same, sealed_forth, sealed_back}
 
 pub begins_joins : (label l : Label) → Begins l → Joins label l
 begins_joins label (Bytes low high) h = tt
 begins_joins label Free h = tt
 begins_joins label (Leaf t zero) h = tt
 begins_joins label (Leaf t (suc k)) h = absurd h
-
-some_way : (ways : List Way) → ways ≢ [] → (way : Way) × Among way ways
-some_way [] h = absurd (h refl)
-some_way (way ∷ ways) h = (way, here)
 
 pub length_some : (ways : List Way) → ways ≢ [] → 0 < length ways
 length_some [] h = absurd (h refl)
@@ -42,10 +39,10 @@ in_place p Q room line = record { words = Q; target = p.target; opens = p.opens;
 
 module _ {b c : Building} where
   pub kept : IsExtended b c → Kept b.edges.items c.edges.items
-  kept h e a = subst (λ (xs : List Edge). Among e xs) (sym h.longer) (among_left h.more a)
+  kept h e a = subst (λ (xs : List Edge). Contains xs e) (sym h.longer) (Contains-append_left _ h.more _ a)
 
   pub new : IsExtended b c → New b.states b.edges.items c.edges.items
-  new h e a l = elim (among_either b.edges.items h.more (subst (λ (xs : List Edge). Among e xs) h.longer a)) [ inl d ↦ d | inr d ↦ (let k = h.fresh e d in absurd (omega arith)) ]
+  new h e a l = elim (Contains-append_cases b.edges.items h.more _ (subst (λ (xs : List Edge). Contains xs e) h.longer a)) [ inl d ↦ d | inr d ↦ (let k = h.fresh e d in absurd (omega arith)) ]
 
   -- said of other words that are the same
   pub makes_as : (p : Piece) {line : Type 0} {room : ℕ} {Q : Words} → p.room ≤ room → (line → p.line) → ((A : ℕ → ℕ → Bool) (u : Word) → p.words A u ↔ Q A u) → MakesBy p b c → MakesBy (in_place p Q room line) b c
@@ -79,7 +76,7 @@ extended_none {b} {c} same sound = record {
   later = let x = same.states in omega arith;
   more = [];
   longer = same.edges ∙ sym (append-nil b.edges.items);
-  fresh = λ e a. absurd (none_among a);
+  fresh = λ e a. absurd (Contains-none _ a);
   sound = rw (same.pointer, same.edges, same.states) sound;
 }
 
@@ -89,7 +86,7 @@ extended_both {b} h k = record {
   later = let x = h.later in let y = k.later in omega arith;
   more = h.more ++ k.more;
   longer = k.longer ∙ ap (λ z. z ++ k.more) h.longer ∙ append_assoc b.edges.items h.more k.more;
-  fresh = λ e a. elim (among_either h.more k.more a) [ inl m ↦ h.fresh e m | inr m ↦ (let x = k.fresh e m in let y = h.later in omega arith) ];
+  fresh = λ e a. elim (Contains-append_cases h.more k.more _ a) [ inl m ↦ h.fresh e m | inr m ↦ (let x = k.fresh e m in let y = h.later in omega arith) ];
   sound = k.sound;
 }
 
@@ -122,7 +119,7 @@ makes_from {p} {c = c} same h =
 
 -- nothing was put: words go on at the target
 pub placed_none : (p : Piece) (b c : Building) (state : ℕ) → ((A : ℕ → ℕ → Bool) (w : Word) → p.words A w ↔ (w ≡ [])) → IsSame b c → state ≡ p.target → IsReady b p.target
-    → ((e : Edge) → Among e b.edges.items → e.from ≡ p.target → p.opens e.label) → IsPlacedBy p b c state
+    → ((e : Edge) → Contains b.edges.items e → e.from ≡ p.target → p.opens e.label) → IsPlacedBy p b c state
 unfolding extended_none
 placed_none p b c state none same at ready opens = record {
   extended = extended_none same ready.sound;
@@ -130,7 +127,7 @@ placed_none p b c state none same at ready opens = record {
   head = same.head;
   linear = omega arith;
   below = let x = same.states in let y = ready.below in omega arith;
-  opens = λ e a f. opens e (subst (λ (xs : List Edge). Among e xs) same.edges a) (f ∙ at);
+  opens = λ e a f. opens e (subst (λ (xs : List Edge). Contains xs e) same.edges a) (f ∙ at);
   into = λ s lo hi. let x = same.states in absurd (omega arith);
   covers = inl (sym at);
   forward = λ l f. rw same.edges f;
@@ -139,25 +136,25 @@ placed_none p b c state none same at ready opens = record {
 }
 
 -- the newest state has these ways
-sealed_sound : (q : Label → Type 0) (c : Building) (ways : List Way) → IsSound c.pointer c.edges.items c.states → ways ≢ [] → ((way : Way) → Among way ways → IsWay q c way) → IsSound c.pointer (c.edges.items ++ edges_by c.states ways) (c.states + 1)
+sealed_sound : (q : Label → Type 0) (c : Building) (ways : List Way) → IsSound c.pointer c.edges.items c.states → ways ≢ [] → ((way : Way) → Contains ways way → IsWay q c way) → IsSound c.pointer (c.edges.items ++ edges_by c.states ways) (c.states + 1)
 sealed_sound q c ways sound some each = record {
   some = omega arith;
-  from = λ e a. elim (among_either es news a) [ inl b ↦ (let h = sound.from e b in omega arith) | inr b ↦ (let h = (among_edges n ways e b).1 in omega arith) ];
-  down = λ e a. elim (among_either es news a) [ inl b ↦ sound.down e b | inr b ↦ (let (m, f) = among_edges n ways e b in let x = (each _ m).below in omega arith) ];
+  from = λ e a. elim (Contains-append_cases es news _ a) [ inl b ↦ (let h = sound.from e b in omega arith) | inr b ↦ (let h = (among_edges n ways e b).1 in omega arith) ];
+  down = λ e a. elim (Contains-append_cases es news _ a) [ inl b ↦ sound.down e b | inr b ↦ (let (m, f) = among_edges n ways e b in let x = (each _ m).below in omega arith) ];
   ordered = ordered-append es news n sound.ordered (λ e a. let h = sound.from e a in omega arith) (ordered-edges_by n ways) (λ f a. let h = (among_edges n ways f a).1 in omega arith);
   left = λ s pos hi. elim (cases_lt s n) [
-    | inl lt ↦ (let (e, a, f) = sound.left s pos lt in (e, among_left news a, f))
-    | inr ge ↦ (let (way, m) = some_way ways some in let w : n ≡ s = omega arith in (record { from = n; to = way.to; label = way.label }, among_right es (edges_among n way ways m), w))
+    | inl lt ↦ (let (e, a, f) = sound.left s pos lt in (e, Contains-append_left _ news _ a, f))
+    | inr ge ↦ (let (way, m) = some_among ways some in let w : n ≡ s = omega arith in (record { from = n; to = way.to; label = way.label }, Contains-append_right es _ _ (edges_among n way ways m), w))
   ];
-  takes = λ e a. elim (among_either es news a) [ inl b ↦ sound.takes e b | inr b ↦ (each _ (among_edges n ways e b).0).takes ];
-  joins = λ e f a b w. elim (among_either es news b) [
-    | inl fb ↦ elim (among_either es news a) [
+  takes = λ e a. elim (Contains-append_cases es news _ a) [ inl b ↦ sound.takes e b | inr b ↦ (each _ (among_edges n ways e b).0).takes ];
+  joins = λ e f a b w. elim (Contains-append_cases es news _ b) [
+    | inl fb ↦ elim (Contains-append_cases es news _ a) [
       | inl eb ↦ sound.joins e f eb fb w
       | inr eb ↦ (each _ (among_edges n ways e eb).0).joins f fb w
     ]
     | inr fb ↦ (
         let g = (among_edges n ways f fb).1 in
-        elim (among_either es news a) [
+        elim (Contains-append_cases es news _ a) [
           | inl eb ↦ (let x = sound.down e eb in let y = sound.from e eb in absurd (omega arith))
           | inr eb ↦ (let x = (each _ (among_edges n ways e eb).0).below in absurd (omega arith))
         ])
@@ -174,20 +171,20 @@ sealed_sound q c ways sound some each = record {
     news = edges_by n ways
 
 sealed_forward : (q : Label → Type 0) (c : Building) (ways : List Way) → IsSound c.pointer c.edges.items c.states → length ways ≤ 1 → IsForward c.edges.items → IsForward (c.edges.items ++ edges_by c.states ways)
-sealed_forward q c ways sound one f d e a b w = elim (among_either c.edges.items (edges_by c.states ways) a) [
-  | inl da ↦ elim (among_either c.edges.items (edges_by c.states ways) b) [
+sealed_forward q c ways sound one f d e a b w = elim (Contains-append_cases c.edges.items (edges_by c.states ways) _ a) [
+  | inl da ↦ elim (Contains-append_cases c.edges.items (edges_by c.states ways) _ b) [
     | inl eb ↦ f d e da eb w
     | inr eb ↦ (let x = sound.from d da in let y = (among_edges c.states ways e eb).1 in absurd (omega arith))
   ]
-  | inr da ↦ elim (among_either c.edges.items (edges_by c.states ways) b) [
+  | inr da ↦ elim (Contains-append_cases c.edges.items (edges_by c.states ways) _ b) [
     | inl eb ↦ (let x = sound.from e eb in let y = (among_edges c.states ways d da).1 in absurd (omega arith))
     | inr eb ↦ ap (λ (y : Way). y.to) (same ways one _ _ (among_edges c.states ways d da).0 (among_edges c.states ways e eb).0)
   ]
 ]
   where
-    same : (ways : List Way) → length ways ≤ 1 → (x y : Way) → Among x ways → Among y ways → x ≡ y
-    same [] l x y a b = absurd (none_among a)
-    same (w ∷ []) l x y a b = only_way x w a ∙ sym (only_way y w b)
+    same : (ways : List Way) → length ways ≤ 1 → (x y : Way) → Contains ways x → Contains ways y → x ≡ y
+    same [] l x y a b = absurd (Contains-none _ a)
+    same (w ∷ []) l x y a b = sym (Contains-one w x a) ∙ Contains-one w y b
     same (w ∷ v ∷ ws) l x y a b = absurd (omega arith)
 
 pub placed_some : {p : Piece} {b c : Building} (next : ℕ) (d : Building) (state : ℕ) → MakesBy p b c → IsSealed (length b.head.items) next c d state → IsPlacedBy p b d state
@@ -198,9 +195,9 @@ placed_some {p} {b} {c} next d state h sealed =
     let behind : drop (length b.head.items) c.head.items ≡ ways = ap (drop (length b.head.items)) h.head ∙ drop-append_seam b.head.items ways in
     let ed : d.edges.items ≡ c.edges.items ++ news = ed0 ∙ ap (λ (z : List Way). c.edges.items ++ edges_by c.states z) behind in
     let front : d.head.items ≡ b.head.items = sealed.head ∙ ap (take (length b.head.items)) h.head ∙ take-append_seam b.head.items ways in
-    let keep : Kept c.edges.items d.edges.items = (λ e a. subst (λ (xs : List Edge). Among e xs) (sym ed) (among_left news a)) in
-    let by_way : (way : Way) → Among way ways → (e : Edge) × Among e d.edges.items × (e.to ≡ way.to) = (λ way a. (record { from = c.states; to = way.to; label = way.label }, subst (λ (xs : List Edge). Among (record { from = c.states; to = way.to; label = way.label }) xs) (sym ed) (among_right c.edges.items (edges_among c.states way ways a)), refl)) in
-    let led : (s : ℕ) → IsLedTo ways c.edges.items s → (e : Edge) × Among e d.edges.items × (e.to ≡ s) = (λ s l. elim l [ inl (way, a, t) ↦ (let (e, m, f) = by_way way a in (e, m, f ∙ t)) | inr (e, a, t) ↦ (e, keep e a, t) ]) in
+    let keep : Kept c.edges.items d.edges.items = (λ e a. subst (λ (xs : List Edge). Contains xs e) (sym ed) (Contains-append_left _ news _ a)) in
+    let by_way : (way : Way) → Contains ways way → (e : Edge) × Contains d.edges.items e × (e.to ≡ way.to) = (λ way a. (record { from = c.states; to = way.to; label = way.label }, subst (λ (xs : List Edge). Contains xs (record { from = c.states; to = way.to; label = way.label })) (sym ed) (Contains-append_right c.edges.items _ _ (edges_among c.states way ways a)), refl)) in
+    let led : (s : ℕ) → IsLedTo ways c.edges.items s → (e : Edge) × Contains d.edges.items e × (e.to ≡ s) = (λ s l. elim l [ inl (way, a, t) ↦ (let (e, m, f) = by_way way a in (e, m, f ∙ t)) | inr (e, a, t) ↦ (e, keep e a, t) ]) in
     let x = h.extended in
     let made = sealed_sound p.opens c ways x.sound h.some h.each in
     record {
@@ -209,14 +206,14 @@ placed_some {p} {b} {c} next d state h sealed =
         later = let y = x.later in omega arith;
         more = x.more ++ news;
         longer = ed ∙ ap (λ (z : List Edge). z ++ news) x.longer ∙ append_assoc b.edges.items x.more news;
-        fresh = λ e a. elim (among_either x.more news a) [ inl m ↦ x.fresh e m | inr m ↦ (let y = (among_edges c.states ways e m).1 in let z = x.later in omega arith) ];
+        fresh = λ e a. elim (Contains-append_cases x.more news _ a) [ inl m ↦ x.fresh e m | inr m ↦ (let y = (among_edges c.states ways e m).1 in let z = x.later in omega arith) ];
         sound = rw (sealed.pointer, ed, sd) made;
       };
       few = let y = h.few in omega arith;
       head = front;
       linear = let y = h.linear in let z = length-append x.more news in let w = length-edges_by c.states ways in omega arith;
       below = omega arith;
-      opens = λ e a f. elim (among_either c.edges.items news (subst (λ (xs : List Edge). Among e xs) ed a)) [
+      opens = λ e a f. elim (Contains-append_cases c.edges.items news _ (subst (λ (xs : List Edge). Contains xs e) ed a)) [
         | inl m ↦ (let y = x.sound.from e m in absurd (omega arith))
         | inr m ↦ (h.each _ (among_edges c.states ways e m).0).opens
       ];
@@ -240,14 +237,14 @@ abbrev pub of_label : (Label → Type 0) → Label → ℕ → Piece
 of_label opens label target = record { words = CellWords label; target = target; opens = opens; room = 1; line = Unit {0} }
 
 pub makes_way : (q r : Label → Type 0) (label : Label) (target : ℕ) (b c : Building) → CanTake b.pointer label → r label → ((l : Label) → q l → Joins label l) → IsSound b.pointer b.edges.items b.states → target < b.states
-    → ((e : Edge) → Among e b.edges.items → e.from ≡ target → q e.label) → IsAdded label target b c → MakesBy (of_label r label target) b c
+    → ((e : Edge) → Contains b.edges.items e → e.from ≡ target → q e.label) → IsAdded label target b c → MakesBy (of_label r label target) b c
 makes_way q r label target b c can mine follow sound below opens added = record {
   extended = record {
     pointer = added.pointer;
     later = let x = added.states in omega arith;
     more = [];
     longer = added.edges ∙ sym (append-nil b.edges.items);
-    fresh = λ e a. absurd (none_among a);
+    fresh = λ e a. absurd (Contains-none _ a);
     sound = rw (added.pointer, added.edges, added.states) sound;
   };
   few = let x = added.states in omega arith;
@@ -255,14 +252,14 @@ makes_way q r label target b c can mine follow sound below opens added = record 
   head = added.head;
   some = λ e. cc;
   linear = omega arith;
-  each = λ y a. let e = only_way y way a in rw e (record {
+  each = λ y a. let e = sym (Contains-one way y a) in rw e (record {
     below = let x = added.states in omega arith;
     takes = rw added.pointer can;
     opens = mine;
-    joins = λ f m w. follow f.label (opens f (subst (λ (xs : List Edge). Among f xs) added.edges m) (sym w));
+    joins = λ f m w. follow f.label (opens f (subst (λ (xs : List Edge). Contains xs f) added.edges m) (sym w));
   });
   into = λ s lo hi. let x = added.states in absurd (omega arith);
-  covers = inl (way, here, refl);
+  covers = inl (way, here [], refl);
   forward = λ l f. (rw added.edges f, omega arith);
   grows = λ A. rw added.edges (grows_way (holds A) b.edges.items label target);
 }
@@ -295,7 +292,7 @@ makes_before p {r} {b} {d} {e} h k = record {
   grows = λ A. grows_before (holds A) (p.words A) (r.words A) b.edges.items d.edges.items e.edges.items k.ways r.target p.target (h.forth A) (h.back A) (k.grows A);
 }
   where
-    onward : (s : ℕ) → (f : Edge) × Among f d.edges.items × (f.to ≡ s) → IsLedTo k.ways e.edges.items s
+    onward : (s : ℕ) → (f : Edge) × Contains d.edges.items f × (f.to ≡ s) → IsLedTo k.ways e.edges.items s
     onward s (f, a, w) = inr (f, kept k.extended f a, w)
 
 -- ---- one or the other
@@ -309,7 +306,7 @@ makes_either p {Q = Q} {b = b} {c = c} {d = d} ready h k = record {
   head = k.head ∙ ap (λ z. z ++ k.ways) h.head ∙ append_assoc b.head.items h.ways k.ways;
   some = λ e. let x = length_some h.ways h.some in let y = ap length e in let z = length-append h.ways k.ways in omega arith;
   linear = let x = h.linear in let y = k.linear in let z = length-append h.extended.more k.extended.more in let w = length-append h.ways k.ways in omega arith;
-  each = λ way a. elim (among_either h.ways k.ways a) [
+  each = λ way a. elim (Contains-append_cases h.ways k.ways _ a) [
     | inl m ↦ (
         let x = h.each way m in
         record {
@@ -327,9 +324,9 @@ makes_either p {Q = Q} {b = b} {c = c} {d = d} ready h k = record {
 }
   where
     left : (s : ℕ) → IsLedTo h.ways c.edges.items s → IsLedTo (h.ways ++ k.ways) d.edges.items s
-    left s (inl (way, a, w)) = inl (way, among_left k.ways a, w)
+    left s (inl (way, a, w)) = inl (way, Contains-append_left _ k.ways _ a, w)
     left s (inr (e, a, w)) = inr (e, kept k.extended e a, w)
 
     right : (s : ℕ) → IsLedTo k.ways d.edges.items s → IsLedTo (h.ways ++ k.ways) d.edges.items s
-    right s (inl (way, a, w)) = inl (way, among_right h.ways a, w)
+    right s (inl (way, a, w)) = inl (way, Contains-append_right h.ways _ _ a, w)
     right s (inr m) = inr m

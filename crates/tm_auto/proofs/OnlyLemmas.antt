@@ -1,9 +1,10 @@
 -- Sets that one edge leaves: their classes, and where they lead.
-use Rattle.std.proofs.Common.{rules, ◌≡◌, ℕ, ◌+◌, ◌<◌, ◌≤◌, ◌⊎◌, inl, inr, Bool, true, ◌↔◌, List, [], ◌∷◌, length, slice_index_or, refl, sym, ap, ◌∙◌, subst, arith, eq-eqb}
+use Rattle.std.proofs.Common.{rules, ◌≡◌, ℕ, ◌+◌, ◌<◌, ◌≤◌, ◌⊎◌, inl, inr, Bool, true, ◌↔◌, List, [], ◌∷◌, length, slice_index_or, refl, sym, ap, ◌∙◌, subst, arith, eq-eqb, Contains}
 use Rattle.tm_base.specs.declared.cell.Cell.{Cell}
 use Rattle.tm_base.specs.declared.cell.Cell.TheVariants as cell
 use Rattle.tm_base.specs.declared.cell.RefId.{RefId}
 use Rattle.tm_base.specs.Transmutes.{holds, is_itself}
+use Rattle.tm_base.proofs.JudgedLemmas.{Contains-none, Contains-one}
 use Rattle.tm_auto.specs.declared.edge.Edge.{Edge}
 use Rattle.tm_auto.specs.declared.edge.Label.{Label}
 use Rattle.tm_auto.specs.declared.edge.Label.TheVariants as label
@@ -13,9 +14,8 @@ use Rattle.tm_auto.specs.Automata.{Automaton, IsStep, edges_from}
 use Rattle.tm_auto.specs.Classes.{HasCell, IsFormed, LeavesSet, AreClasses, IsUncut}
 use Rattle.tm_auto.specs.Labels.{Takes}
 use Rattle.tm_auto.specs.OnlyEdges.{IsOnlyEdge, IsOnlyClass, ends_of}
-use Rattle.tm_auto.specs.Paths.{Among, here}
 use Rattle.tm_auto.specs.Sets.{passes, symbol_of}
-use Rattle.tm_auto.proofs.AmongLemmas.{none_among, only}
+use Rattle.tm_auto.proofs.ContainsLemmas.{here}
 use Rattle.tm_auto.proofs.ClassLemmas.{passes_range, passes_own}
 use Rattle.tm_auto.proofs.NextLemmas.{among_from, from_among}
 use Rattle.tm_auto.proofs.SetLemmas.{bool_cases}
@@ -29,10 +29,10 @@ only_item (x ∷ y ∷ xs) d l m = absurd (omega arith)
 
 pub edge_is : (auto : Automaton) (s : ℕ) (edge : Edge) → edges_from s auto.edges ≡ edge ∷ [] → IsOnlyEdge auto (s ∷ []) edge
 edge_is auto s edge is e = (
-  λ (a, f). only e edge (subst (λ (z : List Edge). Among e z) is (from_among s auto.edges e a (only e.from s f))),
+  λ (a, f). sym (Contains-one edge e (subst (λ (z : List Edge). Contains z e) is (from_among s auto.edges e a (sym (Contains-one s e.from f))))),
   λ q.
-      let (a, f) = among_from s auto.edges edge (subst (λ (z : List Edge). Among edge z) (sym is) here) in
-      subst (λ (z : Edge). LeavesSet auto (s ∷ []) z) (sym q) (a, subst (λ (z : ℕ). Among z (s ∷ [])) (sym f) here),
+      let (a, f) = among_from s auto.edges edge (subst (λ (z : List Edge). Contains z edge) (sym is) (here [])) in
+      subst (λ (z : Edge). LeavesSet auto (s ∷ []) z) (sym q) (a, subst (λ (z : ℕ). Contains (s ∷ []) z) (sym f) (here [])),
 )
 
 pub class_of_bytes : (low high : ℕ) (target : Label) → low ≤ high → high < 256 → IsUncut target low (high + 1) → IsOnlyClass (label.Bytes low high) target (symbol.Bytes low high)
@@ -67,16 +67,16 @@ class_of_leaf r k target = record {
 module _ (src : Automaton) (from : List ℕ) (dst : Automaton) (to : List ℕ) (e f : Edge) (x : Symbol) (one : IsOnlyEdge src from e) (two : IsOnlyEdge dst to f) (k : IsOnlyClass e.label f.label x) where
   pub only_classes : AreClasses src from dst to (x ∷ [])
   only_classes = record {
-    formed = λ y m. subst IsFormed (sym (only y x m)) k.formed;
-    ordered = (λ y c d m. absurd (none_among m), tt);
+    formed = λ y m. subst IsFormed (Contains-one x y m) k.formed;
+    ordered = (λ y c d m. absurd (Contains-none _ m), tt);
     covers = λ c. (
-      λ (g, leaves, t). (x, here, (k.takes c).0 (subst (λ (z : Edge). Takes (holds is_itself) z.label c) ((one g).0 leaves) t)),
-      λ (y, m, h). (e, (one e).1 refl, (k.takes c).1 (subst (λ (z : Symbol). HasCell z c) (only y x m) h)),
+      λ (g, leaves, t). (x, here [], (k.takes c).0 (subst (λ (z : Edge). Takes (holds is_itself) z.label c) ((one g).0 leaves) t)),
+      λ (y, m, h). (e, (one e).1 refl, (k.takes c).1 (subst (λ (z : Symbol). HasCell z c) (sym (Contains-one x y m)) h)),
     );
     alike = λ A y c g m h leaves.
-        let has = subst (λ (z : Symbol). HasCell z c) (only y x m) h in
+        let has = subst (λ (z : Symbol). HasCell z c) (sym (Contains-one x y m)) h in
         let which : (g.label ≡ e.label) ⊎ (g.label ≡ f.label) = elim leaves [ inl l ↦ inl (ap (λ (z : Edge). z.label) ((one g).0 l)) | inr l ↦ inr (ap (λ (z : Edge). z.label) ((two g).0 l)) ] in
-        subst (λ (z : Symbol). passes A g.label z ≡ passes A g.label (symbol_of c)) (sym (only y x m)) (k.alike A c g.label has which);
+        subst (λ (z : Symbol). passes A g.label z ≡ passes A g.label (symbol_of c)) (Contains-one x y m) (k.alike A c g.label has which);
   }
 
 pub only_leads : (A : ℕ → ℕ → Bool) (auto : Automaton) (from : List ℕ) (e : Edge) (x : Symbol) (set : List ℕ) → IsOnlyEdge auto from e → set ≡ ends_of A e x → IsStep A auto from x set
@@ -84,14 +84,14 @@ only_leads A auto from e x set one is = elim (bool_cases (passes A e.label x)) [
   | inl p ↦ rw (is, p) (record {
     rising = search rules;
     states = λ s. (
-      λ m. let (a, f) = (one e).1 refl in (e, a, f, p, sym (only s e.to m)),
-      λ (g, a, f, q, t). subst (λ (z : ℕ). Among z (e.to ∷ [])) (ap (λ (z : Edge). z.to) (sym ((one g).0 (a, f))) ∙ t) here,
+      λ m. let (a, f) = (one e).1 refl in (e, a, f, p, Contains-one e.to s m),
+      λ (g, a, f, q, t). subst (λ (z : ℕ). Contains (e.to ∷ []) z) (ap (λ (z : Edge). z.to) (sym ((one g).0 (a, f))) ∙ t) (here []),
     );
   })
   | inr p ↦ rw (is, p) (record {
     rising = search rules;
     states = λ s. (
-      λ m. absurd (none_among m),
+      λ m. absurd (Contains-none _ m),
       λ (g, a, f, q, t). (let same = subst (λ (z : Edge). passes A z.label x ≡ true) ((one g).0 (a, f)) q in cc),
     );
   })

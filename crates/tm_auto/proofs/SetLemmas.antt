@@ -1,11 +1,13 @@
 -- What a set of states has once a state is put in, and that a set is told by its states.
-use Rattle.std.proofs.Common.{◌≡◌, ◌≢◌, ℕ, zero, suc, ◌<◌, ◌≤◌, ◌⊎◌, inl, inr, Bool, true, false, nat_lt, List, [], ◌∷◌, length, refl, sym, ap, subst, arith, eq-eqb, add-one, get_or}
+use Rattle.std.proofs.Common.{◌≡◌, ◌≢◌, ℕ, zero, suc, ◌<◌, ◌≤◌, ◌⊎◌, inl, inr, Bool, true, false, nat_lt, List, [], ◌∷◌, length, refl, sym, ap, ◌∙◌, subst, arith, eq-eqb, add-one, get_or, Contains}
 use Rattle.std.specs.Prelude.{◌==◌}
 use Rattle.std.specs.List.{insert, slice_index_or, AllWithin}
 use Rattle.std.specs.List.Sorted.{IsStrictlyIncreasing, IsPartitionedBy}
-use Rattle.std.proofs.lemmas.Bool.{cases_lt, ne_eqb}
-use Rattle.tm_auto.specs.Paths.{Among, here, there}
+use Rattle.std.proofs.lemmas.Bool.{cases_lt, ne_eqb, or_left, or_right}
+use Rattle.std.proofs.lemmas.List.Elements.{Contains-get_or}
+use Rattle.tm_base.proofs.JudgedLemmas.{Contains-none, Contains-one}
 use Rattle.tm_auto.specs.Sets.{has_state, with_state}
+use Rattle.tm_auto.proofs.ContainsLemmas.{here, there, first_or_later, each_of}
 
 pub bool_cases : (b : Bool) → (b ≡ true) ⊎ (b ≡ false)
 bool_cases true = inl refl
@@ -40,42 +42,34 @@ with_state_cases s x xs P less same more = elim (bool_cases (nat_lt s x)) [
   ]
 ]
 
-pub with_state_to : (s : ℕ) (xs : List ℕ) (t : ℕ) → Among t (with_state s xs) → (t ≡ s) ⊎ Among t xs
-with_state_to s [] t here = inl refl
-with_state_to s [] t (there h) = elim h [ ]
-with_state_to s (x ∷ xs) t h = with_state_cases s x xs (λ ys. Among t ys → (t ≡ s) ⊎ Among t (x ∷ xs)) (λ l. front t) (λ e h. inr h) (λ l. back (with_state s xs) t (with_state_to s xs t)) h
+pub with_state_to : (s : ℕ) (xs : List ℕ) (t : ℕ) → Contains (with_state s xs) t → (t ≡ s) ⊎ Contains xs t
+with_state_to s [] t h = inl (sym (Contains-one s t h))
+with_state_to s (x ∷ xs) t h = with_state_cases s x xs (λ ys. Contains ys t → (t ≡ s) ⊎ Contains (x ∷ xs) t) (λ l. first_or_later s (x ∷ xs)) (λ e h. inr h) (λ l. back (with_state s xs) t (with_state_to s xs t)) h
   where
-    front : (t : ℕ) → Among t (s ∷ x ∷ xs) → (t ≡ s) ⊎ Among t (x ∷ xs)
-    front t here = inl refl
-    front t (there k) = inr k
+    back : (zs : List ℕ) (t : ℕ) → (Contains zs t → (t ≡ s) ⊎ Contains xs t) → Contains (x ∷ zs) t → (t ≡ s) ⊎ Contains (x ∷ xs) t
+    back zs t f m = elim (first_or_later _ _ m) [ inl e ↦ inr (rw e (here _)) | inr k ↦ elim (f k) [ inl q ↦ inl q | inr q ↦ inr (there _ _ q) ] ]
 
-    back : (zs : List ℕ) (t : ℕ) → (Among t zs → (t ≡ s) ⊎ Among t xs) → Among t (x ∷ zs) → (t ≡ s) ⊎ Among t (x ∷ xs)
-    back zs t f here = inr here
-    back zs t f (there k) = elim (f k) [ inl q ↦ inl q | inr q ↦ inr (there q) ]
+pub with_state_has : (s : ℕ) (xs : List ℕ) → Contains (with_state s xs) s
+with_state_has s [] = here []
+with_state_has s (x ∷ xs) = with_state_cases s x xs (λ ys. Contains ys s) (λ l. here (x ∷ xs)) (λ e. subst (λ (z : ℕ). Contains (x ∷ xs) z) (sym e) (here _)) (λ l. there _ _ (with_state_has s xs))
 
-pub with_state_has : (s : ℕ) (xs : List ℕ) → Among s (with_state s xs)
-with_state_has s [] = here
-with_state_has s (x ∷ xs) = with_state_cases s x xs (λ ys. Among s ys) (λ l. here) (λ e. subst (λ (z : ℕ). Among z (x ∷ xs)) (sym e) here) (λ l. there (with_state_has s xs))
-
-pub with_state_keeps : (s : ℕ) (xs : List ℕ) (t : ℕ) → Among t xs → Among t (with_state s xs)
-with_state_keeps s [] t h = elim h [ ]
-with_state_keeps s (x ∷ xs) t h = with_state_cases s x xs (λ ys. Among t ys) (λ l. there h) (λ e. h) (λ l. back (with_state s xs) t (with_state_keeps s xs t) h)
+pub with_state_keeps : (s : ℕ) (xs : List ℕ) (t : ℕ) → Contains xs t → Contains (with_state s xs) t
+with_state_keeps s [] t h = absurd (Contains-none _ h)
+with_state_keeps s (x ∷ xs) t h = with_state_cases s x xs (λ ys. Contains ys t) (λ l. there s (x ∷ xs) h) (λ e. h) (λ l. back (with_state s xs) t (with_state_keeps s xs t) h)
   where
-    back : (zs : List ℕ) (t : ℕ) → (Among t xs → Among t zs) → Among t (x ∷ xs) → Among t (x ∷ zs)
-    back zs t f here = here
-    back zs t f (there k) = there (f k)
+    back : (zs : List ℕ) (t : ℕ) → (Contains xs t → Contains zs t) → Contains (x ∷ xs) t → Contains (x ∷ zs) t
+    back zs t f m = elim (first_or_later _ _ m) [ inl e ↦ rw e (here _) | inr k ↦ there _ _ (f k) ]
 
-pub has_to : (xs : List ℕ) (s : ℕ) → has_state xs s ≡ true → Among s xs
+pub has_to : (xs : List ℕ) (s : ℕ) → has_state xs s ≡ true → Contains xs s
 has_to [] s e = cc
 has_to (x ∷ xs) s e = elim (bool_cases (x == s)) [
-  | inl a ↦ subst (λ (z : ℕ). Among z (x ∷ xs)) (same_at x s a) here
-  | inr a ↦ there (has_to xs s (rw a at e))
+  | inl a ↦ subst (λ (z : ℕ). Contains (x ∷ xs) z) (same_at x s a) (here _)
+  | inr a ↦ there _ _ (has_to xs s (rw a at e))
 ]
 
-pub to_has : (xs : List ℕ) (s : ℕ) → Among s xs → has_state xs s ≡ true
-to_has [] s h = elim h [ ]
-to_has (x ∷ xs) s here = rw (eq-eqb x x refl) refl
-to_has (x ∷ xs) s (there h) = elim (bool_cases (x == s)) [ inl a ↦ rw a refl | inr a ↦ rw a (to_has xs s h) ]
+pub to_has : (xs : List ℕ) (s : ℕ) → Contains xs s → has_state xs s ≡ true
+to_has [] s h = absurd (Contains-none _ h)
+to_has (x ∷ xs) s h = elim (first_or_later _ _ h) [ inl e ↦ or_left (x == s) _ (eq-eqb x s (sym e)) | inr k ↦ or_right (x == s) _ (to_has xs s k) ]
 
 -- ---- that it rises
 
@@ -118,34 +112,33 @@ with_state-IsStrictlyIncreasing s xs h = rises_increasing (with_state s xs) (wit
 
 -- ---- two sets with the same states are one
 
-pub above_all : (x : ℕ) (xs : List ℕ) → RisesFrom x xs → (t : ℕ) → Among t xs → x < t
-above_all x [] h t a = elim a [ ]
-above_all x (y ∷ ys) h t here = h.0
-above_all x (y ∷ ys) h t (there a) = let l = above_all y ys h.1 t a in let k = h.0 in omega arith
+pub above_all : (x : ℕ) (xs : List ℕ) → RisesFrom x xs → (t : ℕ) → Contains xs t → x < t
+above_all x [] h t a = absurd (Contains-none _ a)
+above_all x (y ∷ ys) h t a = each_of (λ z. x < z) _ _ a h.0 (λ b. let l = above_all y ys h.1 t b in let k = h.0 in omega arith)
 
 tail_rises : (x : ℕ) (xs : List ℕ) → RisesFrom x xs → Rises xs
 tail_rises x [] h = tt
 tail_rises x (y ∷ ys) h = h.1
 
-pub rises_same : (xs ys : List ℕ) → Rises xs → Rises ys → ((t : ℕ) → Among t xs → Among t ys) → ((t : ℕ) → Among t ys → Among t xs) → xs ≡ ys
+pub rises_same : (xs ys : List ℕ) → Rises xs → Rises ys → ((t : ℕ) → Contains xs t → Contains ys t) → ((t : ℕ) → Contains ys t → Contains xs t) → xs ≡ ys
 rises_same [] [] p q to from = refl
-rises_same [] (y ∷ ys) p q to from = let n : Among y [] = from y here in elim n [ ]
-rises_same (x ∷ xs) [] p q to from = let n : Among x [] = to x here in elim n [ ]
+rises_same [] (y ∷ ys) p q to from = absurd (Contains-none _ (from y (here _)))
+rises_same (x ∷ xs) [] p q to from = absurd (Contains-none _ (to x (here _)))
 rises_same (x ∷ xs) (y ∷ ys) p q to from =
-    let e : x ≡ y = head x y xs ys p q (to x here) (from y here) in
+    let e : x ≡ y = head x y xs ys p q (to x (here _)) (from y (here _)) in
     let rest : xs ≡ ys = rises_same xs ys (tail_rises x xs p) (tail_rises y ys q)
-    (λ t a. later y ys t (let l = above_all x xs p t a in omega arith) (to t (there a)))
-    (λ t a. later x xs t (let l = above_all y ys q t a in omega arith) (from t (there a))) in
+    (λ t a. later y ys t (let l = above_all x xs p t a in omega arith) (to t (there _ _ a)))
+    (λ t a. later x xs t (let l = above_all y ys q t a in omega arith) (from t (there _ _ a))) in
     rw (e, rest) refl
   where
-    later : (y : ℕ) (ys : List ℕ) (t : ℕ) → y < t → Among t (y ∷ ys) → Among t ys
-    later y ys t l here = absurd (omega arith)
-    later y ys t l (there a) = a
+    later : (y : ℕ) (ys : List ℕ) (t : ℕ) → y < t → Contains (y ∷ ys) t → Contains ys t
+    later y ys t l m = elim (first_or_later _ _ m) [ inl e ↦ absurd (omega arith) | inr a ↦ a ]
 
-    head : (x y : ℕ) (xs ys : List ℕ) → RisesFrom x xs → RisesFrom y ys → Among x (y ∷ ys) → Among y (x ∷ xs) → x ≡ y
-    head x y xs ys p q here b = refl
-    head x y xs ys p q (there a) here = refl
-    head x y xs ys p q (there a) (there b) = let l = above_all y ys q x a in let k = above_all x xs p y b in absurd (omega arith)
+    head : (x y : ℕ) (xs ys : List ℕ) → RisesFrom x xs → RisesFrom y ys → Contains (y ∷ ys) x → Contains (x ∷ xs) y → x ≡ y
+    head x y xs ys p q m n = elim (first_or_later _ _ m) [
+      | inl e ↦ e
+      | inr a ↦ elim (first_or_later _ _ n) [ inl e ↦ sym e | inr b ↦ (let l = above_all y ys q x a in let k = above_all x xs p y b in absurd (omega arith)) ]
+    ]
 
 -- ---- by a place
 
@@ -162,12 +155,7 @@ with_state-insert s (x ∷ xs) (suc i) h below above other =
     with_state_cases s x xs (λ ys. x ∷ insert xs i s ≡ ys) (λ l. absurd (omega arith)) (λ e. absurd (omega arith)) (λ l. ap (λ ys. x ∷ ys) rest)
 
 pub with_state-there : (s : ℕ) (xs : List ℕ) → Rises xs → (i : ℕ) → i < length xs → get_or xs i 0 ≡ s → with_state s xs ≡ xs
-with_state-there s xs rises i l e = rises_same (with_state s xs) xs (with_state_rises s xs rises) rises (λ t a. elim (with_state_to s xs t a) [ inl q ↦ subst (λ (z : ℕ). Among z xs) (sym q) (at xs i l e) | inr b ↦ b ]) (λ t a. with_state_keeps s xs t a)
-  where
-    at : (xs : List ℕ) (i : ℕ) → i < length xs → get_or xs i 0 ≡ s → Among s xs
-    at [] i l e = absurd (omega arith)
-    at (x ∷ xs) zero l e = subst (λ (z : ℕ). Among z (x ∷ xs)) e here
-    at (x ∷ xs) (suc i) l e = there (at xs i (omega arith) e)
+with_state-there s xs rises i l e = rises_same (with_state s xs) xs (with_state_rises s xs rises) rises (λ t a. elim (with_state_to s xs t a) [ inl q ↦ subst (λ (z : ℕ). Contains xs z) (e ∙ sym q) (Contains-get_or xs i 0 l) | inr b ↦ b ]) (λ t a. with_state_keeps s xs t a)
 
 at_above : (x : ℕ) (xs : List ℕ) → RisesFrom x xs → (j d : ℕ) → j < length xs → x < slice_index_or xs j d
 at_above x [] h j d l = absurd (omega arith)

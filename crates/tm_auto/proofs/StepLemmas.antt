@@ -1,5 +1,5 @@
 -- Which states a step and a list of cells reach.
-use Rattle.std.proofs.Common.{◌≡◌, ℕ, ◌<◌, ◌≤◌, inl, inr, ◌↔◌, Bool, true, false, cond, ◌&&◌, nat_le, nat_lt, List, [], ◌∷◌, refl, sym, ap, subst, arith, eq-eqb}
+use Rattle.std.proofs.Common.{◌≡◌, ℕ, ◌<◌, ◌≤◌, inl, inr, ◌↔◌, Bool, true, false, cond, ◌&&◌, nat_le, nat_lt, List, [], ◌∷◌, refl, sym, ap, subst, arith, eq-eqb, Contains}
 use Rattle.std.specs.Prelude.{◌==◌}
 use Rattle.std.specs.List.Sorted.{IsStrictlyIncreasing}
 use Rattle.std.proofs.lemmas.Bool.{and_from}
@@ -7,13 +7,15 @@ use Rattle.tm_base.specs.declared.cell.Cell.{Cell}
 use Rattle.tm_base.specs.declared.cell.Cell.TheVariants.{Byte, Uninit, Ptr}
 use Rattle.tm_base.specs.Cells.{Word}
 use Rattle.tm_base.specs.Transmutes.{holds}
+use Rattle.tm_base.proofs.JudgedLemmas.{Contains-none}
 use Rattle.tm_auto.specs.declared.edge.Edge.{Edge}
 use Rattle.tm_auto.specs.declared.edge.Label.{Label}
 use Rattle.tm_auto.specs.declared.edge.Label.TheVariants.{Bytes, Free, Leaf}
 use Rattle.tm_auto.specs.declared.edge.Symbol.{Symbol}
 use Rattle.tm_auto.specs.Labels.{Takes}
-use Rattle.tm_auto.specs.Paths.{Among, here, there, SpellsTo}
+use Rattle.tm_auto.specs.Paths.{SpellsTo}
 use Rattle.tm_auto.specs.Sets.{has_state, with_state, passes, next, symbol_of, reached_from}
+use Rattle.tm_auto.proofs.ContainsLemmas.{here, there, first_or_later}
 use Rattle.tm_auto.proofs.SetLemmas.{bool_cases, same_at, has_to, to_has, with_state_to, with_state_has, with_state_keeps, with_state-IsStrictlyIncreasing}
 
 pub both_true : (a b : Bool) → (a && b) ≡ true → (a ≡ true) × (b ≡ true)
@@ -66,26 +68,28 @@ passes_takes A (Leaf t j) (Ptr r k) = (
 )
 
 module _ (A : ℕ → ℕ → Bool) where
-  pub next_to : (es : List Edge) (from : List ℕ) (x : Symbol) (t : ℕ) → Among t (next A es from x) → (e : Edge) × Among e es × Among e.from from × (passes A e.label x ≡ true) × (e.to ≡ t)
-  next_to [] from x t h = elim h [ ]
+  pub next_to : (es : List Edge) (from : List ℕ) (x : Symbol) (t : ℕ) → Contains (next A es from x) t → (e : Edge) × Contains es e × Contains from e.from × (passes A e.label x ≡ true) × (e.to ≡ t)
+  next_to [] from x t h = absurd (Contains-none _ h)
   next_to (e ∷ es) from x t h = elim (bool_cases (has_state from e.from && passes A e.label x)) [
     | inl a ↦ (
-        let h2 = subst (λ (b : Bool). Among t (cond b (with_state e.to (next A es from x)) (next A es from x))) a h in
+        let h2 = subst (λ (b : Bool). Contains (cond b (with_state e.to (next A es from x)) (next A es from x)) t) a h in
         elim (with_state_to e.to (next A es from x) t h2) [
-          | inl q ↦ (let (u, v) = both_true (has_state from e.from) (passes A e.label x) a in (e, here, has_to from e.from u, v, sym q))
-          | inr k ↦ (let (f, fa, ff, ft, fq) = next_to es from x t k in (f, there fa, ff, ft, fq))
+          | inl q ↦ (let (u, v) = both_true (has_state from e.from) (passes A e.label x) a in (e, here _, has_to from e.from u, v, sym q))
+          | inr k ↦ (let (f, fa, ff, ft, fq) = next_to es from x t k in (f, there _ _ fa, ff, ft, fq))
         ])
     | inr a ↦ (
-        let h2 = subst (λ (b : Bool). Among t (cond b (with_state e.to (next A es from x)) (next A es from x))) a h in
-        let (f, fa, ff, ft, fq) = next_to es from x t h2 in (f, there fa, ff, ft, fq))
+        let h2 = subst (λ (b : Bool). Contains (cond b (with_state e.to (next A es from x)) (next A es from x)) t) a h in
+        let (f, fa, ff, ft, fq) = next_to es from x t h2 in (f, there _ _ fa, ff, ft, fq))
   ]
 
-  pub to_next : (es : List Edge) (from : List ℕ) (x : Symbol) (e : Edge) → Among e es → Among e.from from → passes A e.label x ≡ true → Among e.to (next A es from x)
-  to_next [] from x f h m t = elim h [ ]
-  to_next (e ∷ es) from x f here m t = rw (to_has from e.from m, t) (with_state_has e.to (next A es from x))
-  to_next (e ∷ es) from x f (there h) m t = elim (bool_cases (has_state from e.from && passes A e.label x)) [
-    | inl a ↦ rw a (with_state_keeps e.to (next A es from x) f.to (to_next es from x f h m t))
-    | inr a ↦ rw a (to_next es from x f h m t)
+  pub to_next : (es : List Edge) (from : List ℕ) (x : Symbol) (e : Edge) → Contains es e → Contains from e.from → passes A e.label x ≡ true → Contains (next A es from x) e.to
+  to_next [] from x f h m t = absurd (Contains-none _ h)
+  to_next (e ∷ es) from x f h m t = elim (first_or_later _ _ h) [
+    | inl q ↦ subst (λ (d : Edge). Contains (next A (d ∷ es) from x) f.to) q (rw (to_has from f.from m, t) (with_state_has f.to (next A es from x)))
+    | inr k ↦ elim (bool_cases (has_state from e.from && passes A e.label x)) [
+      | inl a ↦ rw a (with_state_keeps e.to (next A es from x) f.to (to_next es from x f k m t))
+      | inr a ↦ rw a (to_next es from x f k m t)
+    ]
   ]
 
   pub next-IsStrictlyIncreasing : (es : List Edge) (from : List ℕ) (x : Symbol) → IsStrictlyIncreasing (next A es from x)
@@ -95,13 +99,13 @@ module _ (A : ℕ → ℕ → Bool) where
     | inr a ↦ rw a (next-IsStrictlyIncreasing es from x)
   ]
 
-  pub reached_to : (es : List Edge) (states : List ℕ) (w : Word) (s : ℕ) → Among s (reached_from A es states w) → (a : ℕ) × Among a states × SpellsTo (holds A) es w a s
+  pub reached_to : (es : List Edge) (states : List ℕ) (w : Word) (s : ℕ) → Contains (reached_from A es states w) s → (a : ℕ) × Contains states a × SpellsTo (holds A) es w a s
   reached_to es states [] s h = (s, h, refl)
   reached_to es states (c ∷ w) s h =
       let (b, m, r) = reached_to es (next A es states (symbol_of c)) w s h in
       let (e, ea, ef, et, eq) = next_to es states (symbol_of c) b m in
       (e.from, ef, (e, ea, refl, (passes_takes A e.label c).0 et, subst (λ (z : ℕ). SpellsTo (holds A) es w z s) (sym eq) r))
 
-  pub to_reached : (es : List Edge) (states : List ℕ) (w : Word) (a s : ℕ) → Among a states → SpellsTo (holds A) es w a s → Among s (reached_from A es states w)
-  to_reached es states [] a s m h = subst (λ (z : ℕ). Among z states) h m
-  to_reached es states (c ∷ w) a s m (e, ea, ef, et, r) = to_reached es (next A es states (symbol_of c)) w e.to s (to_next es states (symbol_of c) e ea (subst (λ (z : ℕ). Among z states) (sym ef) m) ((passes_takes A e.label c).1 et)) r
+  pub to_reached : (es : List Edge) (states : List ℕ) (w : Word) (a s : ℕ) → Contains states a → SpellsTo (holds A) es w a s → Contains (reached_from A es states w) s
+  to_reached es states [] a s m h = subst (λ (z : ℕ). Contains states z) h m
+  to_reached es states (c ∷ w) a s m (e, ea, ef, et, r) = to_reached es (next A es states (symbol_of c)) w e.to s (to_next es states (symbol_of c) e ea (subst (λ (z : ℕ). Contains states z) (sym ef) m) ((passes_takes A e.label c).1 et)) r

@@ -1,5 +1,5 @@
 -- What an automaton is, and what its words are.
-use Rattle.std.specs.Prelude.{◌≡◌, ◌≢◌, ℕ, suc, Bool, IsTrue, ◌^◌, ◌<◌, ◌≤◌, ◌⊎◌, ◌↔◌, ◌==◌, filter, List, [], ◌∷◌, ◌++◌, length}
+use Rattle.std.specs.Prelude.{◌≡◌, ◌≢◌, ℕ, suc, Bool, IsTrue, ◌^◌, ◌<◌, ◌≤◌, ◌⊎◌, ◌↔◌, ◌==◌, filter, List, [], ◌∷◌, ◌++◌, length, Contains}
 use Rattle.std.specs.List.Sorted.{IsStrictlyIncreasing}
 use Rattle.tm_base.specs.declared.cell.Cell.{Cell}
 use Rattle.tm_base.specs.declared.cell.Cell.TheVariants.{Ptr}
@@ -11,7 +11,7 @@ use Rattle.tm_auto.specs.declared.edge.Label.TheVariants.{Leaf}
 use Rattle.tm_auto.specs.declared.edge.Symbol.{Symbol}
 use Rattle.tm_auto.specs.Joined.{IsJoined, IsUnbroken, HasNoOwn}
 use Rattle.tm_auto.specs.Labels.{CanTake, Begins, Joins}
-use Rattle.tm_auto.specs.Paths.{Among, SpellsTo, Spells, SomeSpells, IsPath}
+use Rattle.tm_auto.specs.Paths.{SpellsTo, Spells, SomeSpells, IsPath}
 use Rattle.tm_auto.specs.Sets.{passes, reached_from, symbol_of}
 
 -- States are the numbers below `states`, and 0 is the end. Each word has `size` cells, and a reference
@@ -43,7 +43,7 @@ reached A auto w = reached_from A auto.edges auto.starts w
 -- a path of so many edges leads from a start to the state
 pub record IsInLayer (auto : Automaton) (k s : ℕ) : Type 0 where
   pub start : ℕ
-  pub among : Among start auto.starts
+  pub among : Contains auto.starts start
   pub path : IsPath auto.edges k start s
 
 abbrev pub HasOneStateALayer : Automaton → Type 0
@@ -51,26 +51,26 @@ HasOneStateALayer auto = (k s t : ℕ) → IsInLayer auto k s → IsInLayer auto
 
 -- a start, or a state to which an edge leads
 abbrev pub IsEntered : List Edge → List ℕ → ℕ → Type 0
-IsEntered es starts s = Among s starts ⊎ ((e : Edge) × Among e es × (e.to ≡ s))
+IsEntered es starts s = Contains starts s ⊎ ((e : Edge) × Contains es e × (e.to ≡ s))
 
 -- no edge stands behind one that leaves a later state
 abbrev pub IsOrdered : List Edge → Type 0
 IsOrdered [] = Unit {0}
-IsOrdered (e ∷ es) = ((f : Edge) → Among f es → e.from ≤ f.from) × IsOrdered es
+IsOrdered (e ∷ es) = ((f : Edge) → Contains es f → e.from ≤ f.from) × IsOrdered es
 
 -- What every automaton has, said of its edges, of two that meet, and of its words.
 pub record IsAutomaton (auto : Automaton) : Type 0 where
-  pub down : (e : Edge) → Among e auto.edges → (e.to < e.from) × (e.from < auto.states)
+  pub down : (e : Edge) → Contains auto.edges e → (e.to < e.from) × (e.from < auto.states)
   pub ordered : IsOrdered auto.edges
-  pub left : (s : ℕ) → 0 < s → s < auto.states → (e : Edge) × Among e auto.edges × (e.from ≡ s)
+  pub left : (s : ℕ) → 0 < s → s < auto.states → (e : Edge) × Contains auto.edges e × (e.from ≡ s)
   pub entered : (s : ℕ) → s < auto.states → IsEntered auto.edges auto.starts s
-  pub takes : (e : Edge) → Among e auto.edges → CanTake auto.pointer e.label
-  pub joins : (e f : Edge) → Among e auto.edges → Among f auto.edges → e.to ≡ f.from → Joins e.label f.label
-  pub begins : (e : Edge) → Among e auto.edges → Among e.from auto.starts → Begins e.label
+  pub takes : (e : Edge) → Contains auto.edges e → CanTake auto.pointer e.label
+  pub joins : (e f : Edge) → Contains auto.edges e → Contains auto.edges f → e.to ≡ f.from → Joins e.label f.label
+  pub begins : (e : Edge) → Contains auto.edges e → Contains auto.starts e.from → Begins e.label
   pub small : (0 < auto.pointer) × (auto.pointer ≤ 8)
   pub rising : IsStrictlyIncreasing auto.starts
-  pub one : (s t : ℕ) → Among s auto.starts → Among t auto.starts → s ≡ t
-  pub below : (s : ℕ) → Among s auto.starts → s < auto.states
+  pub one : (s t : ℕ) → Contains auto.starts s → Contains auto.starts t → s ≡ t
+  pub below : (s : ℕ) → Contains auto.starts s → s < auto.states
   pub sized : (A : ℕ → ℕ → Bool) (w : Word) → AutoWord (holds A) auto w → length w ≡ auto.size
   pub whole : (A : ℕ → ℕ → Bool) (w : Word) → AutoWord (holds A) auto w → IsUnbroken auto.pointer w
 
@@ -79,7 +79,7 @@ pub record LiesOnWord (A : ℕ → ℕ → Type 0) (auto : Automaton) (s : ℕ) 
   pub before : Word
   pub behind : Word
   pub start : ℕ
-  pub among : Among start auto.starts
+  pub among : Contains auto.starts start
   pub leads : SpellsTo A auto.edges before start s
   pub spells : Spells A auto.edges behind s
   pub word : AutoWord A auto (before ++ behind)
@@ -93,24 +93,24 @@ pub record IsLayered (auto : Automaton) : Type 0 where
 
 -- states of the automaton
 abbrev pub AreStates : Automaton → List ℕ → Type 0
-AreStates auto states = (s : ℕ) → Among s states → s < auto.states
+AreStates auto states = (s : ℕ) → Contains states s → s < auto.states
 
 -- states that so many edges lead to from a start
 abbrev pub AreInLayer : Automaton → ℕ → List ℕ → Type 0
-AreInLayer auto k states = (s : ℕ) → Among s states → IsInLayer auto k s
+AreInLayer auto k states = (s : ℕ) → Contains states s → IsInLayer auto k s
 
 -- an edge that leaves one of the states leads to this one and passes the symbol
 abbrev pub StepsTo : (ℕ → ℕ → Bool) → Automaton → List ℕ → Symbol → ℕ → Type 0
-StepsTo A auto from symbol s = (e : Edge) × Among e auto.edges × Among e.from from × IsTrue (passes A e.label symbol) × (e.to ≡ s)
+StepsTo A auto from symbol s = (e : Edge) × Contains auto.edges e × Contains from e.from × IsTrue (passes A e.label symbol) × (e.to ≡ s)
 
 -- just the states to which a step leads, in rising order
 pub record IsStep (A : ℕ → ℕ → Bool) (auto : Automaton) (from : List ℕ) (symbol : Symbol) (set : List ℕ) : Type 0 where
   pub rising : IsStrictlyIncreasing set
-  pub states : (s : ℕ) → Among s set ↔ StepsTo A auto from symbol s
+  pub states : (s : ℕ) → Contains set s ↔ StepsTo A auto from symbol s
 
 -- an edge that takes the first byte of the target reference leaves one of the states
 abbrev pub BeginsReference : Automaton → List ℕ → RefId → Type 0
-BeginsReference auto states t = (e : Edge) × Among e auto.edges × Among e.from states × (e.label ≡ Leaf t 0)
+BeginsReference auto states t = (e : Edge) × Contains auto.edges e × Contains states e.from × (e.label ≡ Leaf t 0)
 
 -- what is taken as a reference is one: its number is below 2 ^ 32
 abbrev pub IsOfReferences : (ℕ → ℕ → Bool) → Type 0
@@ -124,7 +124,7 @@ IsOfReferences A = (x t : ℕ) → t < 2 ^ 32 → IsTrue (A x t) → x < 2 ^ 32
 pub record ReadsWords (auto : Automaton) : Type 0 where
   pub begins : (A : ℕ → ℕ → Bool) → reached A auto [] ≡ auto.starts
   pub steps : (A : ℕ → ℕ → Bool) (w : Word) (c : Cell) (set : List ℕ) → IsStep A auto (reached A auto w) (symbol_of c) set → set ≡ reached A auto (w ++ c ∷ [])
-  pub states : (A : ℕ → ℕ → Bool) (w : Word) (s : ℕ) → Among s (reached A auto w) ↔ ((a : ℕ) × Among a auto.starts × SpellsTo (holds A) auto.edges w a s)
+  pub states : (A : ℕ → ℕ → Bool) (w : Word) (s : ℕ) → Contains (reached A auto w) s ↔ ((a : ℕ) × Contains auto.starts a × SpellsTo (holds A) auto.edges w a s)
   pub layer : (A : ℕ → ℕ → Bool) (w : Word) → AreInLayer auto (length w) (reached A auto w)
   pub viable : (A : ℕ → ℕ → Bool) (w : Word) → IsJoined w → HasNoOwn w → (reached A auto w ≢ []) ↔ IsViable (holds A) auto w
   pub opens : (A : ℕ → ℕ → Bool) (w : Word) (t : RefId) → IsOfReferences A → IsJoined w → HasNoOwn w

@@ -1,6 +1,6 @@
 -- What the builder makes. It goes from the end: in front of a state, the target, it puts the words of a
 -- tree. The ways by which they begin wait for a state that they leave.
-use Rattle.std.specs.Prelude.{◌≡◌, ◌≢◌, ℕ, zero, suc, ◌+◌, ◌^◌, ◌<◌, ◌≤◌, ◌⊎◌, Bool, true, List, [], ◌∷◌, ◌++◌, length, take, drop}
+use Rattle.std.specs.Prelude.{◌≡◌, ◌≢◌, ℕ, zero, suc, ◌+◌, ◌^◌, ◌<◌, ◌≤◌, ◌⊎◌, Bool, true, List, [], ◌∷◌, ◌++◌, length, take, drop, Contains}
 use Rattle.tm_base.specs.declared.cell.Cell.{Cell}
 use Rattle.tm_base.specs.declared.cell.RefId.{RefId}
 use Rattle.tm_base.specs.declared.tree.Tree.{Tree}
@@ -16,7 +16,7 @@ use Rattle.tm_auto.specs.declared.extent.Extent.TheVariants.{Long}
 use Rattle.tm_auto.specs.Automata.{IsOrdered}
 use Rattle.tm_auto.specs.Labels.{Takes, CanTake, Begins, Joins}
 use Rattle.tm_auto.specs.Loose.{LooseWord}
-use Rattle.tm_auto.specs.Paths.{Among, Spells}
+use Rattle.tm_auto.specs.Paths.{Spells}
 use Rattle.tm_auto.specs.Shapes.{extent_of}
 
 -- words, for every test of references
@@ -31,7 +31,7 @@ edges_by s (way ∷ ways) = record { from = s; to = way.to; label = way.label } 
 -- one of the ways takes the first cell, and the others lead on to the end
 pub record Opens (A : ℕ → ℕ → Type 0) (es : List Edge) (ways : List Way) (w : Word) : Type 0 where
   pub way : Way
-  pub among : Among way ways
+  pub among : Contains ways way
   pub cell : Cell
   pub rest : Word
   pub is : w ≡ cell ∷ rest
@@ -40,11 +40,11 @@ pub record Opens (A : ℕ → ℕ → Type 0) (es : List Edge) (ways : List Way)
 
 -- a way or an edge leads to the state
 abbrev pub IsLedTo : List Way → List Edge → ℕ → Type 0
-IsLedTo ways es s = ((way : Way) × Among way ways × (way.to ≡ s)) ⊎ ((e : Edge) × Among e es × (e.to ≡ s))
+IsLedTo ways es s = ((way : Way) × Contains ways way × (way.to ≡ s)) ⊎ ((e : Edge) × Contains es e × (e.to ≡ s))
 
 -- no state has edges to two states
 abbrev pub IsForward : List Edge → Type 0
-IsForward es = (e f : Edge) → Among e es → Among f es → e.from ≡ f.from → e.to ≡ f.to
+IsForward es = (e f : Edge) → Contains es e → Contains es f → e.from ≡ f.from → e.to ≡ f.to
 
 -- the label may stand right after the bytes of a reference before this place
 abbrev pub MayFollow : RefId → ℕ → Label → Type 0
@@ -68,26 +68,26 @@ pub record IsGrowable (pointer : ℕ) (t : Tree) : Type 0 where
 -- the edges between the states below n
 pub record IsSound (pointer : ℕ) (es : List Edge) (n : ℕ) : Type 0 where
   pub some : 0 < n
-  pub from : (e : Edge) → Among e es → e.from < n
-  pub down : (e : Edge) → Among e es → e.to < e.from
+  pub from : (e : Edge) → Contains es e → e.from < n
+  pub down : (e : Edge) → Contains es e → e.to < e.from
   pub ordered : IsOrdered es
-  pub left : (s : ℕ) → 0 < s → s < n → (e : Edge) × Among e es × (e.from ≡ s)
-  pub takes : (e : Edge) → Among e es → CanTake pointer e.label
-  pub joins : (e f : Edge) → Among e es → Among f es → e.to ≡ f.from → Joins e.label f.label
+  pub left : (s : ℕ) → 0 < s → s < n → (e : Edge) × Contains es e × (e.from ≡ s)
+  pub takes : (e : Edge) → Contains es e → CanTake pointer e.label
+  pub joins : (e f : Edge) → Contains es e → Contains es f → e.to ≡ f.from → Joins e.label f.label
 
 -- a state in front of which may be built
 pub record IsReady (b : Building) (target : ℕ) : Type 0 where
   pub pointer : (0 < b.pointer) × (b.pointer ≤ 8)
   pub sound : IsSound b.pointer b.edges.items b.states
   pub below : target < b.states
-  pub plain : (e : Edge) → Among e b.edges.items → e.from ≡ target → Begins e.label
+  pub plain : (e : Edge) → Contains b.edges.items e → e.from ≡ target → Begins e.label
 
 -- a way that a new state may be given; q holds of its label
 pub record IsWay (q : Label → Type 0) (b : Building) (way : Way) : Type 0 where
   pub below : way.to < b.states
   pub takes : CanTake b.pointer way.label
   pub opens : q way.label
-  pub joins : (e : Edge) → Among e b.edges.items → way.to ≡ e.from → Joins way.label e.label
+  pub joins : (e : Edge) → Contains b.edges.items e → way.to ≡ e.from → Joins way.label e.label
 
 -- by the ways a word of P leads to the target, and nothing else leads on to the end
 pub record Grows (A : ℕ → ℕ → Type 0) (P : Word → Type 0) (es fs : List Edge) (ways : List Way) (target : ℕ) : Type 0 where
@@ -119,7 +119,7 @@ pub record IsExtended (b c : Building) : Type 0 where
   pub later : b.states ≤ c.states
   pub more : List Edge
   pub longer : c.edges.items ≡ b.edges.items ++ more
-  pub fresh : (e : Edge) → Among e more → b.states ≤ e.from
+  pub fresh : (e : Edge) → Contains more e → b.states ≤ e.from
   pub sound : IsSound c.pointer c.edges.items c.states
 
 -- The piece is put: the ways by which its words begin are added to the head.
@@ -130,7 +130,7 @@ pub record MakesBy (p : Piece) (b c : Building) : Type 0 where
   pub head : c.head.items ≡ b.head.items ++ ways
   pub some : ways ≢ []
   pub linear : length extended.more + length ways ≤ p.room
-  pub each : (way : Way) → Among way ways → IsWay p.opens c way
+  pub each : (way : Way) → Contains ways way → IsWay p.opens c way
   pub into : (s : ℕ) → b.states ≤ s → s < c.states → IsLedTo ways c.edges.items s
   pub covers : IsLedTo ways c.edges.items p.target
   pub forward : p.line → IsForward b.edges.items → IsForward c.edges.items × (length ways ≤ 1)
@@ -143,9 +143,9 @@ pub record IsPlacedBy (p : Piece) (b c : Building) (state : ℕ) : Type 0 where
   pub head : c.head.items ≡ b.head.items
   pub linear : length extended.more ≤ p.room
   pub below : state < c.states
-  pub opens : (e : Edge) → Among e c.edges.items → e.from ≡ state → p.opens e.label
-  pub into : (s : ℕ) → b.states ≤ s → s < c.states → (s ≡ state) ⊎ ((e : Edge) × Among e c.edges.items × (e.to ≡ s))
-  pub covers : (p.target ≡ state) ⊎ ((e : Edge) × Among e c.edges.items × (e.to ≡ p.target))
+  pub opens : (e : Edge) → Contains c.edges.items e → e.from ≡ state → p.opens e.label
+  pub into : (s : ℕ) → b.states ≤ s → s < c.states → (s ≡ state) ⊎ ((e : Edge) × Contains c.edges.items e × (e.to ≡ s))
+  pub covers : (p.target ≡ state) ⊎ ((e : Edge) × Contains c.edges.items e × (e.to ≡ p.target))
   pub forward : p.line → IsForward b.edges.items → IsForward c.edges.items
   pub forth : (A : ℕ → ℕ → Bool) (w : Word) → Spells (holds A) c.edges.items w state
       → (u : Word) × (v : Word) × (w ≡ u ++ v) × p.words A u × Spells (holds A) b.edges.items v p.target

@@ -1,5 +1,5 @@
 -- Classes of symbols: what two sets of states, of two automata, can be walked by together.
-use Rattle.std.specs.Prelude.{◌≡◌, ℕ, zero, suc, Bool, true, false, if◌then◌else◌, ◌||◌, ◌+◌, ◌<◌, ◌≤◌, ◌⊎◌, ◌↔◌, List, [], ◌∷◌, ◌++◌}
+use Rattle.std.specs.Prelude.{◌≡◌, ℕ, zero, suc, Bool, true, false, if◌then◌else◌, ◌||◌, ◌+◌, ◌<◌, ◌≤◌, ◌⊎◌, ◌↔◌, List, [], ◌∷◌, ◌++◌, Contains}
 use Rattle.tm_base.specs.declared.cell.Cell.{Cell}
 use Rattle.tm_base.specs.declared.cell.Cell.TheVariants as cell
 use Rattle.tm_base.specs.Orders.{cell_less}
@@ -11,7 +11,6 @@ use Rattle.tm_auto.specs.declared.edge.Symbol.{Symbol}
 use Rattle.tm_auto.specs.declared.edge.Symbol.TheVariants as symbol
 use Rattle.tm_auto.specs.Automata.{Automaton, edges_from}
 use Rattle.tm_auto.specs.Labels.{Takes}
-use Rattle.tm_auto.specs.Paths.{Among}
 use Rattle.tm_auto.specs.Sets.{passes, symbol_of, with_state}
 
 -- the symbol has the cell
@@ -31,11 +30,11 @@ IsFormed (symbol.Ptr r k) = Unit {0}
 -- each cell of an earlier symbol stands before each of a later one, so they are apart
 abbrev pub AreInOrder : List Symbol → Type 0
 AreInOrder [] = Unit {0}
-AreInOrder (x ∷ xs) = ((y : Symbol) (c d : Cell) → Among y xs → HasCell x c → HasCell y d → cell_less c d ≡ true) × AreInOrder xs
+AreInOrder (x ∷ xs) = ((y : Symbol) (c d : Cell) → Contains xs y → HasCell x c → HasCell y d → cell_less c d ≡ true) × AreInOrder xs
 
 -- the edge leaves one of the states
 abbrev pub LeavesSet : Automaton → List ℕ → Edge → Type 0
-LeavesSet auto states e = Among e auto.edges × Among e.from states
+LeavesSet auto states e = Contains auto.edges e × Contains states e.from
 
 -- an edge from one of the states takes the cell, where each reference holds itself alone
 abbrev pub TakesFrom : Automaton → List ℕ → Cell → Type 0
@@ -44,10 +43,10 @@ TakesFrom auto states c = (e : Edge) × LeavesSet auto states e × Takes (holds 
 -- The symbols are in the order of cells, cover each cell that the source's states can take exactly once,
 -- and pass an edge, of either automaton and under every test of references, just as each of their cells.
 pub record AreClasses (src : Automaton) (from : List ℕ) (dst : Automaton) (to : List ℕ) (symbols : List Symbol) : Type 0 where
-  pub formed : (x : Symbol) → Among x symbols → IsFormed x
+  pub formed : (x : Symbol) → Contains symbols x → IsFormed x
   pub ordered : AreInOrder symbols
-  pub covers : (c : Cell) → TakesFrom src from c ↔ ((x : Symbol) × Among x symbols × HasCell x c)
-  pub alike : (A : ℕ → ℕ → Bool) (x : Symbol) (c : Cell) (e : Edge) → Among x symbols → HasCell x c → LeavesSet src from e ⊎ LeavesSet dst to e → passes A e.label x ≡ passes A e.label (symbol_of c)
+  pub covers : (c : Cell) → TakesFrom src from c ↔ ((x : Symbol) × Contains symbols x × HasCell x c)
+  pub alike : (A : ℕ → ℕ → Bool) (x : Symbol) (c : Cell) (e : Edge) → Contains symbols x → HasCell x c → LeavesSet src from e ⊎ LeavesSet dst to e → passes A e.label x ≡ passes A e.label (symbol_of c)
 
 -- the label treats all bytes from a on and below e alike
 abbrev pub IsUncut : Label → ℕ → ℕ → Type 0
@@ -56,7 +55,7 @@ IsUncut label.Free a e = Unit {0}
 IsUncut (label.Leaf t k) a e = Unit {0}
 
 abbrev pub AreUncut : List Label → ℕ → ℕ → Type 0
-AreUncut labels a e = (l : Label) → Among l labels → IsUncut l a e
+AreUncut labels a e = (l : Label) → Contains labels l → IsUncut l a e
 
 -- one of the labels passes the symbol, where each reference holds itself alone
 abbrev pub passes_some : List Label → Symbol → Bool
@@ -84,9 +83,9 @@ pub record IsRange (src dst : List Label) (end : ℕ) (x : Symbol) : Type 0 wher
 
 -- the classes of the bytes below `end`
 pub record AreRanges (src dst : List Label) (end : ℕ) (symbols : List Symbol) : Type 0 where
-  pub each : (x : Symbol) → Among x symbols → IsRange src dst end x
+  pub each : (x : Symbol) → Contains symbols x → IsRange src dst end x
   pub ordered : AreInOrder symbols
-  pub covers : (b : ℕ) → b < end → (passes_some src (symbol.Bytes b b) ≡ true) ↔ ((x : Symbol) × Among x symbols × HasCell x (cell.Byte b))
+  pub covers : (b : ℕ) → b < end → (passes_some src (symbol.Bytes b b) ≡ true) ↔ ((x : Symbol) × Contains symbols x × HasCell x (cell.Byte b))
 
 -- the uninitialised byte, where some label takes it
 abbrev pub uninit_of : List Label → List Symbol

@@ -1,9 +1,10 @@
 -- What a layer of obligations becomes when some are added.
-use Rattle.std.proofs.Common.{◌≡◌, ℕ, zero, suc, ◌+◌, ◌<◌, ◌≤◌, ◌⊎◌, inl, inr, Bool, true, not, filter, List, [], ◌∷◌, ◌++◌, length, drop, get_or, refl, sym, ap, subst, arith}
+use Rattle.std.proofs.Common.{◌≡◌, ℕ, ◌+◌, ◌<◌, ◌≤◌, ◌⊎◌, inl, inr, Bool, true, not, filter, List, [], ◌∷◌, ◌++◌, length, drop, get_or, sym, ap, subst, arith, Contains}
 use Rattle.std.specs.List.{list_any}
 use Rattle.std.proofs.lemmas.List.{drop_more, drop_all}
-use Rattle.tm_auto.specs.Paths.{Among, here, there}
-use Rattle.tm_auto.proofs.AmongLemmas.{among_left, among_right, among_either, none_among}
+use Rattle.std.proofs.lemmas.List.Elements.{Contains-append_left, Contains-append_right, Contains-append_cases, Contains-push}
+use Rattle.tm_base.proofs.JudgedLemmas.{Contains-none, Contains-one}
+use Rattle.tm_auto.proofs.ContainsLemmas.{here, there, first_or_later}
 use Rattle.tm_auto.proofs.SetLemmas.{bool_cases}
 use Rattle.tm_walk.specs.declared.obligation.Obligation.{Obligation}
 use Rattle.tm_walk.specs.Obligations.{implies, implied_by, IsImplied, AreAdded}
@@ -40,33 +41,24 @@ added_both P Q R before between after f g h a b = record {
 
 module _ {X : Type 0} (P : X → Obligation → Type 0) where
   abbrev pub OfSome : List X → Obligation → Type 0
-  OfSome xs o = (x : X) × Among x xs × P x o
+  OfSome xs o = (x : X) × Contains xs x × P x o
 
   pub added_turn : (xs : List X) (i : ℕ) (d : X) → i < length xs → (before between after : List Obligation)
       → AreAdded (P (get_or xs i d)) before between → AreAdded (OfSome (drop (i + 1) xs)) between after → AreAdded (OfSome (drop i xs)) before after
   added_turn xs i d l before between after a b =
       subst (λ (z : List X). AreAdded (OfSome z) before after) (sym (drop_more xs i d l))
       (added_both (P (get_or xs i d)) (OfSome (drop (i + 1) xs)) (OfSome (get_or xs i d ∷ drop (i + 1) xs)) before between after
-      (λ o p. (get_or xs i d, here, p)) (λ o (x, m, p). (x, there m, p)) (λ o (x, m, p). split (get_or xs i d) (drop (i + 1) xs) o x m p) a b)
-    where
-      split : (y : X) (ys : List X) (o : Obligation) (x : X) → Among x (y ∷ ys) → P x o → P y o ⊎ OfSome ys o
-      split y ys o x here p = inl p
-      split y ys o x (there m) p = inr (x, m, p)
+      (λ o p. (get_or xs i d, here _, p)) (λ o (x, m, p). (x, there _ _ m, p)) (λ o (x, m, p). elim (first_or_later _ _ m) [ inl e ↦ inl (subst (λ y. P y o) e p) | inr n ↦ inr (x, n, p) ]) a b)
 
   -- those of a list in two parts
   pub added_parts : (xs ys : List X) (before between after : List Obligation) → AreAdded (OfSome xs) before between → AreAdded (OfSome ys) between after → AreAdded (OfSome (xs ++ ys)) before after
   added_parts xs ys before between after a b = added_both (OfSome xs) (OfSome ys) (OfSome (xs ++ ys)) before between after
-      (λ o (x, m, p). (x, among_left ys m, p)) (λ o (x, m, p). (x, among_right xs m, p))
-      (λ o (x, m, p). elim (among_either xs ys m) [ inl n ↦ inl (x, n, p) | inr n ↦ inr (x, n, p) ])
+      (λ o (x, m, p). (x, Contains-append_left _ ys _ m, p)) (λ o (x, m, p). (x, Contains-append_right xs _ _ m, p))
+      (λ o (x, m, p). elim (Contains-append_cases xs ys _ m) [ inl n ↦ inl (x, n, p) | inr n ↦ inr (x, n, p) ])
       a b
 
-  pub among_at : (xs : List X) (i : ℕ) (d : X) → i < length xs → Among (get_or xs i d) xs
-  among_at [] i d l = absurd (omega arith)
-  among_at (x ∷ xs) zero d l = here
-  among_at (x ∷ xs) (suc i) d l = there (among_at xs i d (omega arith))
-
   pub added_end : (xs : List X) (i : ℕ) → length xs ≤ i → (os : List Obligation) → AreAdded (OfSome (drop i xs)) os os
-  added_end xs i l os = subst (λ (z : List X). AreAdded (OfSome z) os os) (sym (drop_all i xs l)) (added_none (OfSome []) os (λ o (x, m, p). none_among m))
+  added_end xs i l os = subst (λ (z : List X). AreAdded (OfSome z) os os) (sym (drop_all i xs l)) (added_none (OfSome []) os (λ o (x, m, p). Contains-none _ m))
 
   -- those of a list of one
   pub added_one : (x : X) (before after : List Obligation) → AreAdded (P x) before after → AreAdded (OfSome (x ∷ [])) before after
@@ -87,20 +79,16 @@ module _ (os : List Obligation) (o : Obligation) where
 
   pub added_last : AreAdded (λ p. p ≡ o) os (filter apart os ++ o ∷ [])
   added_last = record {
-    from = λ p m. elim (among_either (filter apart os) (o ∷ []) m) [
+    from = λ p m. elim (Contains-append_cases (filter apart os) (o ∷ []) _ m) [
       | inl n ↦ inl (from_filter apart os p n).0
-      | inr n ↦ inr (only p n)
+      | inr n ↦ inr (sym (Contains-one o p n))
     ];
     kept = λ p m. elim (bool_cases (implies o p)) [
       | inl a ↦ (o, last, a)
-      | inr a ↦ (p, among_left (o ∷ []) (to_filter apart os p m (ap not a)), implies-refl p)
+      | inr a ↦ (p, Contains-append_left _ (o ∷ []) _ (to_filter apart os p m (ap not a)), implies-refl p)
     ];
     added = λ p q. (o, last, subst (λ (z : Obligation). implies o z ≡ true) (sym q) (implies-refl o));
   }
     where
-      only : (p : Obligation) → Among p (o ∷ []) → p ≡ o
-      only p here = refl
-      only p (there n) = elim n [ ]
-
-      last : Among o (filter apart os ++ o ∷ [])
-      last = among_right (filter apart os) here
+      last : Contains (filter apart os ++ o ∷ []) o
+      last = Contains-push (filter apart os) o

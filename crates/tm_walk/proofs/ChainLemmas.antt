@@ -1,5 +1,5 @@
 -- Layers that follow one from another: the least words that lead to their pairs.
-use Rattle.std.proofs.Common.{◌≡◌, ◌≢◌, ℕ, suc, ◌<◌, ◌≤◌, inl, inr, Bool, true, false, List, [], ◌∷◌, ◌++◌, length, take, Option, Some, None, slice_get, refl, sym, ap, ◌∙◌, subst, arith, length-append}
+use Rattle.std.proofs.Common.{◌≡◌, ◌≢◌, ℕ, suc, ◌<◌, ◌≤◌, inl, inr, Bool, true, false, List, [], ◌∷◌, ◌++◌, length, take, Option, Some, None, slice_get, refl, sym, ap, ◌∙◌, subst, arith, length-append, Contains}
 use Rattle.std.specs.Prelude.{◌==◌}
 use Rattle.std.proofs.lemmas.Bool.{cases_lt}
 use Rattle.std.proofs.lemmas.List.{take-append-le}
@@ -10,10 +10,9 @@ use Rattle.tm_base.specs.Cells.{Word}
 use Rattle.tm_base.specs.Orders.{word_less}
 use Rattle.tm_base.specs.Transmutes.{holds, is_itself}
 use Rattle.tm_base.proofs.OrderLemmas.{word_less-asym}
+use Rattle.tm_base.proofs.JudgedLemmas.{Contains-none}
 use Rattle.tm_auto.specs.Automata.{Automaton, AutoWord, IsAutomaton, ReadsWords, AreStates, reached}
-use Rattle.tm_auto.specs.Paths.{Among}
 use Rattle.tm_auto.specs.Sets.{next, symbol_of, reached_from}
-use Rattle.tm_auto.proofs.AmongLemmas.{none_among}
 use Rattle.tm_auto.proofs.NextLemmas.{next_states}
 use Rattle.tm_walk.specs.Layers.{is_live, Entry, IsStart, NoneStops, IsFirstStop, HasStates, source_step, target_step, Goes, IsNext}
 use Rattle.tm_walk.specs.Sought.{IsSourceWord}
@@ -186,7 +185,7 @@ module _ (A : ℕ → ℕ → Bool) (src dst : Automaton) (hs : IsAutomaton src)
 
   pub complete : (older : List (List Entry)) (layer : List Entry) → Chain older layer → (w : Word) → IsSourceWord src w → Past w (length older) → IsIn older layer w
   complete [] layer c w word passes =
-      let start : src.starts ≢ [] = λ q. none_among (subst (λ (z : List ℕ). Among word.reaches.state z) q word.reaches.among) in
+      let start : src.starts ≢ [] = λ q. Contains-none _ (subst (λ (z : List ℕ). Contains z word.reaches.state) q word.reaches.among) in
       let (e, at) = c.some start in
       let (z, a, b, n) = c.each 0 e at in
       record { place = 0; entry = e; at = at; source = a; target = b; least = nothing_less }
@@ -282,7 +281,7 @@ module _ (A : ℕ → ℕ → Bool) (src dst : Automaton) (hs : IsAutomaton src)
 
   -- ---- each set is one of states
 
-  pub states : (hd : IsAutomaton dst) (older : List (List Entry)) (layer : List Entry) → Chain older layer → (e : Entry) → Among e layer → HasStates A src dst e
+  pub states : (hd : IsAutomaton dst) (older : List (List Entry)) (layer : List Entry) → Chain older layer → (e : Entry) → Contains layer e → HasStates A src dst e
   states hd [] layer c e m =
       let (k, at) = among_get layer e m in
       let (z, a, b, n) = c.each k e at in

@@ -1,5 +1,5 @@
 -- The least source word behind some cells: the least cell that may come next, again and again.
-use Rattle.std.proofs.Common.{◌≡◌, ◌≢◌, ℕ, suc, ◌<◌, ◌≤◌, ◌⊎◌, inl, inr, ◌↔◌, true, false, List, [], ◌∷◌, ◌++◌, length, take, min, sym, ap, ◌∙◌, subst, arith, length-append}
+use Rattle.std.proofs.Common.{◌≡◌, ◌≢◌, ℕ, suc, ◌<◌, ◌≤◌, ◌⊎◌, inl, inr, ◌↔◌, true, false, List, [], ◌∷◌, ◌++◌, length, take, min, sym, ap, ◌∙◌, subst, arith, length-append, Contains}
 use Rattle.std.proofs.lemmas.Bool.{cases_lt}
 use Rattle.std.proofs.lemmas.List.{take-append-le, take_all}
 use Rattle.tm_base.specs.declared.cell.Cell.{Cell}
@@ -7,12 +7,12 @@ use Rattle.tm_base.specs.Cells.{Word}
 use Rattle.tm_base.specs.Orders.{cell_less, word_less}
 use Rattle.tm_base.specs.Transmutes.{holds, is_itself}
 use Rattle.tm_base.proofs.OrderLemmas.{cell_less-total, word_less-asym}
+use Rattle.tm_base.proofs.JudgedLemmas.{Contains-none}
 use Rattle.tm_auto.specs.Automata.{Automaton, AutoWord, IsAutomaton, ReadsWords, reached}
 use Rattle.tm_auto.specs.Classes.{TakesFrom}
 use Rattle.tm_auto.specs.Least.{IsLeastCell}
-use Rattle.tm_auto.specs.Paths.{Among}
 use Rattle.tm_auto.specs.Sets.{next, symbol_of}
-use Rattle.tm_auto.proofs.AmongLemmas.{some_among, none_among}
+use Rattle.tm_auto.proofs.ContainsLemmas.{some_among}
 use Rattle.tm_auto.proofs.SetLemmas.{bool_cases}
 use Rattle.tm_auto.proofs.StepLemmas.{passes_takes, next_to, to_next}
 use Rattle.tm_walk.specs.Sought.{IsSourceWord}
@@ -34,7 +34,7 @@ pub record IsBegun (src : Automaton) (cells begun : Word) : Type 0 where
 module _ (src : Automaton) (hs : IsAutomaton src) (rs : ReadsWords src) where
   taken : (from : List ℕ) (c : Cell) → TakesFrom src from c ↔ (next is_itself src.edges from (symbol_of c) ≢ [])
   taken from c = (
-    λ (e, (ea, ef), t) none. none_among (subst (λ (z : List ℕ). Among e.to z) none (to_next is_itself src.edges from (symbol_of c) e ea ef ((passes_takes is_itself e.label c).1 t))),
+    λ (e, (ea, ef), t) none. Contains-none _ (subst (λ (z : List ℕ). Contains z e.to) none (to_next is_itself src.edges from (symbol_of c) e ea ef ((passes_takes is_itself e.label c).1 t))),
     λ some. (let (s, m) = some_among _ some in let (e, ea, ef, ep, eq) = next_to is_itself src.edges from (symbol_of c) s m in (e, (ea, ef), (passes_takes is_itself e.label c).0 ep)),
   )
 

@@ -1,14 +1,13 @@
 -- Where both automata have one state at each place at most, at most one pair of a layer is expanded.
-use Rattle.std.proofs.Common.{◌≡◌, ◌≢◌, ℕ, ◌<◌, ◌≤◌, inl, inr, Bool, false, List, [], ◌∷◌, ◌++◌, length, Some, slice_get, sym, ◌∙◌, subst, arith, length-append}
+use Rattle.std.proofs.Common.{◌≡◌, ◌≢◌, ℕ, ◌<◌, ◌≤◌, inl, inr, Bool, false, List, [], ◌∷◌, ◌++◌, length, Some, slice_get, sym, ◌∙◌, subst, arith, length-append, Contains}
 use Rattle.std.specs.Prelude.{◌==◌}
 use Rattle.std.specs.List.Sorted.{IsStrictlyIncreasing}
 use Rattle.std.proofs.lemmas.Bool.{cases_lt}
 use Rattle.tm_base.specs.Cells.{Word}
 use Rattle.tm_base.specs.Transmutes.{holds, is_itself}
 use Rattle.tm_auto.specs.Automata.{Automaton, AutoWord, IsAutomaton, ReadsWords, AreInLayer, HasOneStateALayer, reached}
-use Rattle.tm_auto.specs.Paths.{Among}
 use Rattle.tm_auto.specs.Sets.{next, symbol_of, reached_from}
-use Rattle.tm_auto.proofs.AmongLemmas.{some_among, none_or_some}
+use Rattle.tm_auto.proofs.ContainsLemmas.{some_among, none_or_some}
 use Rattle.tm_auto.proofs.SetLemmas.{rises_same, increasing_rises}
 use Rattle.tm_auto.proofs.StepLemmas.{next-IsStrictlyIncreasing}
 use Rattle.tm_walk.specs.Layers.{is_live, Entry, HaveSameSets, NoneStops, weights}
@@ -30,8 +29,8 @@ one_set A auto h r one v w l a b =
     let at_v = r.layer A v in
     let at_w : AreInLayer auto (length v) (reached A auto w) = subst (λ (n : ℕ). AreInLayer auto n (reached A auto w)) (sym l) (r.layer A w) in
     rises_same (reached A auto v) (reached A auto w) (increasing_rises _ (rises A auto auto.starts v h.rising)) (increasing_rises _ (rises A auto auto.starts w h.rising))
-    (λ x m. subst (λ (z : ℕ). Among z (reached A auto w)) (one (length v) t x (at_w t tm) (at_v x m)) tm)
-    (λ x m. subst (λ (z : ℕ). Among z (reached A auto v)) (one (length v) s x (at_v s sm) (at_w x m)) sm)
+    (λ x m. subst (λ (z : ℕ). Contains (reached A auto w) z) (one (length v) t x (at_w t tm) (at_v x m)) tm)
+    (λ x m. subst (λ (z : ℕ). Contains (reached A auto v) z) (one (length v) s x (at_v s sm) (at_w x m)) sm)
 
 module _ (A : ℕ → ℕ → Bool) (src dst : Automaton) (hs : IsAutomaton src) (rs : ReadsWords src) (hd : IsAutomaton dst) (rd : ReadsWords dst) (stop : Bool → Bool → Bool) (skip : Bool → Bool) where
   -- the source's set behind a source word is empty exactly behind its end

@@ -1,41 +1,40 @@
 -- The symbols by which a pair is expanded give all its steps.
-use Rattle.std.proofs.Common.{◌≡◌, ◌≢◌, ℕ, ◌+◌, ◌<◌, ◌≤◌, inl, inr, Bool, false, List, [], ◌∷◌, length, drop, get_or, refl, sym, ap, subst, arith}
+use Rattle.std.proofs.Common.{◌≡◌, ◌≢◌, ℕ, ◌+◌, ◌<◌, ◌≤◌, inl, inr, Bool, false, List, [], ◌∷◌, length, drop, get_or, refl, sym, ap, subst, arith, Contains}
 use Rattle.std.proofs.lemmas.Bool.{cases_lt}
 use Rattle.std.proofs.lemmas.List.{drop_more, drop_all}
 use Rattle.tm_base.specs.declared.cell.Cell.{Cell}
 use Rattle.tm_base.specs.declared.cell.Cell.TheVariants as cell
 use Rattle.tm_base.specs.Orders.{cell_less}
 use Rattle.tm_base.specs.Transmutes.{is_itself}
+use Rattle.tm_base.proofs.JudgedLemmas.{Contains-none, Contains-one}
 use Rattle.tm_auto.specs.declared.edge.Edge.{Edge}
 use Rattle.tm_auto.specs.declared.edge.Symbol.{Symbol}
 use Rattle.tm_auto.specs.declared.edge.Symbol.TheVariants as symbol
 use Rattle.tm_auto.specs.Automata.{Automaton, IsStep}
 use Rattle.tm_auto.specs.Classes.{HasCell, IsFormed, AreInOrder, TakesFrom, AreClasses}
 use Rattle.tm_auto.specs.Least.{first_cell}
-use Rattle.tm_auto.specs.Paths.{Among, here, there}
 use Rattle.tm_auto.specs.Sets.{has_state, passes, next, symbol_of}
-use Rattle.tm_auto.proofs.AmongLemmas.{none_among, some_among}
+use Rattle.tm_auto.proofs.ContainsLemmas.{here, there, some_among}
 use Rattle.tm_auto.proofs.LeastLemmas.{first_in, first_least}
 use Rattle.tm_auto.proofs.SetLemmas.{bool_cases, has_to, rises_same, increasing_rises}
 use Rattle.tm_auto.proofs.StepLemmas.{passes_takes, next_to, to_next, next-IsStrictlyIncreasing}
 use Rattle.tm_walk.specs.Layers.{Entry, Precedes, AreRising, IsOffered, AreOffered, source_step, target_step, offers, AreSymbols, IsStepFrom, AreStepsFrom}
 use Rattle.tm_walk.proofs.NumberLemmas.{among_map, among_unmap}
-use Rattle.tm_walk.proofs.OfferLemmas.{among_one}
 
 -- two symbols that the same edges pass lead to the same set
-pub next_same : (A : ℕ → ℕ → Bool) (es : List Edge) (from : List ℕ) (x y : Symbol) → ((e : Edge) → Among e es → Among e.from from → passes A e.label x ≡ passes A e.label y) → next A es from x ≡ next A es from y
+pub next_same : (A : ℕ → ℕ → Bool) (es : List Edge) (from : List ℕ) (x y : Symbol) → ((e : Edge) → Contains es e → Contains from e.from → passes A e.label x ≡ passes A e.label y) → next A es from x ≡ next A es from y
 next_same A [] from x y h = refl
 next_same A (e ∷ es) from x y h =
-    let rest = next_same A es from x y (λ f m l. h f (there m) l) in
+    let rest = next_same A es from x y (λ f m l. h f (there _ _ m) l) in
     elim (bool_cases (has_state from e.from)) [
-      | inl a ↦ (let p = h e here (has_to from e.from a) in rw (p, rest) refl)
+      | inl a ↦ (let p = h e (here _) (has_to from e.from a) in rw (p, rest) refl)
       | inr a ↦ rw (a, rest) refl
     ]
 
 -- what a step leads to is told by the states alone
 pub step_is : (A : ℕ → ℕ → Bool) (auto : Automaton) (from : List ℕ) (x : Symbol) (set : List ℕ) → IsStep A auto from x set → set ≡ next A auto.edges from x
 step_is A auto from x set s = rises_same set (next A auto.edges from x) (increasing_rises set s.rising) (increasing_rises _ (next-IsStrictlyIncreasing A auto.edges from x))
-    (λ t a. let (e, ea, ef, ep, eq) = (s.states t).0 a in subst (λ (z : ℕ). Among z (next A auto.edges from x)) eq (to_next A auto.edges from x e ea ef ep))
+    (λ t a. let (e, ea, ef, ep, eq) = (s.states t).0 a in subst (λ (z : ℕ). Contains (next A auto.edges from x) z) eq (to_next A auto.edges from x e ea ef ep))
     (λ t a. (s.states t).1 (next_to A auto.edges from x t a))
 
 module _ (A : ℕ → ℕ → Bool) (src dst : Automaton) (from to : List ℕ) (k : ℕ) where
@@ -62,19 +61,19 @@ module _ (A : ℕ → ℕ → Bool) (src dst : Automaton) (from to : List ℕ) (
   pub offers_end : (xs : List Symbol) (i : ℕ) → length xs ≤ i → (next : List Entry) → AreOffered (offers A src dst from to k (drop i xs)) next next
   offers_end xs i l next = subst (λ (z : List Symbol). AreOffered (offers A src dst from to k z) next next) (sym (drop_all i xs l)) refl
 
-  pub offers_rise : (xs : List Symbol) → AreInOrder xs → ((x : Symbol) → Among x xs → IsFormed x) → AreRising (offers A src dst from to k xs)
+  pub offers_rise : (xs : List Symbol) → AreInOrder xs → ((x : Symbol) → Contains xs x → IsFormed x) → AreRising (offers A src dst from to k xs)
   offers_rise [] o f = tt
   offers_rise (x ∷ xs) o f = (
     λ e m. (let (y, n, q) = among_unmap offer xs e m in
-        subst (λ (z : Entry). Precedes (offer x) z) q (inr (refl, o.0 y (first_cell x) (first_cell y) n (first_in x (f x here)) (first_in y (f y (there n)))))),
-    offers_rise xs o.1 (λ y n. f y (there n)),
+        subst (λ (z : Entry). Precedes (offer x) z) q (inr (refl, o.0 y (first_cell x) (first_cell y) n (first_in x (f x (here _))) (first_in y (f y (there _ _ n)))))),
+    offers_rise xs o.1 (λ y n. f y (there _ _ n)),
   )
 
   module _ (xs : List Symbol) (c : AreClasses src from dst to xs) where
-    source_same : (x : Symbol) (d : Cell) → Among x xs → HasCell x d → source_step A src dst from x ≡ source_step A src dst from (symbol_of d)
+    source_same : (x : Symbol) (d : Cell) → Contains xs x → HasCell x d → source_step A src dst from x ≡ source_step A src dst from (symbol_of d)
     source_same x d m h = next_same is_itself src.edges from x (symbol_of d) (λ e em ef. c.alike is_itself x d e m h (inl (em, ef)))
 
-    target_same : (x : Symbol) (d : Cell) → Among x xs → HasCell x d → target_step A src dst to x ≡ target_step A src dst to (symbol_of d)
+    target_same : (x : Symbol) (d : Cell) → Contains xs x → HasCell x d → target_step A src dst to x ≡ target_step A src dst to (symbol_of d)
     target_same x d m h = next_same A dst.edges to x (symbol_of d) (λ e em ef. c.alike A x d e m h (inr (em, ef)))
 
     taken : (d : Cell) → source_step A src dst from (symbol_of d) ≢ [] → TakesFrom src from d
@@ -86,7 +85,7 @@ module _ (A : ℕ → ℕ → Bool) (src dst : Automaton) (from to : List ℕ) (
     takes_on : (d : Cell) → TakesFrom src from d → source_step A src dst from (symbol_of d) ≢ []
     takes_on d (e, (ea, ef), t) none =
         let m = to_next is_itself src.edges from (symbol_of d) e ea ef ((passes_takes is_itself e.label d).1 t) in
-        none_among (subst (λ (z : List ℕ). Among e.to z) none m)
+        Contains-none _ (subst (λ (z : List ℕ). Contains z e.to) none m)
 
     steps_within : (place : ℕ) → place < src.size → (p : Entry) → p.src ≡ from → p.dst ≡ to → AreStepsFrom A src dst place p k (offers A src dst from to k xs)
     steps_within place l p ps pd = record {
@@ -112,17 +111,17 @@ module _ (A : ℕ → ℕ → Bool) (src dst : Automaton) (from to : List ℕ) (
 
   steps_behind : (place : ℕ) → src.size ≤ place → (p : Entry) → p.src ≡ from → p.dst ≡ to → AreStepsFrom A src dst place p k (offers A src dst from to k (symbol.Uninit ∷ []))
   steps_behind place l p ps pd = record {
-    each = λ e m. subst (λ (z : Entry). IsStepFrom A src dst place p k z) (sym (among_one e (offer symbol.Uninit) m)) (record {
+    each = λ e m. subst (λ (z : Entry). IsStepFrom A src dst place p k z) (Contains-one (offer symbol.Uninit) e m) (record {
       parent = refl;
       goes = (λ w. absurd (omega arith), λ w. refl);
       source = ap (λ (z : List ℕ). source_step A src dst z symbol.Uninit) (sym ps);
       target = ap (λ (z : List ℕ). target_step A src dst z symbol.Uninit) (sym pd);
     });
-    rising = (λ f m. absurd (none_among m), tt);
+    rising = (λ f m. absurd (Contains-none _ m), tt);
     covers = λ d g.
         let u : d ≡ cell.Uninit = g.1 l in (
           offer symbol.Uninit,
-          here,
+          here [],
           subst (λ (z : Cell). source_step A src dst from symbol.Uninit ≡ source_step A src dst p.src (symbol_of z)) (sym u) (ap (λ (z : List ℕ). source_step A src dst z symbol.Uninit) (sym ps)),
           subst (λ (z : Cell). target_step A src dst to symbol.Uninit ≡ target_step A src dst p.dst (symbol_of z)) (sym u) (ap (λ (z : List ℕ). target_step A src dst z symbol.Uninit) (sym pd)),
           subst (λ (z : Cell). cell_less z cell.Uninit ≡ false) (sym u) refl,

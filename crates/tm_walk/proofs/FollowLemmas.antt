@@ -1,5 +1,5 @@
 -- What follows from obligations of one target set, by symbols and by cells.
-use Rattle.std.proofs.Common.{◌≡◌, ℕ, ◌+◌, ◌<◌, ◌≤◌, inl, inr, Bool, true, false, List, [], length, drop, get_or, refl, sym, ap, ◌∙◌, subst, arith}
+use Rattle.std.proofs.Common.{◌≡◌, ℕ, ◌+◌, ◌<◌, ◌≤◌, inl, inr, Bool, true, false, List, [], length, drop, get_or, refl, sym, ap, ◌∙◌, subst, arith, Contains}
 use Rattle.tm_base.specs.declared.cell.Cell.{Cell}
 use Rattle.tm_base.specs.declared.cell.Cell.TheVariants as cell
 use Rattle.tm_base.specs.Transmutes.{is_itself}
@@ -8,7 +8,6 @@ use Rattle.tm_auto.specs.declared.edge.Symbol.{Symbol}
 use Rattle.tm_auto.specs.declared.edge.Symbol.TheVariants as symbol
 use Rattle.tm_auto.specs.Automata.{Automaton}
 use Rattle.tm_auto.specs.Classes.{HasCell, IsFormed, AreClasses}
-use Rattle.tm_auto.specs.Paths.{Among}
 use Rattle.tm_auto.specs.Sets.{next, passes, symbol_of}
 use Rattle.tm_auto.proofs.NextLemmas.{among_from, from_among}
 use Rattle.tm_auto.proofs.StepLemmas.{passes_takes}
@@ -38,7 +37,7 @@ module _ (dst : Automaton) where
 
 pub firsts_are : (src dst : Automaton) (layer : List Obligation) → AreAdded (OfSome (IsFirstOf dst) src.starts) [] layer → AreAdded (IsFirst src dst) [] layer
 firsts_are src dst layer a = added_same _ _ [] layer
-    (λ o (s, m, e). record { state = subst (λ (z : ℕ). Among z src.starts) (sym (ap (λ (z : Obligation). z.state) e)) m; target = ap (λ (z : Obligation). z.target) e })
+    (λ o (s, m, e). record { state = subst (λ (z : ℕ). Contains src.starts z) (sym (ap (λ (z : Obligation). z.state) e)) m; target = ap (λ (z : Obligation). z.target) e })
     (λ o f. (o.state, f.state, λ i. record { state = o.state; target = f.target i }))
     a
 
@@ -67,19 +66,19 @@ stay_turn target os i o l is before between after set e added rest =
 
 -- ---- obligations of one target set
 
-module _ (A : ℕ → ℕ → Bool) (src dst : Automaton) (place : ℕ) (os : List Obligation) (target : List ℕ) (one : (o : Obligation) → Among o os → o.target ≡ target) where
+module _ (A : ℕ → ℕ → Bool) (src dst : Automaton) (place : ℕ) (os : List Obligation) (target : List ℕ) (one : (o : Obligation) → Contains os o → o.target ≡ target) where
   -- behind a symbol of a class, and behind each of its cells
   abbrev behind : Symbol → List ℕ
   behind x = next A dst.edges target x
 
-  behind_own : (o : Obligation) (c : Cell) → Among o os → next A dst.edges o.target (symbol_of c) ≡ behind (symbol_of c)
+  behind_own : (o : Obligation) (c : Cell) → Contains os o → next A dst.edges o.target (symbol_of c) ≡ behind (symbol_of c)
   behind_own o c m = ap (λ (z : List ℕ). next A dst.edges z (symbol_of c)) (one o m)
 
-  module _ (within : place < src.size) (from : List ℕ) (has : (o : Obligation) → Among o os → Among o.state from) (xs : List Symbol) (c : AreClasses src from dst target xs) where
-    here_too : (o : Obligation) (e : Edge) → Among o os → e.from ≡ o.state → Among e.from from
-    here_too o e m f = subst (λ (s : ℕ). Among s from) (sym f) (has o m)
+  module _ (within : place < src.size) (from : List ℕ) (has : (o : Obligation) → Contains os o → Contains from o.state) (xs : List Symbol) (c : AreClasses src from dst target xs) where
+    here_too : (o : Obligation) (e : Edge) → Contains os o → e.from ≡ o.state → Contains from e.from
+    here_too o e m f = subst (λ (s : ℕ). Contains from s) (sym f) (has o m)
 
-    same : (x : Symbol) (d : Cell) → Among x xs → HasCell x d → behind x ≡ behind (symbol_of d)
+    same : (x : Symbol) (d : Cell) → Contains xs x → HasCell x d → behind x ≡ behind (symbol_of d)
     same x d m h = next_same A dst.edges target x (symbol_of d) (λ e em ef. c.alike A x d e m h (inr (em, ef)))
 
     by_symbol : (p : Obligation) → OfSome (λ x. FollowsGroup src x (behind x) os) xs p → FollowsSome A src dst place os p

@@ -1,10 +1,11 @@
 -- Obligations that imply one another, and antichains of them.
-use Rattle.std.proofs.Common.{◌≡◌, inl, inr, Bool, true, false, not, filter, List, [], ◌∷◌, ◌++◌, refl, ◌∙◌, eq-eqb}
+use Rattle.std.proofs.Common.{◌≡◌, inl, inr, Bool, true, false, not, filter, List, [], ◌∷◌, ◌++◌, refl, ◌∙◌, eq-eqb, Contains, ap, subst}
 use Rattle.std.specs.Prelude.{◌==◌}
 use Rattle.std.specs.List.{list_any}
 use Rattle.std.proofs.lemmas.Bool.{and_from}
-use Rattle.tm_auto.specs.Paths.{Among, here, there}
-use Rattle.tm_auto.proofs.AmongLemmas.{among_either, none_among}
+use Rattle.std.proofs.lemmas.List.Elements.{Contains-append_cases}
+use Rattle.tm_base.proofs.JudgedLemmas.{Contains-none, Contains-one}
+use Rattle.tm_auto.proofs.ContainsLemmas.{here, there, first_or_later, each_of}
 use Rattle.tm_auto.proofs.SetLemmas.{bool_cases, same_at}
 use Rattle.tm_auto.proofs.StepLemmas.{both_true}
 use Rattle.tm_walk.specs.declared.obligation.Obligation.{Obligation}
@@ -13,41 +14,35 @@ use Rattle.tm_walk.proofs.WithinLemmas.{AreOf, within_to, to_within}
 
 -- ---- lists and tests
 
-pub any_to : {X : Type 0} (test : X → Bool) (xs : List X) → list_any test xs ≡ true → (x : X) × Among x xs × (test x ≡ true)
+pub any_to : {X : Type 0} (test : X → Bool) (xs : List X) → list_any test xs ≡ true → (x : X) × Contains xs x × (test x ≡ true)
 any_to test [] e = cc
 any_to test (x ∷ xs) e = elim (bool_cases (test x)) [
-  | inl a ↦ (x, here, a)
-  | inr a ↦ (let (y, m, h) = any_to test xs (rw a at e) in (y, there m, h))
+  | inl a ↦ (x, here _, a)
+  | inr a ↦ (let (y, m, h) = any_to test xs (rw a at e) in (y, there _ _ m, h))
 ]
 
-either : {X : Type 0} (test : X → Bool) (y : X) (xs : List X) (x : X) → Among x (y ∷ xs) → test y ≡ false → (Among x xs → test x ≡ false) → test x ≡ false
-either test y xs x here a f = a
-either test y xs x (there m) a f = f m
-
-pub none_of : {X : Type 0} (test : X → Bool) (xs : List X) → list_any test xs ≡ false → (x : X) → Among x xs → test x ≡ false
-none_of test [] e x m = elim m [ ]
+pub none_of : {X : Type 0} (test : X → Bool) (xs : List X) → list_any test xs ≡ false → (x : X) → Contains xs x → test x ≡ false
+none_of test [] e x m = absurd (Contains-none _ m)
 none_of test (y ∷ xs) e x m = elim (bool_cases (test y)) [
   | inl a ↦ (let z = rw a at e in cc)
-  | inr a ↦ either test y xs x m a (λ n. none_of test xs (rw a at e) x n)
+  | inr a ↦ each_of (λ z. test z ≡ false) y xs m a (λ n. none_of test xs (rw a at e) x n)
 ]
 
-own : {X : Type 0} (test : X → Bool) (y : X) (ys xs : List X) (x : X) → test y ≡ true → Among x (y ∷ ys) → (Among x ys → Among x xs × (test x ≡ true)) → Among x (y ∷ xs) × (test x ≡ true)
-own test y ys xs x a here f = (here, a)
-own test y ys xs x a (there n) f = let (k, h) = f n in (there k, h)
+own : {X : Type 0} (test : X → Bool) (y : X) (ys xs : List X) (x : X) → test y ≡ true → Contains (y ∷ ys) x → (Contains ys x → Contains xs x × (test x ≡ true)) → Contains (y ∷ xs) x × (test x ≡ true)
+own test y ys xs x a m f = elim (first_or_later _ _ m) [ inl e ↦ rw e (here _, a) | inr n ↦ (let (k, h) = f n in (there _ _ k, h)) ]
 
-pub from_filter : {X : Type 0} (test : X → Bool) (xs : List X) (x : X) → Among x (filter test xs) → Among x xs × (test x ≡ true)
-from_filter test [] x m = elim m [ ]
+pub from_filter : {X : Type 0} (test : X → Bool) (xs : List X) (x : X) → Contains (filter test xs) x → Contains xs x × (test x ≡ true)
+from_filter test [] x m = absurd (Contains-none _ m)
 from_filter test (y ∷ xs) x m = elim (bool_cases (test y)) [
   | inl a ↦ own test y (filter test xs) xs x a (rw a at m) (λ n. from_filter test xs x n)
-  | inr a ↦ (let (n, h) = from_filter test xs x (rw a at m) in (there n, h))
+  | inr a ↦ (let (n, h) = from_filter test xs x (rw a at m) in (there _ _ n, h))
 ]
 
-pub to_filter : {X : Type 0} (test : X → Bool) (xs : List X) (x : X) → Among x xs → test x ≡ true → Among x (filter test xs)
-to_filter test [] x m h = elim m [ ]
-to_filter test (y ∷ xs) x here h = rw h here
-to_filter test (y ∷ xs) x (there m) h = elim (bool_cases (test y)) [
-  | inl a ↦ rw a (there (to_filter test xs x m h))
-  | inr a ↦ rw a (to_filter test xs x m h)
+pub to_filter : {X : Type 0} (test : X → Bool) (xs : List X) (x : X) → Contains xs x → test x ≡ true → Contains (filter test xs) x
+to_filter test [] x m h = absurd (Contains-none _ m)
+to_filter test (y ∷ xs) x m h = elim (bool_cases (test y)) [
+  | inl a ↦ rw a (elim (first_or_later _ _ m) [ inl e ↦ rw e (here _) | inr n ↦ there _ _ (to_filter test xs x n h) ])
+  | inr a ↦ rw a (elim (first_or_later _ _ m) [ inl e ↦ (let z = ap test e in cc) | inr n ↦ to_filter test xs x n h ])
 ]
 
 -- ---- what implies what
@@ -76,16 +71,12 @@ antichain_filter test (o ∷ os) h = elim (bool_cases (test o)) [
   | inr a ↦ rw a (antichain_filter test os h.1)
 ]
 
-antichain_more : (os : List Obligation) (o : Obligation) → IsAntichain os → ((p : Obligation) → Among p os → (implies p o ≡ false) × (implies o p ≡ false)) → IsAntichain (os ++ o ∷ [])
-antichain_more [] o h f = (λ p m. absurd (none_among m), tt)
+antichain_more : (os : List Obligation) (o : Obligation) → IsAntichain os → ((p : Obligation) → Contains os p → (implies p o ≡ false) × (implies o p ≡ false)) → IsAntichain (os ++ o ∷ [])
+antichain_more [] o h f = (λ p m. absurd (Contains-none _ m), tt)
 antichain_more (x ∷ os) o h f = (
-  λ p m. elim (among_either os (o ∷ []) m) [ inl n ↦ h.0 p n | inr n ↦ last p n ],
-  antichain_more os o h.1 (λ p m. f p (there m)),
+  λ p m. elim (Contains-append_cases os (o ∷ []) _ m) [ inl n ↦ h.0 p n | inr n ↦ subst (λ (q : Obligation). (implies x q ≡ false) × (implies q x ≡ false)) (Contains-one o p n) (f x (here _)) ],
+  antichain_more os o h.1 (λ p m. f p (there _ _ m)),
 )
-  where
-    last : (p : Obligation) → Among p (o ∷ []) → (implies x p ≡ false) × (implies p x ≡ false)
-    last p here = f x here
-    last p (there n) = elim n [ ]
 
 pub antichain_last : (os : List Obligation) (o : Obligation) → IsAntichain os → list_any (implied_by o) os ≡ false → IsAntichain (filter (λ p. not (implies o p)) os ++ o ∷ [])
 antichain_last os o h e = antichain_more (filter (λ p. not (implies o p)) os) o (antichain_filter (λ p. not (implies o p)) os h) (λ p m.

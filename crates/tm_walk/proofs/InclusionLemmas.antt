@@ -1,17 +1,18 @@
 -- What a layer of obligations says of source words, and what the last one answers.
-use Rattle.std.proofs.Common.{◌≡◌, ◌≢◌, ℕ, suc, ◌+◌, ◌<◌, ◌≤◌, inl, inr, ◌↔◌, Bool, true, false, not, IsTrue, List, [], ◌∷◌, length, drop, refl, sym, ap, ◌∙◌, subst, arith}
+use Rattle.std.proofs.Common.{◌≡◌, ◌≢◌, ℕ, suc, ◌+◌, ◌<◌, ◌≤◌, inl, inr, ◌↔◌, Bool, true, false, not, IsTrue, List, [], ◌∷◌, length, drop, refl, sym, ap, ◌∙◌, subst, arith, Contains}
 use Rattle.std.specs.List.{list_any}
 use Rattle.std.proofs.lemmas.Bool.{cases_lt}
 use Rattle.std.proofs.lemmas.List.{drop_more, drop_all}
 use Rattle.tm_base.specs.declared.cell.Cell.TheVariants.{Uninit}
 use Rattle.tm_base.specs.Cells.{Word}
 use Rattle.tm_base.specs.Transmutes.{holds, is_itself}
+use Rattle.tm_base.proofs.JudgedLemmas.{Contains-none}
 use Rattle.tm_auto.specs.declared.edge.Edge.{Edge}
 use Rattle.tm_auto.specs.declared.edge.Symbol.{Symbol}
 use Rattle.tm_auto.specs.Automata.{Automaton, IsAutomaton, ReadsWords, reached}
-use Rattle.tm_auto.specs.Paths.{Among, Spells}
+use Rattle.tm_auto.specs.Paths.{Spells}
 use Rattle.tm_auto.specs.Sets.{next, symbol_of}
-use Rattle.tm_auto.proofs.AmongLemmas.{none_among, some_among}
+use Rattle.tm_auto.proofs.ContainsLemmas.{some_among}
 use Rattle.tm_auto.proofs.StepLemmas.{next_to, to_next}
 use Rattle.tm_walk.specs.declared.obligation.Obligation.{Obligation}
 use Rattle.tm_walk.specs.Layers.{is_live}
@@ -29,7 +30,7 @@ use Rattle.tm_walk.proofs.WithinLemmas.{AreOf}
 next_more : (A : ℕ → ℕ → Bool) (es : List Edge) (from more : List ℕ) (x : Symbol) → AreOf from more → AreOf (next A es from x) (next A es more x)
 next_more A es from more x f s m =
     let (e, ea, ef, ep, eq) = next_to A es from x s m in
-    subst (λ (z : ℕ). Among z (next A es more x)) eq (to_next A es more x e ea (f e.from ef) ep)
+    subst (λ (z : ℕ). Contains (next A es more x) z) eq (to_next A es more x e ea (f e.from ef) ep)
 
 module _ (A : ℕ → ℕ → Bool) (src dst : Automaton) where
   -- the rest of a source word leads from the state to the end, and what its cells before reach in the target meets it
@@ -39,8 +40,8 @@ module _ (A : ℕ → ℕ → Bool) (src dst : Automaton) where
 
   -- each obligation is some word's, and each word has one
   pub record IsLayer (place : ℕ) (layer : List Obligation) : Type 0 where
-    pub sound : (o : Obligation) → Among o layer → IsSound A src dst place o
-    pub complete : (w : Word) → IsSourceWord src w → (o : Obligation) × Among o layer × IsMet place w o
+    pub sound : (o : Obligation) → Contains layer o → IsSound A src dst place o
+    pub complete : (w : Word) → IsSourceWord src w → (o : Obligation) × Contains layer o × IsMet place w o
 
 module _ (A : ℕ → ℕ → Bool) (src dst : Automaton) (hs : IsAutomaton src) (rs : ReadsWords src) (hd : IsAutomaton dst) (rd : ReadsWords dst) where
   abbrev Layer : ℕ → List Obligation → Type 0
@@ -48,7 +49,7 @@ module _ (A : ℕ → ℕ → Bool) (src dst : Automaton) (hs : IsAutomaton src)
 
   pub first_layer : (layer : List Obligation) → AreAdded (IsFirst src dst) [] layer → Layer 0 layer
   first_layer layer a = record {
-    sound = λ o m. elim (a.from o m) [ inl n ↦ absurd (none_among n) | inr f ↦ first_sound A src dst hs rs hd rd o f ];
+    sound = λ o m. elim (a.from o m) [ inl n ↦ absurd (Contains-none _ n) | inr f ↦ first_sound A src dst hs rs hd rd o f ];
     complete = λ w word.
         let s = word.reaches.state in
         let o : Obligation = record { state = s; target = dst.starts } in
@@ -86,7 +87,7 @@ module _ (A : ℕ → ℕ → Bool) (src dst : Automaton) (hs : IsAutomaton src)
 
   pub next_layer : (place : ℕ) (layer after : List Obligation) → Layer place layer → AreAdded (FollowsSome A src dst place layer) [] after → Layer (place + 1) after
   next_layer place layer after i a = let more : suc place ≡ place + 1 = omega arith in subst (λ (n : ℕ). Layer n after) more (record {
-    sound = λ p m. elim (a.from p m) [ inl n ↦ absurd (none_among n) | inr (o, n, f) ↦ next_sound A src dst hs rs hd rd place o p (i.sound o n) f ];
+    sound = λ p m. elim (a.from p m) [ inl n ↦ absurd (Contains-none _ n) | inr (o, n, f) ↦ next_sound A src dst hs rs hd rd place o p (i.sound o n) f ];
     complete = λ w word.
         let (o, n, met) = i.complete w word in
         let (p, f, more) = next_met place w o word met in
@@ -119,7 +120,7 @@ module _ (A : ℕ → ℕ → Bool) (src dst : Automaton) (hs : IsAutomaton src)
       let (o, m, meets) = i.complete w word in
       let h = none_of is_refused layer e o m in
       let (s, n) = some_among o.target (λ none. (let z : not (is_live o.target) ≡ true = ap (λ (xs : List ℕ). not (is_live xs)) none in cc)) in
-      let some : reached A dst (padded w dst.size) ≢ [] = λ none. none_among (subst (λ (z : List ℕ). Among s z) none (meets.target s n)) in
+      let some : reached A dst (padded w dst.size) ≢ [] = λ none. Contains-none _ (subst (λ (z : List ℕ). Contains z s) none (meets.target s n)) in
       viable_fits A src dst hs hd rd w word ((tells_live A src dst hs hd rd w word dst.size (omega arith)).0 ((live_some (reached A dst (padded w dst.size))).1 some))
 
   -- the answer at the target's end

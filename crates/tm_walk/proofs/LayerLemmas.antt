@@ -1,8 +1,8 @@
 -- Layers of one pair.
-use Rattle.std.proofs.Common.{Result, Ok, Err, IfOk, ◌≡◌, ℕ, zero, suc, ◌<◌, inl, inr, Option, None, List, [], ◌∷◌, ◌++◌, Some, slice_get, length, refl, ap, ◌∙◌, subst, arith}
+use Rattle.std.proofs.Common.{Result, Ok, Err, IfOk, ◌≡◌, ℕ, zero, suc, ◌<◌, inl, inr, Option, None, List, [], ◌∷◌, ◌++◌, Some, slice_get, length, refl, ap, ◌∙◌, subst, arith, Contains}
 use Rattle.std.specs.Result.{IsErrAnd}
-use Rattle.tm_auto.specs.Paths.{Among, here}
-use Rattle.tm_auto.proofs.AmongLemmas.{none_among}
+use Rattle.tm_base.proofs.JudgedLemmas.{Contains-none}
+use Rattle.tm_auto.proofs.ContainsLemmas.{here}
 use Rattle.tm_walk.specs.declared.way.Reached.{Reached}
 use Rattle.tm_walk.specs.Layers.{Entry, IsOffered}
 use Rattle.tm_walk.specs.Numbers.{reached_entry, only_or}
@@ -14,11 +14,11 @@ only_at only (suc k) l = absurd (omega arith)
 
 -- one of its sets isn't put behind it
 pub offered_again : (only : Option Reached) (first : Reached) (several : List Entry) (e : Entry) → only ≡ Some first → first.src ≡ e.src → first.dst ≡ e.dst → IsOffered e (only_or only several) (reached_entry first ∷ [])
-offered_again only first several e is s d = rw is (inl ((reached_entry first, here, (s, d)), refl))
+offered_again only first several e is s d = rw is (inl ((reached_entry first, here [], (s, d)), refl))
 
 -- one is put behind another, from nothing on
 pub offered_both : (first second : Entry) (none one two : List Entry) → none ≡ [] → IsOffered first none one → IsOffered second one two → IsOffered second (first ∷ []) two
-offered_both first second none one two empty (inl ((f, m, s), q)) o = absurd (none_among (subst (λ (z : List Entry). Among f z) empty m))
+offered_both first second none one two empty (inl ((f, m, s), q)) o = absurd (Contains-none _ (subst (λ (z : List Entry). Contains z f) empty m))
 offered_both first second none one two empty (inr (q, n)) o = subst (λ (z : List Entry). IsOffered second z two) (q ∙ ap (λ (z : List Entry). z ++ first ∷ []) empty) o
 
 -- one of other sets is put behind it, in several

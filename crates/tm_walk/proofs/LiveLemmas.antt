@@ -3,11 +3,12 @@ use Rattle.std.proofs.Common.{◌≡◌, ◌≢◌, ℕ, zero, suc, ◌+◌, ◌
 use Rattle.std.proofs.lemmas.List.{drop_more, drop_all}
 use Rattle.tm_base.specs.declared.cell.Cell.{Cell}
 use Rattle.tm_base.specs.Cells.{Word}
+use Rattle.tm_base.proofs.JudgedLemmas.{Contains-none}
 use Rattle.tm_auto.specs.declared.edge.Edge.{Edge}
 use Rattle.tm_auto.specs.declared.edge.Symbol.{Symbol}
 use Rattle.tm_auto.specs.Automata.{Automaton, IsStep}
 use Rattle.tm_auto.specs.Sets.{next, symbol_of, reached_from}
-use Rattle.tm_auto.proofs.AmongLemmas.{none_or_some, some_among}
+use Rattle.tm_auto.proofs.ContainsLemmas.{some_among, none_or_some}
 use Rattle.tm_auto.proofs.SetLemmas.{bool_cases}
 use Rattle.tm_auto.proofs.StepLemmas.{next_to}
 use Rattle.tm_walk.specs.Layers.{is_live}
@@ -17,7 +18,7 @@ use Rattle.tm_walk.proofs.ExpandLemmas.{step_is}
 next_nothing : (A : ℕ → ℕ → Bool) (es : List Edge) (x : Symbol) → next A es [] x ≡ []
 next_nothing A es x = elim (none_or_some (next A es [] x)) [
   | inl e ↦ e
-  | inr n ↦ (let (s, m) = some_among _ n in let (e, ea, ef, ep, eq) = next_to A es [] x s m in elim ef [ ])
+  | inr n ↦ (let (s, m) = some_among _ n in let (e, ea, ef, ep, eq) = next_to A es [] x s m in absurd (Contains-none _ ef))
 ]
 
 module _ (A : ℕ → ℕ → Bool) (auto : Automaton) where

@@ -1,15 +1,15 @@
 -- One pair after the other is expanded into the next layer.
-use Rattle.std.proofs.Common.{◌≡◌, ℕ, zero, suc, ◌+◌, ◌<◌, ◌≤◌, inl, inr, Bool, true, false, List, [], ◌∷◌, ◌++◌, length, take, Some, Result, Ok, Err, OnOk, slice_get, add-one, refl, sym, ap, ◌∙◌, subst, arith}
+use Rattle.std.proofs.Common.{◌≡◌, ℕ, zero, suc, ◌+◌, ◌<◌, ◌≤◌, inl, inr, Bool, true, false, List, [], ◌∷◌, ◌++◌, length, take, Some, Result, Ok, Err, OnOk, slice_get, add-one, refl, sym, ap, ◌∙◌, subst, arith, Contains}
 use Rattle.std.proofs.lemmas.Bool.{cases_lt}
 use Rattle.std.proofs.lemmas.Option.{same_Some}
+use Rattle.std.proofs.lemmas.List.Elements.{Contains-append_left, Contains-append_right, Contains-append_cases}
 use Rattle.tm_base.specs.declared.cell.Cell.{Cell}
 use Rattle.tm_base.specs.Orders.{cell_less}
 use Rattle.tm_base.proofs.OrderLemmas.{cell_less-total, cell_less-trans, cell_less-asym}
+use Rattle.tm_base.proofs.JudgedLemmas.{Contains-none}
 use Rattle.tm_auto.specs.declared.edge.Symbol.{Symbol}
 use Rattle.tm_auto.specs.Automata.{Automaton, AreStates}
-use Rattle.tm_auto.specs.Paths.{Among}
 use Rattle.tm_auto.specs.Sets.{symbol_of}
-use Rattle.tm_auto.proofs.AmongLemmas.{among_left, among_right, among_either, none_among}
 use Rattle.tm_auto.proofs.SetLemmas.{bool_cases}
 use Rattle.tm_walk.specs.Layers.{is_live, IsFirstStop, weight, weights, weight_at, Entry, HasStates, AreSymbols, offers, AreOffered, source_step, target_step, Goes, IsStepFrom, AreStepsFrom, IsExpanded, IsReached, IsNext}
 use Rattle.tm_walk.proofs.ExpandLemmas.{steps_are}
@@ -29,15 +29,15 @@ not_less_trans c d e a b = elim (bool_cases (cell_less c e)) [
 module _ (A : ℕ → ℕ → Bool) (src dst : Automaton) (skip : Bool → Bool) (place : ℕ) (layer : List Entry) where
   pub next_none : IsNext A src dst skip place layer 0 []
   next_none = record {
-    from = λ e m. absurd (none_among m);
-    before = λ e m. absurd (none_among m);
+    from = λ e m. absurd (Contains-none _ m);
+    before = λ e m. absurd (Contains-none _ m);
     rising = tt;
     apart = tt;
     done = λ k x c l. absurd (omega arith);
   }
 
   reached_left : (next more : List Entry) (x : Entry) (k : ℕ) (c : Cell) → IsReached A src dst skip place layer next x k c → IsReached A src dst skip place layer (next ++ more) x k c
-  reached_left next more x k c r = record { entry = r.entry; among = among_left more r.among; source = r.source; target = r.target; early = r.early }
+  reached_left next more x k c r = record { entry = r.entry; among = Contains-append_left _ more _ r.among; source = r.source; target = r.target; early = r.early }
 
   -- a skipped pair makes nothing
   next_skipped : (n : ℕ) (next : List Entry) (p : Entry) → IsNext A src dst skip place layer n next → slice_get layer n ≡ Some p → skip (is_live p.dst) ≡ true → IsNext A src dst skip place layer (n + 1) next
@@ -58,12 +58,12 @@ module _ (A : ℕ → ℕ → Bool) (src dst : Automaton) (skip : Bool → Bool)
 
   module _ (n : ℕ) (next after : List Entry) (p : Entry) (i : IsNext A src dst skip place layer n next) (at : slice_get layer n ≡ Some p) (goes_on : skip (is_live p.dst) ≡ false)
       (es : List Entry) (s : AreStepsFrom A src dst place p n es) (offered : AreOffered es next after) where
-    new_parent : (k : Keeps es next after) (e : Entry) → Among e k.more → e.parent ≡ n
+    new_parent : (k : Keeps es next after) (e : Entry) → Contains k.more e → e.parent ≡ n
     new_parent k e m = (s.each e (k.from e m)).parent
 
     next_grown : (k : Keeps es next after) → IsNext A src dst skip place layer (n + 1) (next ++ k.more)
     next_grown k = record {
-      from = λ e m. elim (among_either next k.more m) [
+      from = λ e m. elim (Contains-append_cases next k.more _ m) [
         | inl a ↦ i.from e a
         | inr a ↦ (
             let q = new_parent k e a in
@@ -74,7 +74,7 @@ module _ (A : ℕ → ℕ → Bool) (src dst : Automaton) (skip : Bool → Bool)
               step = subst (λ (z : ℕ). IsStepFrom A src dst place p z e) (sym q) (s.each e (k.from e a));
             })
       ];
-      before = λ e m. elim (among_either next k.more m) [
+      before = λ e m. elim (Contains-append_cases next k.more _ m) [
         | inl a ↦ (let b = i.before e a in omega arith)
         | inr a ↦ (let q = new_parent k e a in omega arith)
       ];
@@ -90,7 +90,7 @@ module _ (A : ℕ → ℕ → Bool) (src dst : Automaton) (skip : Bool → Bool)
             let parent : o.parent ≡ n = (s.each o om).parent in
             record {
               entry = h.entry;
-              among = elim h.where_ [ inl b ↦ among_left k.more b | inr b ↦ among_right next b.0 ];
+              among = elim h.where_ [ inl b ↦ Contains-append_left _ k.more _ b | inr b ↦ Contains-append_right next _ _ b.0 ];
               source = h.same.0 ∙ os ∙ ap (λ (y : Entry). source_step A src dst y.src (symbol_of c)) (sym same);
               target = h.same.1 ∙ od ∙ ap (λ (y : Entry). target_step A src dst y.dst (symbol_of c)) (sym same);
               early = elim h.where_ [
@@ -159,10 +159,10 @@ module _ (skip : Bool → Bool) (layer : List Entry) (k : ℕ) (from to : List �
       weight_at-entry skip layer k x at ∙ rw z refl
 
   module _ (A : ℕ → ℕ → Bool) (src dst : Automaton) where
-    pub read_source : ((e : Entry) → Among e layer → HasStates A src dst e) → AreStates src from
+    pub read_source : ((e : Entry) → Contains layer e → HasStates A src dst e) → AreStates src from
     read_source all = let (x, at, s, d) = read in subst (AreStates src) (sym s) (all x (get_among layer k x at)).0
 
-    pub read_target : ((e : Entry) → Among e layer → HasStates A src dst e) → AreStates dst to
+    pub read_target : ((e : Entry) → Contains layer e → HasStates A src dst e) → AreStates dst to
     read_target all = let (x, at, s, d) = read in subst (AreStates dst) (sym d) (all x (get_among layer k x at)).1
 
     pub skipped_expanded : (place : ℕ) (skipped : Bool) → skipped ≡ skip (is_live to) → skipped ≡ true → (next : List Entry) → IsExpanded A src dst skip place layer k next next

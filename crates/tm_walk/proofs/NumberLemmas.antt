@@ -1,13 +1,15 @@
 -- What an index of sets says of the number of a set.
-use Rattle.std.proofs.Common.{◌≡◌, ℕ, zero, suc, ◌+◌, ◌<◌, ◌⊎◌, inl, inr, Bool, true, false, cond, List, [], ◌∷◌, ◌++◌, map, length, Some, None, slice_get, position, refl, sym, ap, ◌∙◌, subst, arith, lt-ltb, nat_lt, nat_eq}
+use Rattle.std.proofs.Common.{◌≡◌, ℕ, zero, suc, ◌+◌, ◌<◌, ◌⊎◌, inl, inr, Bool, true, false, cond, List, [], ◌∷◌, ◌++◌, map, length, Some, None, slice_get, position, refl, sym, ap, ◌∙◌, subst, arith, lt-ltb, nat_lt, nat_eq, Contains}
 use Rattle.std.specs.Global.{Vec}
 use Rattle.std.specs.List.{position_or_len}
 use Rattle.std.specs.Map.{keys_of}
 use Rattle.std.specs.Cmp.Lexicographic.{pointwise}
 use Rattle.std.proofs.lemmas.Slice.Eq.{bytes_eq-Decides}
+use Rattle.std.proofs.lemmas.List.Elements.{Contains-append_cases}
+use Rattle.std.proofs.lemmas.Option.{slice_get-get_or, get_or_from_slice_get, slice_get_within}
+use Rattle.tm_base.proofs.JudgedLemmas.{Contains-none, Contains-one}
 use Rattle.indexmap.specs.IndexMap.{insert_entry}
-use Rattle.tm_auto.specs.Paths.{Among, here, there}
-use Rattle.tm_auto.proofs.AmongLemmas.{among_either, none_among}
+use Rattle.tm_auto.proofs.ContainsLemmas.{here, there, first_or_later, each_of}
 use Rattle.tm_walk.specs.Numbers.{Row, sets_of, AreNumbered}
 
 either : (b : Bool) → (b ≡ true) ⊎ (b ≡ false)
@@ -16,15 +18,11 @@ either false = inr refl
 
 -- ---- places in lists
 
-pub get_among : {X : Type 0} (xs : List X) (i : ℕ) (x : X) → slice_get xs i ≡ Some x → Among x xs
-get_among [] i x h = cc
-get_among (y ∷ xs) zero x h = let e : y ≡ x = cc in subst (λ z. Among z (y ∷ xs)) e here
-get_among (y ∷ xs) (suc i) x h = there (get_among xs i x h)
+pub get_among : {X : Type 0} (xs : List X) (i : ℕ) (x : X) → slice_get xs i ≡ Some x → Contains xs x
+get_among xs i x h = (i, slice_get_within xs i x h, get_or_from_slice_get xs i x x h)
 
-pub among_get : {X : Type 0} (xs : List X) (x : X) → Among x xs → (i : ℕ) × (slice_get xs i ≡ Some x)
-among_get [] x h = elim h [ ]
-among_get (y ∷ xs) x here = (0, refl)
-among_get (y ∷ xs) x (there h) = let (i, e) = among_get xs x h in (suc i, e)
+pub among_get : {X : Type 0} (xs : List X) (x : X) → Contains xs x → (i : ℕ) × (slice_get xs i ≡ Some x)
+among_get {X} xs x (i, below, e) = (i, slice_get-get_or xs i x below ∙ ap (λ (z : X). Some z) e)
 
 pub get_map : {X Y : Type 0} (f : X → Y) (xs : List X) (i : ℕ) (x : X) → slice_get xs i ≡ Some x → slice_get (map f xs) i ≡ Some (f x)
 get_map f [] i x h = cc
@@ -36,30 +34,28 @@ get_unmap f [] i y h = cc
 get_unmap f (x ∷ xs) zero y h = (x, refl, cc)
 get_unmap f (x ∷ xs) (suc i) y h = get_unmap f xs i y h
 
-pub among_map : {X Y : Type 0} (f : X → Y) (xs : List X) (x : X) → Among x xs → Among (f x) (map f xs)
-among_map f [] x h = elim h [ ]
-among_map f (y ∷ xs) x here = here
-among_map f (y ∷ xs) x (there h) = there (among_map f xs x h)
+pub among_map : {X Y : Type 0} (f : X → Y) (xs : List X) (x : X) → Contains xs x → Contains (map f xs) (f x)
+among_map f [] x h = absurd (Contains-none _ h)
+among_map f (y ∷ xs) x h = elim (first_or_later _ _ h) [ inl e ↦ rw e (here _) | inr n ↦ there _ _ (among_map f xs x n) ]
 
-pub among_unmap : {X Y : Type 0} (f : X → Y) (xs : List X) (y : Y) → Among y (map f xs) → (x : X) × Among x xs × (f x ≡ y)
-among_unmap f [] y h = elim h [ ]
-among_unmap {X} {Y} f (x ∷ xs) y h = by (f x) (map f xs) y h refl refl (among_unmap f xs y)
-  where
-    by : (z : Y) (zs : List Y) (y : Y) → Among y (z ∷ zs) → z ≡ f x → zs ≡ map f xs → (Among y (map f xs) → (x : X) × Among x xs × (f x ≡ y)) → (w : X) × Among w (x ∷ xs) × (f w ≡ y)
-    by z zs y here e q rest = (x, here, sym e)
-    by z zs y (there h) e q rest = let (w, m, r) = rest (subst (λ l. Among y l) q h) in (w, there m, r)
+pub among_unmap : {X Y : Type 0} (f : X → Y) (xs : List X) (y : Y) → Contains (map f xs) y → (x : X) × Contains xs x × (f x ≡ y)
+among_unmap f [] y h = absurd (Contains-none _ h)
+among_unmap f (x ∷ xs) y h = elim (first_or_later (f x) (map f xs) h) [
+  | inl e ↦ (x, here _, sym e)
+  | inr n ↦ (let (w, m, r) = among_unmap f xs y n in (w, there _ _ m, r))
+]
 
 -- ---- entries by a test of their keys
 
 module _ {K X : Type 0} (test : K → Bool) where
-  place_within : (es : List (K × X)) (e : K × X) → Among e es → test e.0 ≡ true → position_or_len test (keys_of es) < length (keys_of es)
-  place_within [] e m h = elim m [ ]
-  place_within (f ∷ es) e here h = rw h (omega arith)
-  place_within (f ∷ es) e (there m) h =
-      let rest = place_within es e m h in
-      elim (either (test f.0)) [ inl a ↦ rw a (omega arith) | inr a ↦ rw a (omega arith) ]
+  place_within : (es : List (K × X)) (e : K × X) → Contains es e → test e.0 ≡ true → position_or_len test (keys_of es) < length (keys_of es)
+  place_within [] e m h = absurd (Contains-none _ m)
+  place_within (f ∷ es) e m h = elim (either (test f.0)) [
+    | inl a ↦ rw a (omega arith)
+    | inr a ↦ rw a (elim (first_or_later _ _ m) [ inl q ↦ (let z = ap (λ (d : K × X). test d.0) q in cc) | inr n ↦ (let rest = place_within es e n h in omega arith) ])
+  ]
 
-  pub none_passes : (es : List (K × X)) → position test (keys_of es) ≡ None → (e : K × X) → Among e es → test e.0 ≡ false
+  pub none_passes : (es : List (K × X)) → position test (keys_of es) ≡ None → (e : K × X) → Contains es e → test e.0 ≡ false
   none_passes es none e m = elim (either (test e.0)) [
     | inr a ↦ a
     | inl a ↦ (let w = lt-ltb _ _ (place_within es e m a) in let z = rw w at none in cc)
@@ -88,42 +84,37 @@ module _ {K X : Type 0} (test : K → Bool) where
           ltb_true a b h = grind arith
 
 -- a key that no entry has goes last
-pub insert_last : {K X : Type 0} (eq : K → K → Bool) (es : List (K × X)) (k : K) (v : X) → ((e : K × X) → Among e es → eq k e.0 ≡ false) → insert_entry eq es k v ≡ es ++ (k, v) ∷ []
+pub insert_last : {K X : Type 0} (eq : K → K → Bool) (es : List (K × X)) (k : K) (v : X) → ((e : K × X) → Contains es e → eq k e.0 ≡ false) → insert_entry eq es k v ≡ es ++ (k, v) ∷ []
 insert_last eq [] k v none = refl
-insert_last {K} {X} eq (e ∷ es) k v none = let a : eq k e.0 ≡ false = none e here in rw a (ap (λ (z : List (K × X)). e ∷ z) (insert_last eq es k v (λ f m. none f (there m))))
+insert_last {K} {X} eq (e ∷ es) k v none = let a : eq k e.0 ≡ false = none e (here _) in rw a (ap (λ (z : List (K × X)). e ∷ z) (insert_last eq es k v (λ f m. none f (there _ _ m))))
 
 -- ---- sets
 
-pub named : (rows : List Row) → AreNumbered rows → (row : Row) → Among row rows → row.0.items ≡ row.1
-named [] n row m = elim m [ ]
-named (x ∷ rows) n row here = n.0
-named (x ∷ rows) n row (there m) = named rows n.2 row m
+pub named : (rows : List Row) → AreNumbered rows → (row : Row) → Contains rows row → row.0.items ≡ row.1
+named [] n row m = absurd (Contains-none _ m)
+named (x ∷ rows) n row m = each_of (λ (r : Row). r.0.items ≡ r.1) x rows m n.0 (λ k. named rows n.2 row k)
 
 pub only_number : (rows : List Row) → AreNumbered rows → (i j : ℕ) (set : List ℕ) → slice_get (sets_of rows) i ≡ Some set → slice_get (sets_of rows) j ≡ Some set → i ≡ j
 only_number [] n i j set a b = cc
 only_number (row ∷ rows) n zero zero set a b = refl
-only_number (row ∷ rows) n zero (suc j) set a b = let e : row.1 ≡ set = cc in absurd (n.1 (subst (λ (z : List ℕ). Among z (sets_of rows)) (sym e) (get_among (sets_of rows) j set b)))
-only_number (row ∷ rows) n (suc i) zero set a b = let e : row.1 ≡ set = cc in absurd (n.1 (subst (λ (z : List ℕ). Among z (sets_of rows)) (sym e) (get_among (sets_of rows) i set a)))
+only_number (row ∷ rows) n zero (suc j) set a b = let e : row.1 ≡ set = cc in absurd (n.1 (subst (λ (z : List ℕ). Contains (sets_of rows) z) (sym e) (get_among (sets_of rows) j set b)))
+only_number (row ∷ rows) n (suc i) zero set a b = let e : row.1 ≡ set = cc in absurd (n.1 (subst (λ (z : List ℕ). Contains (sets_of rows) z) (sym e) (get_among (sets_of rows) i set a)))
 only_number (row ∷ rows) n (suc i) (suc j) set a b = ap suc (only_number rows n.2 i j set a b)
 
 sets_more : (rows : List Row) (row : Row) → sets_of (rows ++ row ∷ []) ≡ sets_of rows ++ row.1 ∷ []
 sets_more [] row = refl
 sets_more (x ∷ rows) row = ap (λ (z : List (List ℕ)). x.1 ∷ z) (sets_more rows row)
 
-pub numbered_more : (rows : List Row) (row : Row) → AreNumbered rows → row.0.items ≡ row.1 → (¬ Among row.1 (sets_of rows)) → AreNumbered (rows ++ row ∷ [])
-numbered_more [] row n e new = (e, λ m. none_among m, tt)
+pub numbered_more : (rows : List Row) (row : Row) → AreNumbered rows → row.0.items ≡ row.1 → (¬ Contains (sets_of rows) row.1) → AreNumbered (rows ++ row ∷ [])
+numbered_more [] row n e new = (e, λ m. Contains-none _ m, tt)
 numbered_more (x ∷ rows) row n e new = (
   n.0,
-  λ m. elim (among_either (sets_of rows) (row.1 ∷ []) (subst (λ (z : List (List ℕ)). Among x.1 z) (sets_more rows row) m)) [
+  λ m. elim (Contains-append_cases (sets_of rows) (row.1 ∷ []) _ (subst (λ (z : List (List ℕ)). Contains z x.1) (sets_more rows row) m)) [
     | inl a ↦ n.1 a
-    | inr a ↦ new (only a)
+    | inr a ↦ new (rw (Contains-one row.1 x.1 a) (here _))
   ],
-  numbered_more rows row n.2 e (λ m. new (there m)),
+  numbered_more rows row n.2 e (λ m. new (there _ _ m)),
 )
-  where
-    only : {y z : List ℕ} {ys : List (List ℕ)} → Among y (z ∷ []) → Among z (y ∷ ys)
-    only here = here
-    only (there h) = elim h [ ]
 
 module _ (rows : List Row) (numbered : AreNumbered rows) (set sought : List ℕ) (same : sought ≡ set) where
   abbrev key_is : Vec ℕ → Bool
@@ -136,7 +127,7 @@ module _ (rows : List Row) (numbered : AreNumbered rows) (set sought : List ℕ)
       let n = named rows numbered row (get_among rows i row at) in
       get_map (λ (r : Row). r.1) rows i row at ∙ ap (λ (z : List ℕ). Some z) (sym n ∙ sym e ∙ same)
 
-  pub number_absent : position key_is (keys_of rows) ≡ None → ¬ Among set (sets_of rows)
+  pub number_absent : position key_is (keys_of rows) ≡ None → ¬ Contains (sets_of rows) set
   number_absent h m =
       let (row, r, e) = among_unmap (λ (r : Row). r.1) rows set m in
       let f = none_passes key_is rows h row r in

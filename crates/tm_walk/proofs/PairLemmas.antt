@@ -1,12 +1,13 @@
 -- What offering a pair of sets to a layer does.
-use Rattle.std.proofs.Common.{◌≡◌, ℕ, ◌<◌, ◌⊎◌, inl, inr, Bool, true, false, ◌&&◌, List, [], ◌∷◌, ◌++◌, map, length, get_or, Some, is_some, slice_get, refl, sym, ap, ◌∙◌, arith, nat_eq, eq-eqb, length-append}
+use Rattle.std.proofs.Common.{◌≡◌, ℕ, ◌<◌, ◌⊎◌, inl, inr, Bool, true, false, ◌&&◌, List, [], ◌∷◌, ◌++◌, map, length, get_or, Some, is_some, slice_get, refl, sym, ap, ◌∙◌, arith, nat_eq, eq-eqb, length-append, Contains, subst}
 use Rattle.std.specs.Map.{lookup}
 use Rattle.std.proofs.lemmas.Bool.{and_from}
 use Rattle.std.proofs.lemmas.List.{get_or_append_left, map-append}
 use Rattle.std.proofs.lemmas.Option.{slice_get-get_or, get_or_from_slice_get, slice_get_within}
+use Rattle.std.proofs.lemmas.List.Elements.{Contains-append_cases}
+use Rattle.tm_base.proofs.JudgedLemmas.{Contains-none, Contains-one}
 use Rattle.indexmap.specs.IndexMap.{insert_entry}
-use Rattle.tm_auto.specs.Paths.{Among, here, there}
-use Rattle.tm_auto.proofs.AmongLemmas.{among_either}
+use Rattle.tm_auto.proofs.ContainsLemmas.{here, there, each_of}
 use Rattle.tm_auto.proofs.SetLemmas.{same_at}
 use Rattle.tm_walk.specs.declared.way.Pair.{Pair}
 use Rattle.tm_walk.specs.declared.way.Way.{Way}
@@ -25,29 +26,25 @@ pair_is a b = nat_eq a.source b.source && nat_eq a.target b.target
 abbrev Rows : Type 0
 Rows = List (Pair × Way)
 
-passes_one : (test : Pair → Bool) (rows : Rows) → is_some (lookup test rows) ≡ true → (row : Pair × Way) × Among row rows × (test row.0 ≡ true)
+passes_one : (test : Pair → Bool) (rows : Rows) → is_some (lookup test rows) ≡ true → (row : Pair × Way) × Contains rows row × (test row.0 ≡ true)
 passes_one test [] h = cc
 passes_one test (row ∷ rows) h = elim (either (test row.0)) [
-  | inl a ↦ (row, here, a)
-  | inr a ↦ (let z = rw a at h in let (r, m, p) = passes_one test rows z in (r, there m, p))
+  | inl a ↦ (row, here _, a)
+  | inr a ↦ (let z = rw a at h in let (r, m, p) = passes_one test rows z in (r, there _ _ m, p))
 ]
 
-passes_none : (test : Pair → Bool) (rows : Rows) → is_some (lookup test rows) ≡ false → (row : Pair × Way) → Among row rows → test row.0 ≡ false
-passes_none test [] h row m = elim m [ ]
+passes_none : (test : Pair → Bool) (rows : Rows) → is_some (lookup test rows) ≡ false → (row : Pair × Way) → Contains rows row → test row.0 ≡ false
+passes_none test [] h row m = absurd (Contains-none _ m)
 passes_none test (x ∷ rows) h row m = elim (either (test x.0)) [
   | inl a ↦ (let z = rw a at h in cc)
-  | inr a ↦ (let z = rw a at h in by x row m a (λ k. passes_none test rows z row k))
+  | inr a ↦ (let z = rw a at h in each_of (λ (y : Pair × Way). test y.0 ≡ false) x rows m a (λ k. passes_none test rows z row k))
 ]
-  where
-    by : {xs : Rows} (x row : Pair × Way) → Among row (x ∷ xs) → test x.0 ≡ false → (Among row xs → test row.0 ≡ false) → test row.0 ≡ false
-    by x row here a f = a
-    by x row (there k) a f = f k
 
-map_same : {X Y : Type 0} (f g : X → Y) (xs : List X) → ((x : X) → Among x xs → f x ≡ g x) → map f xs ≡ map g xs
+map_same : {X Y : Type 0} (f g : X → Y) (xs : List X) → ((x : X) → Contains xs x → f x ≡ g x) → map f xs ≡ map g xs
 map_same f g [] h = refl
 map_same {X} {Y} f g (x ∷ xs) h =
-    let a : f x ≡ g x = h x here in
-    let b : map f xs ≡ map g xs = map_same f g xs (λ y m. h y (there m)) in
+    let a : f x ≡ g x = h x (here _) in
+    let b : map f xs ≡ map g xs = map_same f g xs (λ y m. h y (there _ _ m)) in
     cc
 
 -- sets, with one put last or not
@@ -62,6 +59,11 @@ longer : (before after : List (List ℕ)) (set : List ℕ) → AreGrown before s
 longer before after set (inl e) k l = let z = ap length e in omega arith
 longer before after set (inr e) k l = let z = ap length e ∙ length-append before (set ∷ []) in omega arith
 
+-- numbers of sets stay numbers of sets
+pub still_within : (s0 t0 s1 t1 : List (List ℕ)) (src dst : List ℕ) → AreGrown s0 src s1 → AreGrown t0 dst t1 → (rows : Rows) → AreWithin s0 t0 rows → AreWithin s1 t1 rows
+still_within s0 t0 s1 t1 src dst sources targets rows within row m =
+    let (x, y) = within row m in (longer s0 s1 src sources row.0.source x, longer t0 t1 dst targets row.0.target y)
+
 module _ (s0 t0 s1 t1 : List (List ℕ)) (src dst : List ℕ) (s t : ℕ)
     (sources : AreGrown s0 src s1) (targets : AreGrown t0 dst t1)
     (at_s : slice_get s1 s ≡ Some src) (only_s : (k : ℕ) → slice_get s1 k ≡ Some src → k ≡ s)
@@ -70,7 +72,7 @@ module _ (s0 t0 s1 t1 : List (List ℕ)) (src dst : List ℕ) (s t : ℕ)
   abbrev offered : Pair
   offered = record { source = s; target = t }
 
-  entry_same : (row : Pair × Way) → Among row rows → entry_of s1 t1 row ≡ entry_of s0 t0 row
+  entry_same : (row : Pair × Way) → Contains rows row → entry_of s1 t1 row ≡ entry_of s0 t0 row
   entry_same row m =
       let (a, b) = within row m in
       let x : get_or s1 row.0.source [] ≡ get_or s0 row.0.source [] = kept s0 s1 src sources row.0.source a in
@@ -81,7 +83,7 @@ module _ (s0 t0 s1 t1 : List (List ℕ)) (src dst : List ℕ) (s t : ℕ)
   entries_same = map_same (entry_of s1 t1) (entry_of s0 t0) rows entry_same
 
   -- the row of a pair of these sets has their numbers
-  numbers : (row : Pair × Way) → Among row rows → get_or s0 row.0.source [] ≡ src → get_or t0 row.0.target [] ≡ dst → (row.0.source ≡ s) × (row.0.target ≡ t)
+  numbers : (row : Pair × Way) → Contains rows row → get_or s0 row.0.source [] ≡ src → get_or t0 row.0.target [] ≡ dst → (row.0.source ≡ s) × (row.0.target ≡ t)
   numbers row m a b =
       let (x, y) = within row m in
       let ls = longer s0 s1 src sources row.0.source x in
@@ -112,14 +114,10 @@ module _ (s0 t0 s1 t1 : List (List ℕ)) (src dst : List ℕ) (s t : ℕ)
   last_row h way = insert_last pair_is rows offered way (λ row m. passes_none (pair_is offered) rows h row m)
 
   pub new_within : (way : Way) → AreWithin s1 t1 (rows ++ (offered, way) ∷ [])
-  new_within way row m = elim (among_either rows ((offered, way) ∷ []) m) [
-    | inl k ↦ (let (x, y) = within row k in (longer s0 s1 src sources row.0.source x, longer t0 t1 dst targets row.0.target y))
-    | inr k ↦ last row k
+  new_within way row m = elim (Contains-append_cases rows ((offered, way) ∷ []) _ m) [
+    | inl k ↦ still_within s0 t0 s1 t1 src dst sources targets rows within row k
+    | inr k ↦ subst (λ (r : Pair × Way). (r.0.source < length s1) × (r.0.target < length t1)) (Contains-one (offered, way) row k) (slice_get_within s1 s src at_s, slice_get_within t1 t dst at_t)
   ]
-    where
-      last : (row : Pair × Way) → Among row ((offered, way) ∷ []) → (row.0.source < length s1) × (row.0.target < length t1)
-      last row here = (slice_get_within s1 s src at_s, slice_get_within t1 t dst at_t)
-      last row (there k) = elim k [ ]
 
   pub new_offered : is_some (lookup (pair_is offered) rows) ≡ false → (way : Way) → IsOffered (entry_by src dst way) (entries_of s0 t0 rows) (entries_of s1 t1 (rows ++ (offered, way) ∷ []))
   new_offered h way =

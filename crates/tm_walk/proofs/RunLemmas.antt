@@ -1,9 +1,8 @@
 -- What a walk knows at each place, and what it answers from that.
-use Rattle.std.proofs.Common.{◌≡◌, ◌≢◌, ℕ, ◌+◌, ◌≤◌, Bool, List, [], ◌∷◌, length, map, refl, sym, ap, ◌∙◌, subst, arith}
+use Rattle.std.proofs.Common.{◌≡◌, ◌≢◌, ℕ, ◌+◌, ◌≤◌, Bool, List, [], ◌∷◌, length, map, refl, sym, ap, ◌∙◌, subst, arith, Contains}
 use Rattle.std.specs.Prelude.{◌==◌}
 use Rattle.tm_base.specs.Cells.{Word}
 use Rattle.tm_auto.specs.Automata.{Automaton, IsAutomaton, ReadsWords, HasOneStateALayer}
-use Rattle.tm_auto.specs.Paths.{Among}
 use Rattle.tm_walk.specs.declared.way.Way.{Way}
 use Rattle.tm_walk.specs.Layers.{Entry, IsStart, HasStates, NoneStops, IsFirstStop, IsNext, weights}
 use Rattle.tm_walk.specs.Numbers.{way_of}
@@ -31,7 +30,7 @@ module _ (A : ℕ → ℕ → Bool) (src dst : Automaton) (hs : IsAutomaton src)
   walked_start layer history e s = record { older = []; chained = s; kept = e; long = refl; within = omega arith }
 
   module _ (layer : List Entry) (history : List (List Way)) (place : ℕ) (w : IsWalked A src dst stop skip layer history place) where
-    pub walked_states : (e : Entry) → Among e layer → HasStates A src dst e
+    pub walked_states : (e : Entry) → Contains layer e → HasStates A src dst e
     walked_states = states A src dst hs rs stop skip hd w.older layer w.chained
 
     module _ (at_end : Bool) (end : at_end ≡ (place == dst.size)) where

@@ -1,12 +1,11 @@
 -- An obligation of a layer is some source word's, and so is what follows from it.
-use Rattle.std.proofs.Common.{◌≡◌, ◌≢◌, ℕ, suc, ◌<◌, ◌≤◌, inl, inr, Bool, List, [], ◌∷◌, ◌++◌, length, sym, ap, ◌∙◌, subst, arith, length-append}
+use Rattle.std.proofs.Common.{◌≡◌, ◌≢◌, ℕ, suc, ◌<◌, ◌≤◌, inl, inr, Bool, List, [], ◌∷◌, ◌++◌, length, sym, ap, ◌∙◌, subst, arith, length-append, Contains}
 use Rattle.tm_base.specs.declared.cell.Cell.{Cell}
 use Rattle.tm_base.specs.Cells.{Word}
 use Rattle.tm_base.specs.Transmutes.{is_itself}
+use Rattle.tm_base.proofs.JudgedLemmas.{Contains-none}
 use Rattle.tm_auto.specs.Automata.{Automaton, AreStates, IsAutomaton, ReadsWords, reached}
-use Rattle.tm_auto.specs.Paths.{Among}
 use Rattle.tm_auto.specs.Sets.{next, symbol_of}
-use Rattle.tm_auto.proofs.AmongLemmas.{none_among}
 use Rattle.tm_auto.proofs.NextLemmas.{next_states}
 use Rattle.tm_auto.proofs.StepLemmas.{passes_takes, to_next}
 use Rattle.tm_walk.specs.declared.obligation.Obligation.{Obligation}
@@ -21,7 +20,7 @@ module _ (A : ℕ → ℕ → Bool) (src dst : Automaton) where
     pub between : IsBetween src dst o
     pub whole : Word
     pub word : IsSourceWord src whole
-    pub state : place ≤ src.size → Among o.state (reached is_itself src (padded whole place))
+    pub state : place ≤ src.size → Contains (reached is_itself src (padded whole place)) o.state
     pub target : o.target ≡ reached A dst (padded whole place)
 
 module _ (A : ℕ → ℕ → Bool) (src dst : Automaton) (hs : IsAutomaton src) (rs : ReadsWords src) (hd : IsAutomaton dst) (rd : ReadsWords dst) where
@@ -32,7 +31,7 @@ module _ (A : ℕ → ℕ → Bool) (src dst : Automaton) (hs : IsAutomaton src)
 
   pub first_sound : (o : Obligation) → IsFirst src dst o → Sound 0 o
   first_sound o f =
-      let start : src.starts ≢ [] = λ e. none_among (subst (λ (z : List ℕ). Among o.state z) e f.state) in
+      let start : src.starts ≢ [] = λ e. Contains-none _ (subst (λ (z : List ℕ). Contains z o.state) e f.state) in
       let (w, word) = (rs.source []).0 (λ e. start (sym (rs.begins is_itself) ∙ e)) in
       record {
         between = record { state = hs.below o.state f.state; target = subst (AreStates dst) (sym f.target) hd.below };
@@ -58,18 +57,18 @@ module _ (A : ℕ → ℕ → Bool) (src dst : Automaton) (hs : IsAutomaton src)
   pub next_sound : (place : ℕ) (o p : Obligation) → Sound place o → Follows A src dst place o p → Sound (suc place) p
   next_sound place o p s (c, inl (l, (e, ea, ef, t, to)), q) =
       let before = reached is_itself src (padded s.whole place) in
-      let from : Among e.from before = subst (λ (z : ℕ). Among z before) (sym ef) (s.state (omega arith)) in
+      let from : Contains before e.from = subst (λ (z : ℕ). Contains before z) (sym ef) (s.state (omega arith)) in
       let u = padded s.whole place ++ c ∷ [] in
-      let m : Among p.state (reached is_itself src u) = subst (λ (z : List ℕ). Among p.state z) (sym (reached_more is_itself src (padded s.whole place) c))
-      (subst (λ (z : ℕ). Among z (next is_itself src.edges before (symbol_of c))) to (to_next is_itself src.edges before (symbol_of c) e ea from ((passes_takes is_itself e.label c).1 t))) in
-      let (v, word) = (rs.source u).0 (λ none. none_among (subst (λ (z : List ℕ). Among p.state z) none m)) in
+      let m : Contains (reached is_itself src u) p.state = subst (λ (z : List ℕ). Contains z p.state) (sym (reached_more is_itself src (padded s.whole place) c))
+      (subst (λ (z : ℕ). Contains (next is_itself src.edges before (symbol_of c)) z) to (to_next is_itself src.edges before (symbol_of c) e ea from ((passes_takes is_itself e.label c).1 t))) in
+      let (v, word) = (rs.source u).0 (λ none. Contains-none _ (subst (λ (z : List ℕ). Contains z p.state) none m)) in
       let front : padded (u ++ v) (suc place) ≡ u = subst (λ (n : ℕ). padded (u ++ v) n ≡ u) (longer s.whole place c) (padded_front u v) in
       let (down, up) = hs.down e ea in
       record {
         between = record { state = omega arith; target = target_states o p c q };
         whole = u ++ v;
         word = word;
-        state = λ k. subst (λ (z : Word). Among p.state (reached is_itself src z)) (sym front) m;
+        state = λ k. subst (λ (z : Word). Contains (reached is_itself src z) p.state) (sym front) m;
         target = next_target place o p c s.whole (u ++ v) q s.target front;
       }
   next_sound place o p s (c, inr (l, u, same), q) =

@@ -1,27 +1,29 @@
 -- Whether a set is part of another, told by one pass over both.
-use Rattle.std.proofs.Common.{◌≡◌, ℕ, ◌+◌, ◌<◌, ◌≤◌, inl, inr, Bool, true, false, if◌then◌else◌, List, [], ◌∷◌, length, drop, get_or, refl, sym, ◌∙◌, subst, arith, eq-eqb}
+use Rattle.std.proofs.Common.{◌≡◌, ℕ, ◌+◌, ◌<◌, ◌≤◌, inl, inr, Bool, true, false, if◌then◌else◌, List, [], ◌∷◌, length, drop, get_or, refl, sym, ◌∙◌, subst, arith, eq-eqb, Contains}
 use Rattle.std.specs.Prelude.{◌==◌}
 use Rattle.std.specs.List.{list_all}
 use Rattle.std.proofs.lemmas.Bool.{and_from, cases_lt, ne_eqb}
 use Rattle.std.proofs.lemmas.List.{drop_more, drop_all}
-use Rattle.tm_auto.specs.Paths.{Among, here, there}
+use Rattle.tm_base.proofs.JudgedLemmas.{Contains-none}
 use Rattle.tm_auto.specs.Sets.{has_state}
+use Rattle.tm_auto.proofs.ContainsLemmas.{here, there, each_of}
 use Rattle.tm_auto.proofs.SetLemmas.{RisesFrom, Rises, bool_cases, same_at, has_to, to_has}
 use Rattle.tm_auto.proofs.StepLemmas.{both_true}
 use Rattle.tm_walk.specs.Obligations.{is_within}
 
 -- each state of the first is one of the second
 abbrev pub AreOf : List ℕ → List ℕ → Type 0
-AreOf part whole = (s : ℕ) → Among s part → Among s whole
+AreOf part whole = (s : ℕ) → Contains part s → Contains whole s
 
 pub within_to : (part whole : List ℕ) → is_within part whole ≡ true → AreOf part whole
-within_to [] whole e s m = elim m [ ]
-within_to (x ∷ xs) whole e s here = has_to whole s (both_true (has_state whole s) (list_all (has_state whole) xs) e).0
-within_to (x ∷ xs) whole e s (there m) = within_to xs whole (both_true (has_state whole x) (list_all (has_state whole) xs) e).1 s m
+within_to [] whole e s m = absurd (Contains-none _ m)
+within_to (x ∷ xs) whole e s m =
+    let (has, rest) = both_true (has_state whole x) (list_all (has_state whole) xs) e in
+    each_of (Contains whole) x xs m (has_to whole x has) (λ n. within_to xs whole rest s n)
 
 pub to_within : (part whole : List ℕ) → AreOf part whole → is_within part whole ≡ true
 to_within [] whole f = refl
-to_within (x ∷ xs) whole f = and_from _ _ (to_has whole x (f x here)) (to_within xs whole (λ s m. f s (there m)))
+to_within (x ∷ xs) whole f = and_from _ _ (to_has whole x (f x (here _))) (to_within xs whole (λ s m. f s (there _ _ m)))
 
 -- ---- one pass
 

@@ -1,6 +1,6 @@
 -- Layers of pairs of sets of states: those that as many cells reach. How one layer follows from the one
 -- before it is told with no word in it.
-use Rattle.std.specs.Prelude.{◌≡◌, ◌≢◌, ℕ, zero, suc, ◌+◌, ◌<◌, ◌≤◌, ◌⊎◌, Bool, true, false, if◌then◌else◌, List, [], ◌∷◌, ◌++◌, map, slice_get, Some}
+use Rattle.std.specs.Prelude.{◌≡◌, ◌≢◌, ℕ, zero, suc, ◌+◌, ◌<◌, ◌≤◌, ◌⊎◌, Bool, true, false, if◌then◌else◌, List, [], ◌∷◌, ◌++◌, map, slice_get, Some, Contains}
 use Rattle.tm_base.specs.declared.cell.Cell.{Cell}
 use Rattle.tm_base.specs.declared.cell.Cell.TheVariants as cell
 use Rattle.tm_base.specs.Orders.{cell_less}
@@ -10,7 +10,6 @@ use Rattle.tm_auto.specs.declared.edge.Symbol.TheVariants as symbol
 use Rattle.tm_auto.specs.Automata.{Automaton, AreStates}
 use Rattle.tm_auto.specs.Classes.{AreClasses}
 use Rattle.tm_auto.specs.Least.{first_cell}
-use Rattle.tm_auto.specs.Paths.{Among}
 use Rattle.tm_auto.specs.Sets.{next, symbol_of}
 
 -- the set has a state
@@ -34,16 +33,16 @@ Precedes e f = (e.parent < f.parent) ⊎ ((e.parent ≡ f.parent) × (cell_less 
 
 abbrev pub AreRising : List Entry → Type 0
 AreRising [] = Unit {0}
-AreRising (e ∷ es) = ((f : Entry) → Among f es → Precedes e f) × AreRising es
+AreRising (e ∷ es) = ((f : Entry) → Contains es f → Precedes e f) × AreRising es
 
 -- no two are of the same sets
 abbrev pub AreApart : List Entry → Type 0
 AreApart [] = Unit {0}
-AreApart (e ∷ es) = ((f : Entry) → Among f es → ¬ HaveSameSets e f) × AreApart es
+AreApart (e ∷ es) = ((f : Entry) → Contains es f → ¬ HaveSameSets e f) × AreApart es
 
 -- one is of the same sets
 abbrev pub IsHeld : Entry → List Entry → Type 0
-IsHeld e es = (f : Entry) × Among f es × HaveSameSets f e
+IsHeld e es = (f : Entry) × Contains es f × HaveSameSets f e
 
 -- a pair is put last, unless its sets are there
 abbrev pub IsOffered : Entry → List Entry → List Entry → Type 0
@@ -117,9 +116,9 @@ module _ (A : ℕ → ℕ → Bool) (src dst : Automaton) where
 
   -- all steps from a pair, in order; of cells with the same steps the least stands for all
   pub record AreStepsFrom (place : ℕ) (x : Entry) (k : ℕ) (es : List Entry) : Type 0 where
-    pub each : (e : Entry) → Among e es → IsStepFrom place x k e
+    pub each : (e : Entry) → Contains es e → IsStepFrom place x k e
     pub rising : AreRising es
-    pub covers : (c : Cell) → Goes place x.src c → (e : Entry) × Among e es × (e.src ≡ source_step x.src (symbol_of c)) × (e.dst ≡ target_step x.dst (symbol_of c)) × (cell_less c e.cell ≡ false)
+    pub covers : (c : Cell) → Goes place x.src c → (e : Entry) × Contains es e × (e.src ≡ source_step x.src (symbol_of c)) × (e.dst ≡ target_step x.dst (symbol_of c)) × (cell_less c e.cell ≡ false)
 
   module _ (skip : Bool → Bool) (place : ℕ) (layer : List Entry) where
     -- the layer's pair, unless it is skipped, is expanded into the next layer
@@ -137,15 +136,15 @@ module _ (A : ℕ → ℕ → Bool) (src dst : Automaton) where
     -- a pair of the sets that the cell reaches from the k-th, itself reached no later
     pub record IsReached (next : List Entry) (x : Entry) (k : ℕ) (c : Cell) : Type 0 where
       pub entry : Entry
-      pub among : Among entry next
+      pub among : Contains next entry
       pub source : entry.src ≡ source_step x.src (symbol_of c)
       pub target : entry.dst ≡ target_step x.dst (symbol_of c)
       pub early : (entry.parent < k) ⊎ ((entry.parent ≡ k) × (cell_less c entry.cell ≡ false))
 
     -- what the layer's first n pairs make of the next layer
     pub record IsNext (n : ℕ) (next : List Entry) : Type 0 where
-      pub from : (e : Entry) → Among e next → IsFrom e
-      pub before : (e : Entry) → Among e next → e.parent < n
+      pub from : (e : Entry) → Contains next e → IsFrom e
+      pub before : (e : Entry) → Contains next e → e.parent < n
       pub rising : AreRising next
       pub apart : AreApart next
       pub done : (k : ℕ) (x : Entry) (c : Cell) → k < n → slice_get layer k ≡ Some x → skip (is_live x.dst) ≡ false → Goes place x.src c → IsReached next x k c

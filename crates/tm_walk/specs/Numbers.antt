@@ -1,8 +1,7 @@
 -- Sets of states, and pairs of them, by numbers.
-use Rattle.std.specs.Prelude.{◌≡◌, ℕ, ◌<◌, Option, Some, None, List, [], ◌∷◌, map, length}
+use Rattle.std.specs.Prelude.{◌≡◌, ℕ, ◌<◌, Option, Some, None, List, [], ◌∷◌, map, length, Contains}
 use Rattle.std.specs.Global.{Vec, Box}
 use Rattle.std.specs.List.{slice_index_or}
-use Rattle.tm_auto.specs.Paths.{Among}
 use Rattle.tm_walk.specs.declared.way.Pair.{Pair}
 use Rattle.tm_walk.specs.declared.way.Reached.{Reached}
 use Rattle.tm_walk.specs.declared.way.Way.{Way}
@@ -19,7 +18,7 @@ sets_of rows = map (λ row. row.1) rows
 -- each stands under its own states, and no two are one
 abbrev pub AreNumbered : List Row → Type 0
 AreNumbered [] = Unit {0}
-AreNumbered (row ∷ rows) = (row.0.items ≡ row.1) × (¬ Among row.1 (sets_of rows)) × AreNumbered rows
+AreNumbered (row ∷ rows) = (row.0.items ≡ row.1) × (¬ Contains (sets_of rows) row.1) × AreNumbered rows
 
 -- a pair of sets reached by a way, and that way
 abbrev pub entry_by : List ℕ → List ℕ → Way → Entry
@@ -57,4 +56,4 @@ module _ (sources targets : List (List ℕ)) where
 
   -- each number is one of a set
   abbrev pub AreWithin : List (Pair × Way) → Type 0
-  AreWithin rows = (row : Pair × Way) → Among row rows → (row.0.source < length sources) × (row.0.target < length targets)
+  AreWithin rows = (row : Pair × Way) → Contains rows row → (row.0.source < length sources) × (row.0.target < length targets)

@@ -1,8 +1,7 @@
 //! One layer from the layer before it.
-ghost use Rattle.std.specs.Prelude.{◌≡◌, ℕ, ◌+◌, ◌<◌, ◌≤◌, [], ◌∷◌, ◌⊎◌, IfOk, OnOk, IfSome, length, slice_get, Some};
+ghost use Rattle.std.specs.Prelude.{◌≡◌, ℕ, ◌+◌, ◌<◌, ◌≤◌, [], ◌∷◌, ◌⊎◌, IfOk, OnOk, IfSome, length, slice_get, Some, Contains};
 ghost use Rattle.tm_base.specs.Transmutes.{is_itself};
 ghost use Rattle.tm_auto.specs.Automata.{AreStates, IsStep};
-ghost use Rattle.tm_auto.specs.Paths.{Among};
 ghost use Rattle.tm_walk.specs.Layers.{Entry, HasStates, AreSymbols, AreOffered, IsExpanded, IsNext, offers, weight_at, weights, IsStart};
 
 use crate::layer::Layer;
@@ -112,7 +111,7 @@ impl<'a, Q: Quantifier, M: RefTest> Walk<'a, Q, M> {
         steps: &mut Steps<L>,
     ) -> Result<(), Memory>
         requires within { k < length layer.now }
-        requires states { (e : Entry) → Among e layer.now
+        requires states { (e : Entry) → Contains layer.now e
             → HasStates (M.test self.now.refs.now) self.now.src.now self.now.dst.now e }
         ensures expanded { OnOk result (IsExpanded
             (M.test self.now.refs.now) self.now.src.now self.now.dst.now
@@ -145,7 +144,7 @@ impl<'a, Q: Quantifier, M: RefTest> Walk<'a, Q, M> {
         layer: &Layer,
         steps: &mut Steps<L>,
     ) -> Result<Layer, Memory>
-        requires states { (e : Entry) → Among e layer.now
+        requires states { (e : Entry) → Contains layer.now e
             → HasStates (M.test self.now.refs.now) self.now.src.now self.now.dst.now e }
         ensures next { IfOk result (λ next. IsNext
             (M.test self.now.refs.now) self.now.src.now self.now.dst.now

@@ -1,6 +1,5 @@
 //! Inclusion: whether each source word fits, asked without sets of the source's words.
-ghost use Rattle.std.specs.Prelude.{◌<◌, ◌↔◌, [], IfOk, OnOk, IsTrue, length};
-ghost use Rattle.tm_auto.specs.Paths.{Among};
+ghost use Rattle.std.specs.Prelude.{◌<◌, ◌↔◌, [], IfOk, OnOk, IsTrue, length, Contains};
 ghost use Rattle.tm_walk.specs.declared.obligation.Obligation.{Obligation};
 ghost use Rattle.tm_walk.specs.Meanings.{EachWordFits};
 ghost use Rattle.tm_walk.specs.Obligations.{AreAdded, IsBetween, IsFirst, FollowsGroup, FollowsSome, FollowsState, HaveOneTarget, Stays};
@@ -77,7 +76,7 @@ impl<'a, M: RefTest> Inclusion<'a, M> {
 
     /// What follows from a layer's obligations, which are at the place.
     fn advance(&self, place: u32, layer: &Antichain) -> Result<Antichain, Memory>
-        requires states { (o : Obligation) → Among o layer.now
+        requires states { (o : Obligation) → Contains layer.now o
             → IsBetween self.now.src.now self.now.dst.now o }
         ensures { IfOk result (λ next. AreAdded
             (FollowsSome (M.test self.now.refs.now) self.now.src.now self.now.dst.now
@@ -97,7 +96,7 @@ impl<'a, M: RefTest> Inclusion<'a, M> {
     /// Behind the source's end their states stay.
     fn expand(&self, place: u32, group: &[Obligation], next: &mut Antichain) -> Result<(), Memory>
         requires some { 0 < length group.now }
-        requires states { (o : Obligation) → Among o group.now
+        requires states { (o : Obligation) → Contains group.now o
             → IsBetween self.now.src.now self.now.dst.now o }
         requires one { HaveOneTarget group.now }
         ensures { OnOk result (AreAdded
@@ -150,7 +149,7 @@ impl<'a, M: RefTest> Inclusion<'a, M> {
         target: &StateSet,
         next: &mut Antichain,
     ) -> Result<(), Memory>
-        requires states { (o : Obligation) → Among o group.now
+        requires states { (o : Obligation) → Contains group.now o
             → IsBetween self.now.src.now self.now.dst.now o }
         ensures { OnOk result (AreAdded
             (FollowsGroup self.now.src.now symbol target.now group.now) next.old next.new) }

@@ -1,17 +1,17 @@
 -- How words go on from the states that a list of cells reaches.
-use Rattle.std.proofs.Common.{◌≡◌, ◌≢◌, ℕ, ◌↔◌, Bool, true, List, [], ◌∷◌, ◌++◌, refl, sym, ◌∙◌, subst, arith}
+use Rattle.std.proofs.Common.{◌≡◌, ◌≢◌, ℕ, ◌↔◌, Bool, true, List, [], ◌∷◌, ◌++◌, refl, sym, ◌∙◌, subst, arith, Contains}
 use Rattle.tm_base.specs.declared.cell.Cell.{Cell}
 use Rattle.tm_base.specs.declared.cell.Cell.TheVariants.{Byte, Uninit}
 use Rattle.tm_base.specs.Cells.{Word}
 use Rattle.tm_base.specs.Transmutes.{holds}
+use Rattle.tm_base.proofs.JudgedLemmas.{Contains-none}
 use Rattle.tm_auto.specs.declared.edge.Label.{Label}
 use Rattle.tm_auto.specs.declared.edge.Label.TheVariants.{Bytes, Free, Leaf}
 use Rattle.tm_auto.specs.Automata.{Automaton, IsAutomaton, IsStep, ReadsWords, IsViable, reached}
 use Rattle.tm_auto.specs.Joined.{JoinedAfter, IsJoined, HasNoOwn}
 use Rattle.tm_auto.specs.Labels.{Takes, CanTake}
-use Rattle.tm_auto.specs.Paths.{Among}
 use Rattle.tm_auto.specs.Sets.{next, symbol_of}
-use Rattle.tm_auto.proofs.AmongLemmas.{some_among, none_among}
+use Rattle.tm_auto.proofs.ContainsLemmas.{some_among}
 use Rattle.tm_auto.proofs.StepLemmas.{next_to, to_next, next-IsStrictlyIncreasing, passes_takes}
 use Rattle.tm_witness.specs.GoingOn.{GoesOnByByte}
 use Rattle.tm_witness.specs.Search.{takes_bytes}
@@ -47,7 +47,7 @@ module _ (auto : Automaton) (is : IsAutomaton auto) (reads : ReadsWords auto) (A
       rising = next-IsStrictlyIncreasing A auto.edges states (symbol_of c);
       states = λ s. (
         λ at. next_to A auto.edges states (symbol_of c) s at,
-        λ (e, among, from, passes, to). subst (λ (n : ℕ). Among n (next A auto.edges states (symbol_of c))) to (to_next A auto.edges states (symbol_of c) e among from passes),
+        λ (e, among, from, passes, to). subst (λ (n : ℕ). Contains (next A auto.edges states (symbol_of c)) n) to (to_next A auto.edges states (symbol_of c) e among from passes),
       );
     }
 
@@ -60,9 +60,9 @@ module _ (auto : Automaton) (is : IsAutomaton auto) (reads : ReadsWords auto) (A
     λ (e, among, from, h).
         let (b, taken) = some_byte (holds A) auto.pointer e.label (is.takes e among) h in
         let at = to_next A auto.edges states (symbol_of (Byte b)) e among from ((passes_takes A e.label (Byte b)).1 taken) in
-        (b, (byte-viable b).0 (λ none. none_among (subst (λ (set : List ℕ). Among e.to set) (sym (reached-more (Byte b)) ∙ none) at))),
+        (b, (byte-viable b).0 (λ none. Contains-none _ (subst (λ (set : List ℕ). Contains set e.to) (sym (reached-more (Byte b)) ∙ none) at))),
     λ (b, viable).
         let (s, at) = some_among (reached A auto (w ++ Byte b ∷ [])) ((byte-viable b).1 viable) in
-        let (e, among, from, passes, to) = next_to A auto.edges states (symbol_of (Byte b)) s (subst (λ (set : List ℕ). Among s set) (reached-more (Byte b)) at) in
+        let (e, among, from, passes, to) = next_to A auto.edges states (symbol_of (Byte b)) s (subst (λ (set : List ℕ). Contains set s) (reached-more (Byte b)) at) in
         (e, among, from, takes-byte (holds A) e.label b ((passes_takes A e.label (Byte b)).0 passes)),
   )

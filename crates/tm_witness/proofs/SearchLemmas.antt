@@ -1,35 +1,37 @@
 -- What is found among the edges that leave some states.
-use Rattle.std.proofs.Common.{◌≡◌, ℕ, zero, suc, ◌+◌, ◌<◌, ◌≤◌, ◌⊎◌, ◌↔◌, ◌||◌, inl, inr, Bool, true, false, cond, nat_lt, List, [], ◌∷◌, Option, Some, None, length, drop, get_or, refl, sym, subst, arith}
+use Rattle.std.proofs.Common.{◌≡◌, ℕ, zero, suc, ◌+◌, ◌<◌, ◌≤◌, ◌⊎◌, ◌↔◌, ◌||◌, inl, inr, Bool, true, false, cond, nat_lt, List, [], ◌∷◌, Option, Some, None, length, drop, get_or, refl, sym, subst, arith, Contains}
 use Rattle.std.specs.List.{list_any}
 use Rattle.std.proofs.lemmas.Bool.{or_left, or_right}
 use Rattle.std.proofs.lemmas.Bool.Decides.{nat_tests}
 use Rattle.std.proofs.lemmas.List.{drop_more, drop_all}
 use Rattle.tm_base.specs.declared.cell.RefId.{RefId}
+use Rattle.tm_base.proofs.JudgedLemmas.{Contains-none}
 use Rattle.tm_auto.specs.declared.edge.Edge.{Edge}
 use Rattle.tm_auto.specs.declared.edge.Label.{Label}
 use Rattle.tm_auto.specs.declared.edge.Label.TheVariants.{Bytes, Free, Leaf}
 use Rattle.tm_auto.specs.Automata.{Automaton, edges_from}
-use Rattle.tm_auto.specs.Paths.{Among, here, there}
-use Rattle.tm_auto.proofs.AmongLemmas.{none_among}
+use Rattle.tm_auto.proofs.ContainsLemmas.{here, there, first_or_later}
 use Rattle.tm_auto.proofs.NextLemmas.{among_from, from_among}
 use Rattle.tm_auto.proofs.SetLemmas.{bool_cases}
 use Rattle.tm_witness.specs.Search.{takes_bytes, some_takes_bytes, lesser_open, least_among, least_from}
 use Rattle.tm_witness.specs.GoingOn.{GoesOnByByte, IsLeastOpen}
 
 -- one of a list passes
-any-to : {X : Type 0} (p : X → Bool) (xs : List X) → list_any p xs ≡ true → (x : X) × Among x xs × (p x ≡ true)
+any-to : {X : Type 0} (p : X → Bool) (xs : List X) → list_any p xs ≡ true → (x : X) × Contains xs x × (p x ≡ true)
 any-to p [] h = cc
 any-to {X} p (x ∷ xs) h = by (bool_cases (p x)) (λ q. any-to p xs q) where
-  by : (p x ≡ true) ⊎ (p x ≡ false) → (list_any p xs ≡ true → (y : X) × Among y xs × (p y ≡ true)) → (y : X) × Among y (x ∷ xs) × (p y ≡ true)
-  by (inl e) others = (x, here, e)
+  by : (p x ≡ true) ⊎ (p x ≡ false) → (list_any p xs ≡ true → (y : X) × Contains xs y × (p y ≡ true)) → (y : X) × Contains (x ∷ xs) y × (p y ≡ true)
+  by (inl e) others = (x, here _, e)
   by (inr e) others =
       let (y, a, q) = others (subst (λ (b : Bool). (b || list_any p xs) ≡ true) e h) in
-      (y, there a, q)
+      (y, there _ _ a, q)
 
-to-any : {X : Type 0} (p : X → Bool) (xs : List X) (x : X) → Among x xs → p x ≡ true → list_any p xs ≡ true
-to-any p [] x a e = elim a [ ]
-to-any p (x ∷ xs) _ here e = or_left (p x) (list_any p xs) e
-to-any p (y ∷ xs) x (there a) e = or_right (p y) (list_any p xs) (to-any p xs x a e)
+to-any : {X : Type 0} (p : X → Bool) (xs : List X) (x : X) → Contains xs x → p x ≡ true → list_any p xs ≡ true
+to-any p [] x a e = absurd (Contains-none _ a)
+to-any {X} p (y ∷ xs) x a e = elim (first_or_later _ _ a) [
+  | inl q ↦ or_left (p y) (list_any p xs) (subst (λ (z : X). p z ≡ true) q e)
+  | inr b ↦ or_right (p y) (list_any p xs) (to-any p xs x b e)
+]
 
 abbrev takes : Edge → Bool
 takes = λ e. takes_bytes e.label
@@ -41,7 +43,7 @@ byte-found auto states = (
       let (s, a, found) = any-to (λ s. list_any takes (edges_from s auto.edges)) states h in
       let (e, b, good) = any-to takes (edges_from s auto.edges) found in
       let (m, q) = among_from s auto.edges e b in
-      (e, m, subst (λ (z : ℕ). Among z states) (sym q) a, good),
+      (e, m, subst (λ (z : ℕ). Contains states z) (sym q) a, good),
   λ (e, m, a, good).
       to-any (λ s. list_any takes (edges_from s auto.edges)) states e.from a
       (to-any takes (edges_from e.from auto.edges) e (from_among e.from auto.edges e m refl) good),
@@ -90,30 +92,36 @@ least-label P (Some u) (Leaf t (suc k)) h = least-other P (Leaf t (suc k)) (λ v
 
 -- with those that begin on some edges
 abbrev WithEdges : (RefId → Type 0) → List Edge → RefId → Type 0
-WithEdges P es t = P t ⊎ ((e : Edge) × Among e es × (e.label ≡ Leaf t 0))
+WithEdges P es t = P t ⊎ ((e : Edge) × Contains es e × (e.label ≡ Leaf t 0))
 
 least-edges : (P : RefId → Type 0) (es : List Edge) (r : Option RefId) → IsLeastOf P r → IsLeastOf (WithEdges P es) (least_among r es)
-least-edges P [] r h = least-like P (WithEdges P []) (λ t p. inl p) (λ t w. elim w [ inl p ↦ p | inr (e, a, q) ↦ absurd (none_among a) ]) r h
+least-edges P [] r h = least-like P (WithEdges P []) (λ t p. inl p) (λ t w. elim w [ inl p ↦ p | inr (e, a, q) ↦ absurd (Contains-none _ a) ]) r h
 least-edges P (e ∷ es) r h =
     least-like (WithEdges (With P e.label) es) (WithEdges P (e ∷ es))
-    (λ t w. elim w [ inl (inl p) ↦ inl p | inl (inr q) ↦ inr (e, here, q) | inr (f, a, q) ↦ inr (f, there a, q) ])
-    (λ t w. elim w [ inl p ↦ inl (inl p) | inr (f, here, q) ↦ inl (inr q) | inr (f, there a, q) ↦ inr (f, a, q) ])
+    (λ t w. elim w [ inl (inl p) ↦ inl p | inl (inr q) ↦ inr (e, here _, q) | inr (f, a, q) ↦ inr (f, there _ _ a, q) ])
+    (λ t w. elim w [
+      | inl p ↦ inl (inl p)
+      | inr (f, m, q) ↦ elim (first_or_later _ _ m) [ inl s ↦ inl (inr (subst (λ (d : Edge). d.label ≡ Leaf t 0) s q)) | inr a ↦ inr (f, a, q) ]
+    ])
     (least_among (lesser_open r e.label) es) (least-edges (With P e.label) es (lesser_open r e.label) (least-label P r e.label h))
 
 -- and with those that leave some states
 abbrev WithStates : List Edge → (RefId → Type 0) → List ℕ → RefId → Type 0
-WithStates es P ss t = P t ⊎ ((e : Edge) × Among e es × Among e.from ss × (e.label ≡ Leaf t 0))
+WithStates es P ss t = P t ⊎ ((e : Edge) × Contains es e × Contains ss e.from × (e.label ≡ Leaf t 0))
 
 least-states : (es : List Edge) (P : RefId → Type 0) (ss : List ℕ) (r : Option RefId) → IsLeastOf P r → IsLeastOf (WithStates es P ss) (least_from es r ss)
-least-states es P [] r h = least-like P (WithStates es P []) (λ t p. inl p) (λ t w. elim w [ inl p ↦ p | inr (e, a, b, q) ↦ absurd (none_among b) ]) r h
+least-states es P [] r h = least-like P (WithStates es P []) (λ t p. inl p) (λ t w. elim w [ inl p ↦ p | inr (e, a, b, q) ↦ absurd (Contains-none _ b) ]) r h
 least-states es P (s ∷ ss) r h =
     least-like (WithStates es (WithEdges P (edges_from s es)) ss) (WithStates es P (s ∷ ss))
     (λ t w. elim w [
       | inl (inl p) ↦ inl p
-      | inl (inr (e, a, q)) ↦ (let (m, f) = among_from s es e a in inr (e, m, subst (λ (z : ℕ). Among z (s ∷ ss)) (sym f) here, q))
-      | inr (e, a, b, q) ↦ inr (e, a, there b, q)
+      | inl (inr (e, a, q)) ↦ (let (m, f) = among_from s es e a in inr (e, m, subst (λ (z : ℕ). Contains (s ∷ ss) z) (sym f) (here _), q))
+      | inr (e, a, b, q) ↦ inr (e, a, there _ _ b, q)
     ])
-    (λ t w. elim w [ inl p ↦ inl (inl p) | inr (e, a, here, q) ↦ inl (inr (e, from_among s es e a refl, q)) | inr (e, a, there b, q) ↦ inr (e, a, b, q) ])
+    (λ t w. elim w [
+      | inl p ↦ inl (inl p)
+      | inr (e, a, m, q) ↦ elim (first_or_later _ _ m) [ inl f ↦ inl (inr (e, from_among s es e a f, q)) | inr b ↦ inr (e, a, b, q) ]
+    ])
     (least_from es (least_among r (edges_from s es)) ss) (least-states es (WithEdges P (edges_from s es)) ss (least_among r (edges_from s es)) (least-edges P (edges_from s es) r h))
 
 -- the reference that is found is the least open one

@@ -1,5 +1,5 @@
 -- How words go on from some states of an automaton.
-use Rattle.std.specs.Prelude.{ℕ, ◌≤◌, List, Option, Some, None, IsTrue, unwrap_or}
+use Rattle.std.specs.Prelude.{ℕ, ◌≤◌, List, Option, Some, None, IsTrue, unwrap_or, Contains}
 use Rattle.tm_base.specs.declared.answer.LocalRule.{LocalRule}
 use Rattle.tm_base.specs.declared.answer.RefFault.{RefFault}
 use Rattle.tm_base.specs.declared.answer.Rule.{Rule}
@@ -8,14 +8,13 @@ use Rattle.tm_base.specs.declared.cell.RefId.{RefId}
 use Rattle.tm_base.specs.Rules.{rule_of}
 use Rattle.tm_auto.specs.declared.edge.Edge.{Edge}
 use Rattle.tm_auto.specs.Automata.{Automaton, BeginsReference}
-use Rattle.tm_auto.specs.Paths.{Among}
 use Rattle.tm_refs.specs.declared.compat.Compat.{Compat}
 use Rattle.tm_refs.specs.Solved.{depth_in, why_in}
 use Rattle.tm_witness.specs.Search.{takes_bytes}
 
 -- an edge that takes an initialised byte leaves one of the states
 abbrev pub GoesOnByByte : Automaton → List ℕ → Type 0
-GoesOnByByte auto states = (e : Edge) × Among e auto.edges × Among e.from states × IsTrue (takes_bytes e.label)
+GoesOnByByte auto states = (e : Edge) × Contains auto.edges e × Contains states e.from × IsTrue (takes_bytes e.label)
 
 -- of the references that may begin at one of the states the one with the least number
 abbrev pub IsLeastOpen : Automaton → List ℕ → Option RefId → Type 0

@@ -1,13 +1,12 @@
-use Rattle.std.proofs.Common.{ℕ, List, get_or, ◌∙◌, sym, subst}
-use Rattle.tm_auto.specs.Paths.{Among}
-use Rattle.tm_auto.proofs.ClassLemmas.{among_at}
+use Rattle.std.proofs.Common.{ℕ, List, get_or, ◌∙◌, sym, subst, Contains}
+use Rattle.std.proofs.lemmas.List.Elements.{Contains-get_or}
 use Rattle.tm_auto.proofs.OnlyLemmas.{only_item, edge_is}
 use Rattle.tm_auto.proofs.only.only_edge.Goals as goal
 
 pub edges-requires : goal.edges-requires
 edges-requires c =
     let items = c.as_slice.result.now in
-    c.requires (get_or items 0 0) (subst (λ (states : List ℕ). Among (get_or items 0 0) states) c.as_slice.ensures.states (among_at items 0 0 c.in-len1.len_at_least))
+    c.requires (get_or items 0 0) (subst (λ (states : List ℕ). Contains states (get_or items 0 0)) c.as_slice.ensures.states (Contains-get_or items 0 0 c.in-len1.len_at_least))
 
 pub returns-in-len1-edges : goal.returns-in-len1-edges
 returns-in-len1-edges c =

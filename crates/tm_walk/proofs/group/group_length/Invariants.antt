@@ -1,5 +1,4 @@
-use Rattle.std.proofs.Common.{◌≡◌, ◌<◌, ◌≤◌, ◌-◌, length, take}
-use Rattle.tm_auto.specs.Paths.{Among}
+use Rattle.std.proofs.Common.{◌≡◌, ◌<◌, ◌≤◌, ◌-◌, length, take, Contains}
 use Rattle.tm_walk.specs.declared.obligation.Obligation.{Obligation}
 use Rattle.tm_walk.proofs.group.group_length.Given as goal
 
@@ -8,7 +7,7 @@ abbrev pub invariant-loop-end : goal.invariant-loop-end
 invariant-loop-end l = record {
   some : 0 < l.end;
   most : l.end ≤ length l.obligations;
-  one : (o : Obligation) → Among o (take l.end l.obligations) → o.target ≡ l.target;
+  one : (o : Obligation) → Contains (take l.end l.obligations) o → o.target ≡ l.target;
 }
 
 abbrev pub decreases-loop-end : goal.decreases-loop-end

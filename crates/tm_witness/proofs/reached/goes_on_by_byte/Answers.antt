@@ -1,6 +1,5 @@
-use Rattle.std.proofs.Common.{sym, ap, ◌∙◌, subst, refl, get_or, ℕ, List}
-use Rattle.tm_auto.specs.Paths.{Among}
-use Rattle.tm_auto.proofs.ClassLemmas.{among_at}
+use Rattle.std.proofs.Common.{sym, ap, ◌∙◌, subst, refl, get_or, ℕ, List, Contains}
+use Rattle.std.proofs.lemmas.List.Elements.{Contains-get_or}
 use Rattle.tm_witness.specs.Search.{some_takes_bytes}
 use Rattle.tm_witness.proofs.SearchLemmas.{byte-found, byte-at, byte-none}
 use Rattle.tm_witness.proofs.reached.goes_on_by_byte.Goals as goal
@@ -9,7 +8,7 @@ pub edges-requires : goal.edges-requires
 edges-requires c =
     let items = c.as_slice-state-items.result.now in
     let at = c.loop-state.state-index in
-    c.requires (get_or items at 0) (subst (λ (states : List ℕ). Among (get_or items at 0) states) c.as_slice-state-items.ensures.states (among_at items at 0 c.loop-state-test.true))
+    c.requires (get_or items at 0) (subst (λ (states : List ℕ). Contains states (get_or items at 0)) c.as_slice-state-items.ensures.states (Contains-get_or items at 0 c.loop-state-test.true))
 
 pub returns-then-some_takes_bytes : goal.returns-then-some_takes_bytes
 returns-then-some_takes_bytes c =

@@ -1,5 +1,4 @@
-use Rattle.std.proofs.Common.{List, [], length}
-use Rattle.tm_auto.specs.Paths.{Among}
+use Rattle.std.proofs.Common.{List, [], length, Contains}
 use Rattle.tm_walk.specs.declared.obligation.Obligation.{Obligation}
 use Rattle.tm_walk.specs.Obligations.{AreAdded, FollowsSome, IsBetween}
 use Rattle.tm_walk.proofs.inclusion.Inclusion.advance.Given as goal
@@ -10,7 +9,7 @@ invariant-loop-rest g l = record {
   made : (after : List Obligation)
       → AreAdded (FollowsSome (g.M.RefTest.test l.self.refs.now) l.self.src.now l.self.dst.now l.place l.rest) l.next after
       → AreAdded (FollowsSome (g.M.RefTest.test l.self.refs.now) l.self.src.now l.self.dst.now l.place l.layer) [] after;
-  states : (o : Obligation) → Among o l.rest → IsBetween l.self.src.now l.self.dst.now o;
+  states : (o : Obligation) → Contains l.rest o → IsBetween l.self.src.now l.self.dst.now o;
 }
 
 -- each turn takes one obligation at least

@@ -1,13 +1,13 @@
-use Rattle.std.proofs.Common.{◌≡◌, ◌<◌, ◌≤◌, Bool, List, [], ◌∷◌, ℕ, get_or, Result, Ok, Err, OnOk, sym, subst, arith}
+use Rattle.std.proofs.Common.{◌<◌, ◌≤◌, Bool, List, [], ◌∷◌, ℕ, get_or, Result, Ok, Err, OnOk, sym, subst, arith, Contains}
+use Rattle.std.proofs.lemmas.List.Elements.{Contains-get_or}
+use Rattle.tm_base.proofs.JudgedLemmas.{Contains-none}
 use Rattle.tm_auto.specs.declared.edge.Symbol.{Symbol}
 use Rattle.tm_auto.specs.declared.edge.Symbol.TheVariants.{Uninit}
 use Rattle.tm_auto.specs.Automata.{Automaton, IsStep}
-use Rattle.tm_auto.specs.Paths.{Among}
 use Rattle.tm_auto.specs.Sets.{next}
-use Rattle.tm_auto.proofs.AmongLemmas.{none_among}
 use Rattle.tm_walk.specs.declared.obligation.Obligation.{Obligation}
 use Rattle.tm_walk.specs.Obligations.{AreAdded, FollowsGroup, Stays}
-use Rattle.tm_walk.proofs.AddedLemmas.{among_at, added_one, added_turn, added_end}
+use Rattle.tm_walk.proofs.AddedLemmas.{added_one, added_turn, added_end}
 use Rattle.tm_walk.proofs.ExpandLemmas.{step_is}
 use Rattle.tm_walk.proofs.FollowLemmas.{follows_within, follows_behind}
 use Rattle.tm_walk.proofs.GroupLemmas.{states_are, states_have}
@@ -18,26 +18,26 @@ on_ok (Ok x) P Q f p = f p
 on_ok (Err x) P Q f p = tt
 
 pub step-requires : goal.step-requires
-step-requires g c = (c.requires.states _ (among_at (λ (o : Obligation) (p : Obligation). p ≡ o) c.args.group.now 0 c.index-group-0.result c.requires.some)).target
+step-requires g c = (c.requires.states _ (Contains-get_or c.args.group.now 0 c.index-group-0.result c.requires.some)).target
 
 pub step-requires-in-loop-symbol : goal.step-requires-in-loop-symbol
-step-requires-in-loop-symbol g c = (c.requires.states _ (among_at (λ (o : Obligation) (p : Obligation). p ≡ o) c.args.group.now 0 c.index-group-0.result c.requires.some)).target
+step-requires-in-loop-symbol g c = (c.requires.states _ (Contains-get_or c.args.group.now 0 c.index-group-0.result c.requires.some)).target
 
 pub only_step-requires-clause-to : goal.only_step-requires-clause-to
-only_step-requires-clause-to g c = (c.requires.states _ (among_at (λ (o : Obligation) (p : Obligation). p ≡ o) c.args.group.now 0 c.index-group-0.result c.requires.some)).target
+only_step-requires-clause-to g c = (c.requires.states _ (Contains-get_or c.args.group.now 0 c.index-group-0.result c.requires.some)).target
 
 pub only_step-requires-clause-from : goal.only_step-requires-clause-from
 only_step-requires-clause-from g c = λ s m.
-    states_are (λ (n : ℕ). n < c.args.self.now.src.now.states) c.args.group.now [] (λ t n. absurd (none_among n)) (λ o n. (c.requires.states o n).state) s
-    (subst (λ (z : List ℕ). Among s z) c.in_ok-states.ensures m)
+    states_are (λ (n : ℕ). n < c.args.self.now.src.now.states) c.args.group.now [] (λ t n. absurd (Contains-none _ n)) (λ o n. (c.requires.states o n).state) s
+    (subst (λ (z : List ℕ). Contains z s) c.in_ok-states.ensures m)
 
 pub classes-requires-clause-to : goal.classes-requires-clause-to
-classes-requires-clause-to g c = (c.requires.states _ (among_at (λ (o : Obligation) (p : Obligation). p ≡ o) c.args.group.now 0 c.index-group-0.result c.requires.some)).target
+classes-requires-clause-to g c = (c.requires.states _ (Contains-get_or c.args.group.now 0 c.index-group-0.result c.requires.some)).target
 
 pub classes-requires-clause-from : goal.classes-requires-clause-from
 classes-requires-clause-from g c = λ s m.
-    states_are (λ (n : ℕ). n < c.args.self.now.src.now.states) c.args.group.now [] (λ t n. absurd (none_among n)) (λ o n. (c.requires.states o n).state) s
-    (subst (λ (z : List ℕ). Among s z) c.in_ok-states.ensures m)
+    states_are (λ (n : ℕ). n < c.args.self.now.src.now.states) c.args.group.now [] (λ t n. absurd (Contains-none _ n)) (λ o n. (c.requires.states o n).state) s
+    (subst (λ (z : List ℕ). Contains z s) c.in_ok-states.ensures m)
 
 stepped : (A : ℕ → ℕ → Bool) (src dst : Automaton) (os : List Obligation) (target : List ℕ) (x : Symbol) (set : List ℕ) (before after : List Obligation) → IsStep A dst target x set
     → AreAdded (FollowsGroup src x set os) before after → AreAdded (FollowsGroup src x (next A dst.edges target x) os) before after
@@ -62,7 +62,7 @@ returns-then-place-size g c =
     let dst = c.args.self.now.dst.now in
     let os = c.args.group.now in
     let target = (get_or os 0 c.index-group-0.result).target in
-    let first = among_at (λ (o : Obligation) (p : Obligation). p ≡ o) os 0 c.index-group-0.result c.requires.some in
+    let first = Contains-get_or os 0 c.index-group-0.result c.requires.some in
     let behind : src.size ≤ c.args.place = (let t = c.if-place-size.true in let e = c.size.ensures in omega arith) in
     on_ok c.stay.result _ _
     (λ a. follows_behind A src dst c.args.place os target (λ o m. c.requires.one o _ m first) behind _ _
@@ -76,11 +76,11 @@ returns-in-Some g c =
     let os = c.args.group.now in
     let target = (get_or os 0 c.index-group-0.result).target in
     let x = c.in-Some.step.symbol in
-    let first = among_at (λ (o : Obligation) (p : Obligation). p ≡ o) os 0 c.index-group-0.result c.requires.some in
+    let first = Contains-get_or os 0 c.index-group-0.result c.requires.some in
     let within : c.args.place < src.size = (let t = c.if-place-size.false in let e = c.size.ensures in omega arith) in
     on_ok c.follow.result _ _
     (λ a. follows_within A src dst c.args.place os target (λ o m. c.requires.one o _ m first) within c.in_ok-states.states
-    (λ o m. subst (λ (z : List ℕ). Among o.state z) (sym c.in_ok-states.ensures) (states_have os [] o m)) (x ∷ []) c.in-Some.ensures.classes c.args.next.now c.follow.new.next
+    (λ o m. subst (λ (z : List ℕ). Contains z o.state) (sym c.in_ok-states.ensures) (states_have os [] o m)) (x ∷ []) c.in-Some.ensures.classes c.args.next.now c.follow.new.next
     (added_one (λ (y : Symbol). FollowsGroup src y (next A dst.edges target y) os) x c.args.next.now c.follow.new.next
     (stepped A src dst os target x _ _ _ c.in-Some.ensures.target a))) c.follow.ensures
 
@@ -92,8 +92,8 @@ returns g c =
     let os = c.args.group.now in
     let target = (get_or os 0 c.index-group-0.result).target in
     let xs = c.as_slice-symbol-items.result.now in
-    let first = among_at (λ (o : Obligation) (p : Obligation). p ≡ o) os 0 c.index-group-0.result c.requires.some in
+    let first = Contains-get_or os 0 c.index-group-0.result c.requires.some in
     let within : c.args.place < src.size = (let t = c.if-place-size.false in let e = c.size.ensures in omega arith) in
     follows_within A src dst c.args.place os target (λ o m. c.requires.one o _ m first) within c.in_ok-states.states
-    (λ o m. subst (λ (z : List ℕ). Among o.state z) (sym c.in_ok-states.ensures) (states_have os [] o m)) xs (rw c.as_slice-symbol-items.ensures c.in_ok-symbols.ensures) c.args.next.now c.loop-symbol.next
+    (λ o m. subst (λ (z : List ℕ). Contains z o.state) (sym c.in_ok-states.ensures) (states_have os [] o m)) xs (rw c.as_slice-symbol-items.ensures c.in_ok-symbols.ensures) c.args.next.now c.loop-symbol.next
     (c.loop-symbol.invariant c.loop-symbol.next (added_end (λ (x : Symbol). FollowsGroup src x (next A dst.edges target x) os) xs c.loop-symbol.symbol-index c.loop-symbol-test.false c.loop-symbol.next))

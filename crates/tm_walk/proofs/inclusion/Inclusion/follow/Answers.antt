@@ -1,8 +1,8 @@
-use Rattle.std.proofs.Common.{sym, subst}
-use Rattle.tm_auto.specs.Paths.{Among}
+use Rattle.std.proofs.Common.{sym, subst, Contains}
+use Rattle.std.proofs.lemmas.List.Elements.{Contains-get_or}
 use Rattle.tm_walk.specs.declared.obligation.Obligation.{Obligation}
 use Rattle.tm_walk.specs.Obligations.{AreAdded, FollowsState}
-use Rattle.tm_walk.proofs.AddedLemmas.{added_turn, added_end, among_at}
+use Rattle.tm_walk.proofs.AddedLemmas.{added_turn, added_end}
 use Rattle.tm_walk.proofs.inclusion.Inclusion.follow.Goals as goal
 
 pub follow_edges-requires : goal.follow_edges-requires
@@ -10,7 +10,7 @@ follow_edges-requires g c =
     let follows = λ (o : Obligation). FollowsState c.args.self.now.src.now c.args.symbol c.args.target.now o.state in
     let os = c.args.group.now in
     let o = c.obligation-item.result in
-    let at = subst (λ (z : Obligation). Among z os) (sym c.obligation-item.is) (among_at follows os c.loop-obligation.obligation-index o c.loop-obligation-test.true) in
+    let at = subst (λ (z : Obligation). Contains os z) (sym c.obligation-item.is) (Contains-get_or os c.loop-obligation.obligation-index o c.loop-obligation-test.true) in
     (c.requires.states o at).state
 
 pub loop-obligation-preserved : goal.loop-obligation-preserved

@@ -25,3 +25,6 @@ returns g c =
     let end : c.loop-place.place ≡ c.args.self.now.dst.now.size = (let t = c.loop-place-test.false in let b = c.loop-place.auto.place-end in let e = c.size-place-end.ensures in omega arith) in
     answered (g.M.RefTest.test c.args.self.now.refs.now) c.args.self.now.src.now c.args.self.now.dst.now c.law.ensures.automaton c.law.ensures.reads c.law-2.ensures.automaton c.law-2.ensures.reads
     c.loop-place.layer c.loop-place.place c.is_refused-2.result end c.loop-place.invariant c.is_refused-2.ensures
+
+pub advance-requires : goal.advance-requires
+advance-requires g c = record { states = λ o m. (c.loop-place.invariant.sound o m).between }
