@@ -3,16 +3,16 @@ use Rattle.tm_walk.proofs.PairLemmas.{still_within, there_offered, last_row, new
 use Rattle.tm_walk.proofs.pairs.Pairs.offer.Goals as goal
 
 pub invariant_of-self : goal.invariant_of-self
-invariant_of-self c = still_within c.self.inside.sources _ c.number.new.self _ c.args.src [] c.number.ensures.grown (inl refl) c.self.inside.pairs.entries c.self.invariant
+invariant_of-self c = still_within c.self.inside.sources _ c.number.new.self _ c.args.pair.src [] c.number.ensures.grown (inl refl) c.self.inside.pairs.entries c.self.invariant
 
 pub invariant_of-self-in_err-target : goal.invariant_of-self-in_err-target
-invariant_of-self-in_err-target c = still_within c.self.inside.sources c.self.inside.targets c.number.new.self c.number-2.new.self c.args.src c.args.dst c.number.ensures.grown c.number-2.ensures.grown c.self.inside.pairs.entries c.self.invariant
+invariant_of-self-in_err-target c = still_within c.self.inside.sources c.self.inside.targets c.number.new.self c.number-2.new.self c.args.pair.src c.args.pair.dst c.number.ensures.grown c.number-2.ensures.grown c.self.inside.pairs.entries c.self.invariant
 
 pub invariant_of-self-then-contains_key : goal.invariant_of-self-then-contains_key
-invariant_of-self-then-contains_key c = still_within c.self.inside.sources c.self.inside.targets c.number.new.self c.number-2.new.self c.args.src c.args.dst c.number.ensures.grown c.number-2.ensures.grown c.self.inside.pairs.entries c.self.invariant
+invariant_of-self-then-contains_key c = still_within c.self.inside.sources c.self.inside.targets c.number.new.self c.number-2.new.self c.args.pair.src c.args.pair.dst c.number.ensures.grown c.number-2.ensures.grown c.self.inside.pairs.entries c.self.invariant
 
 pub invariant_of-self-in_err-insert : goal.invariant_of-self-in_err-insert
-invariant_of-self-in_err-insert c = rw c.in_err-insert.ensures.err (still_within c.self.inside.sources c.self.inside.targets c.number.new.self c.number-2.new.self c.args.src c.args.dst c.number.ensures.grown c.number-2.ensures.grown c.self.inside.pairs.entries c.self.invariant)
+invariant_of-self-in_err-insert c = rw c.in_err-insert.ensures.err (still_within c.self.inside.sources c.self.inside.targets c.number.new.self c.number-2.new.self c.args.pair.src c.args.pair.dst c.number.ensures.grown c.number-2.ensures.grown c.self.inside.pairs.entries c.self.invariant)
 
 pub returns-then-contains_key : goal.returns-then-contains_key
 returns-then-contains_key c =
