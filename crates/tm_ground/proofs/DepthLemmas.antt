@@ -109,13 +109,16 @@ within [] k x a = cc
 within (r ∷ rows) zero x a = omega arith
 within (r ∷ rows) (suc k) x a = omega (arith, within rows k x a)
 
-none-flagged : (flags : List Bool) (k : ℕ) → list_any (λ flag. flag) flags ≡ false → (x : Bool) → slice_get flags k ≡ Some x → x ≡ false
-none-flagged [] k h x e = cc
-none-flagged (f ∷ flags) zero h x e = let same : f ≡ x = cc in sym same ∙ first-false _ _ h
-none-flagged (f ∷ flags) (suc k) h x e = none-flagged flags k (second-false f _ h) x e
+-- a list that no such test passes has no `true`
+none-flagged : (test : Bool → Bool) → test true ≡ true → (flags : List Bool) (k : ℕ) → list_any test flags ≡ false → (x : Bool) → slice_get flags k ≡ Some x → x ≡ false
+none-flagged test t flags k h false e = refl
+none-flagged test t [] k h true e = cc
+none-flagged test t (f ∷ flags) zero h true e = let same : f ≡ true = cc in let fails = ap test (sym same) ∙ first-false _ _ h in cc
+none-flagged test t (f ∷ flags) (suc k) h true e = none-flagged test t flags k (second-false (test f) _ h) true e
 
-pub next-at : (tables : List (List Bool)) (n m k : ℕ) (row : NamedRow) → n ≡ suc m → next_flag tables n k row ≡ (flag_at tables m k && row_passes tables n row)
-next-at tables n m k row e = rw e refl
+pub next-at : (tables : List (List Bool)) (n k : ℕ) (row : NamedRow) → (n ≡ 0 → ⊥) → (flag_at tables (n - 1) k && row_passes tables n row) ≡ next_flag tables n k row
+next-at tables zero k row e = absurd (e refl)
+next-at tables (suc m) k row e = let same : suc m - 1 ≡ m = omega arith in ap (λ i. flag_at tables i k && row_passes tables (suc m) row) same
 
 pub next-first : (tables : List (List Bool)) (n k : ℕ) (row : NamedRow) → n ≡ 0 → row_passes tables n row ≡ next_flag tables n k row
 next-first tables n k row e = rw e refl
@@ -177,20 +180,20 @@ module _ (rows : List NamedRow) (count : ℕ) (tables : List (List Bool)) (long 
         (below-or-last n count l)
 
     -- where it says `false` of all, no more tables are needed
-    told-all : list_any (λ flag. flag) table ≡ false → (n k : ℕ) (c : Closed) → slice_get types k ≡ Some c → count ≤ n → flag_at tables n k ≡ depth_passes resolved (suc n) c
-    told-all none n k c at l =
+    told-all : (test : Bool → Bool) → test true ≡ true → list_any test table ≡ false → (n k : ℕ) (c : Closed) → slice_get types k ≡ Some c → count ≤ n → flag_at tables n k ≡ depth_passes resolved (suc n) c
+    told-all test t none n k c at l =
         let past : slice_get tables n ≡ None = slice_get_past tables n (omega (arith, l, long)) in
-        let shallow : depth_passes resolved (suc count) c ≡ false = none-flagged table k none (depth_passes resolved (suc count) c) (next.each resolved types refs of_rows k c at) in
+        let shallow : depth_passes resolved (suc count) c ≡ false = none-flagged test t table k none (depth_passes resolved (suc count) c) (next.each resolved types refs of_rows k c at) in
         let far : suc count + (n - count) ≡ suc n = omega (arith, l) in
         ap (λ t. unwrap_or (slice_get (unwrap_or t []) k) false) past ∙ sym (ap (λ m. depth_passes resolved m c) (sym far) ∙ stays-false resolved (suc count) (n - count) c shallow)
 
   pub tell-more : (new : List (List Bool)) → new ≡ tables ++ table ∷ [] → TellDepths rows (count + 1) new
   tell-more new e = record { each = λ resolved types refs z. record { told = told-more resolved types refs z new e } }
 
-  pub tell-all : list_any (λ flag. flag) table ≡ false → (limit : ℕ) → TellDepths rows limit tables
-  tell-all none limit = record {
+  pub tell-all : (test : Bool → Bool) → test true ≡ true → list_any test table ≡ false → (limit : ℕ) → TellDepths rows limit tables
+  tell-all test t none limit = record {
     each = λ resolved types refs z. record {
-      told = λ n k c l at. ⊎_elim (λ (below : n < count). (depths resolved types refs z).told n k c below at) (λ (over : count ≤ n). told-all resolved types refs z none n k c at over) (cases_lt n count);
+      told = λ n k c l at. ⊎_elim (λ (below : n < count). (depths resolved types refs z).told n k c below at) (λ (over : count ≤ n). told-all resolved types refs z test t none n k c at over) (cases_lt n count);
     };
   }
 

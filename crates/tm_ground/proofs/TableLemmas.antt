@@ -1,5 +1,5 @@
 -- What the tables say of a type, by its kind.
-use Rattle.std.proofs.Common.{◌≡◌, ℕ, zero, suc, ◌+◌, ◌<◌, ◌≤◌, Bool, true, false, ◌||◌, refl, sym, ap, ◌∙◌, List, [], ◌∷◌, ◌++◌, length, length-append, get_or, take, arith}
+use Rattle.std.proofs.Common.{◌≡◌, ℕ, zero, suc, ◌+◌, ◌-◌, ◌<◌, ◌≤◌, Bool, true, false, ◌||◌, refl, sym, ap, ◌∙◌, ◌⊎◌, ⊎_elim, List, [], ◌∷◌, ◌++◌, length, length-append, get_or, take, arith}
 use Rattle.std.specs.List.{flat_map, list_any}
 use Rattle.std.proofs.lemmas.Bool.{or_from}
 use Rattle.std.proofs.lemmas.List.{take_more}
@@ -8,6 +8,9 @@ use Rattle.tm_base.specs.declared.ground.Ground.{Ground, out-Ground}
 use Rattle.tm_base.specs.declared.ground.Ground as ground_is
 use Rattle.tm_base.specs.declared.ground.Ground.{Tuple', Array', Wrap'}
 use Rattle.tm_base.specs.declared.ground.Ground.TheOpen.{Ground-F}
+use Rattle.tm_base.specs.declared.ground.Ground.TheVariants as level
+use Rattle.tm_base.specs.declared.ground.Primitive.{Primitive}
+use Rattle.tm_base.specs.declared.cell.RefId.{RefId}
 use Rattle.tm_base.specs.declared.ground.Wrapper.{Wrapper}
 use Rattle.tm_base.specs.Whole.{written_types, row_types}
 use Rattle.tm_base.proofs.GroundLemmas.{written_types-Tuple, written_types-Array, written_types-Wrap}
@@ -38,9 +41,21 @@ module _ (tables : List (List Bool)) where
   unfolding passes_by
   passes-none n g e = rw e refl
 
-  pub passes-next : (n m : ℕ) (g : Ground) (o : Ground-F Ground) → n ≡ suc m → out-Ground g ≡ o → passes_by tables n g ≡ some_part (passes_by tables m) (λ id. flag_at tables m id.0) o
+  -- its depth passes a number where that of one of its parts by value passes the one below
+  pub passes-next : (n : ℕ) (g : Ground) (o : Ground-F Ground) → (n ≡ 0 → ⊥) → out-Ground g ≡ o → some_part (passes_by tables (n - 1)) (λ id. flag_at tables (n - 1) id.0) o ≡ passes_by tables n g
   unfolding passes_by
-  passes-next n m g o e q = rw (e, q) refl
+  passes-next zero g o e q = absurd (e refl)
+  passes-next (suc m) g o e q = let same : suc m - 1 ≡ m = omega arith in rw (same, q) refl
+
+  -- a type without parts passes none but 0
+  pub passes-scalar : (n : ℕ) (g : Ground) → (n ≡ 0 → ⊥) → ((p : Primitive) × (g ≡ ground_is.Prim p)) ⊎ ((g ≡ ground_is.Never) ⊎ (g ≡ ground_is.Unit)) → false ≡ passes_by tables n g
+  passes-scalar n g e s =
+      ⊎_elim (λ p. passes-next n g _ e (ap out-Ground p.1 ∙ level.outs-Prim p.0))
+      (⊎_elim (λ q. passes-next n g _ e (ap out-Ground q ∙ level.outs-Never)) (λ q. passes-next n g _ e (ap out-Ground q ∙ level.outs-Unit))) s
+
+  pub passes-leaf : (n : ℕ) (g : Ground) → (n ≡ 0 → ⊥) → ((p : Primitive) × (g ≡ ground_is.NonZero p)) ⊎ ((r : RefId) × (g ≡ ground_is.Ref r)) → false ≡ passes_by tables n g
+  passes-leaf n g e s =
+      ⊎_elim (λ p. passes-next n g _ e (ap out-Ground p.1 ∙ level.outs-NonZero p.0)) (λ r. passes-next n g _ e (ap out-Ground r.1 ∙ level.outs-Ref r.0)) s
 
   abbrev passes : Ground → Bool
   passes = passes_by tables depth_limit

@@ -1,5 +1,5 @@
 use Rattle.tm_ground.proofs.DepthLemmas.{TellsFirst}
-use Rattle.tm_ground.proofs.depth.next_table.Given as goal
+use Rattle.tm_ground.proofs.depth.Depths.next_table.Given as goal
 
 -- the flags made so far tell the depths of the first rows
 abbrev pub invariant-loop-row : goal.invariant-loop-row
