@@ -16,6 +16,20 @@ use std::alloc::Global;
 use tm_base::{Memory, World};
 use tm_names::Resolved;
 
+/// The rows of all that occurs, where no type of it is deeper than a type may be.
+fn shallow_rows(alloc: Global, resolved: &Resolved, found: &Found) -> Result<Rows, GroundErr>
+    requires { IsAllOf found.now resolved.now }
+    ensures rows { IfOk result (AreRowsIn found.now resolved.now) }
+    ensures shallow { IfOk result (λ _. ¬ PassesDepth resolved.now) }
+    ensures cause { IfErr result (HasCause resolved.now) }
+{
+    let rows = rows_of(alloc, resolved, found)?;
+    if is_too_deep(alloc, &rows)? {
+        return Err(GroundErr::TooDeep);
+    }
+    Ok(rows)
+}
+
 /// The world of what is found, with the named types and the references in byte order of their canonical texts.
 fn ordered_world(
     alloc: Global,
@@ -51,10 +65,7 @@ pub fn ground(alloc: Global, resolved: &Resolved) -> Result<World, GroundErr>
     ensures cause { IfErr result (HasCause resolved.now) }
 {
     let found = occurring(alloc, resolved)?;
-    let rows = rows_of(alloc, resolved, &found)?;
-    if is_too_deep(alloc, &rows)? {
-        return Err(GroundErr::TooDeep);
-    }
+    let rows = shallow_rows(alloc, resolved, &found)?;
     match ordered_world(alloc, resolved, &found, rows) {
         Ok(world) => Ok(world),
         Err(_) => Err(GroundErr::Memory),
