@@ -1,5 +1,5 @@
 use Rattle.tm_ground.proofs.CollectedLemmas.{few-types, few-nodes, are-whole}
-use Rattle.tm_ground.proofs.closing.occurring.Goals as goal
+use Rattle.tm_ground.proofs.closing.find_within_limits.Goals as goal
 
 pub returns-clause-whole : goal.returns-clause-whole
 returns-clause-whole c = are-whole c.args.resolved.now c.close.new.self c.in-Ok.ensures c.if-collector.false c.if-collector-2.false
