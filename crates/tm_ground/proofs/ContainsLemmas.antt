@@ -12,9 +12,11 @@ pub contains-cons : {X : Type 0} (y : X) (ys : List X) (x : X) → Contains (y �
 contains-cons y ys x (zero, l, e) = inl e
 contains-cons y ys x (suc k, l, e) = inr (k, omega (arith, l), e)
 
+-- the first item is among the items
 pub contains-first : {X : Type 0} (x : X) (xs : List X) → Contains (x ∷ xs) x
 contains-first x xs = (0, omega arith, refl)
 
+-- what is among the others is among all
 pub contains-behind : {X : Type 0} (y : X) (ys : List X) (x : X) → Contains ys x → Contains (y ∷ ys) x
 contains-behind y ys x (k, l, e) = (suc k, omega (arith, l), e)
 

@@ -252,6 +252,7 @@ module _ (resolved : Resolved) (form : IsInForm resolved) (names : HasApartNames
         ∙ ap (λ z. record { src = twin.src; dst = z; assume = ask.assume }) dst
         ∙ ap (λ z. record { src = twin.src; dst = twin.dst; assume = z }) assume
 
+    -- two worlds of one file say the same of their types, and ask the same
     pub one-world : AreOneWorld one other
     one-world =
         let profile : one.profile ≡ other.profile = b.profile ∙ sym c.profile in
