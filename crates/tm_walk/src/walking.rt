@@ -1,7 +1,7 @@
 //! The walk itself: layer after layer, up to the first pair on which the quantifier stops.
-ghost use Rattle.std.specs.Prelude.{◌≡◌, ℕ, ◌+◌, ◌<◌, ◌≤◌, ◌^◌, IfOk, IfSome, IfNone, MatchOption, length};
+ghost use Rattle.std.specs.Prelude.{◌≡◌, ℕ, ◌+◌, ◌<◌, ◌≤◌, ◌^◌, [], IfOk, IfSome, IfNone, MatchOption, length};
 ghost use Rattle.tm_auto.specs.Automata.{HasOneStateALayer};
-ghost use Rattle.tm_walk.specs.Layers.{NoneStops, IsFirstStop};
+ghost use Rattle.tm_walk.specs.Layers.{NoneStops, IsFirstStop, IsStart};
 ghost use Rattle.tm_walk.specs.Sought.{NoneIsSought, IsFound, HaltsWhereDead};
 ghost use Rattle.tm_walk.specs.Ways.{cells_to, LeadsBack};
 ghost use Rattle.tm_walk.specs.Words.{IsFront, IsLeastWord, live_length};
@@ -58,6 +58,13 @@ pub fn walk<Q: Quantifier, M: RefTest, L: Ledger>(
     .run(steps)
 }
 
+/// How far a walk has come: the newest layer, and the ways of all.
+#[derive(Drop)]
+struct Front {
+    layer: Layer,
+    history: History,
+}
+
 impl<'a, Q: Quantifier, M: RefTest> Walk<'a, Q, M> {
     /// What `walk` answers.
     fn run<L: Ledger>(&self, steps: &mut Steps<L>) -> Result<Option<Found>, Memory>
@@ -73,23 +80,48 @@ impl<'a, Q: Quantifier, M: RefTest> Walk<'a, Q, M> {
             → steps.new ≤ steps.old + (self.now.dst.now.size + 1) }
         ensures counted { steps.old ≤ steps.new }
     {
+        let mut front = Front {
+            layer: self.start()?,
+            history: History::new(self.alloc),
+        };
+        self.go_on(&mut front, steps)
+    }
+
+    /// What `walk` answers, from the first layer on.
+    fn go_on<L: Ledger>(
+        &self,
+        front: &mut Front,
+        steps: &mut Steps<L>,
+    ) -> Result<Option<Found>, Memory>
+        requires first { IsStart self.now.src.now self.now.dst.now front.old.layer }
+        requires nothing { front.old.history ≡ [] }
+        ensures found { IfOk result (λ answer. IfSome answer (λ found. IsFound
+            (M.test self.now.refs.now) self.now.src.now self.now.dst.now
+            (Q.stop self.now.quantifier.now) (Q.skip self.now.quantifier.now)
+            found.word found.offset)) }
+        ensures none { IfOk result (λ answer. IfNone answer (NoneIsSought
+            (M.test self.now.refs.now) self.now.src.now self.now.dst.now
+            (Q.stop self.now.quantifier.now) (Q.skip self.now.quantifier.now))) }
+        ensures cost { HasOneStateALayer self.now.src.now → HasOneStateALayer self.now.dst.now
+            → HaltsWhereDead (Q.stop self.now.quantifier.now) (Q.skip self.now.quantifier.now)
+            → steps.new ≤ steps.old + (self.now.dst.now.size + 1) }
+        ensures counted { steps.old ≤ steps.new }
+    {
         self.src.law();
         self.dst.law();
         let size = self.dst.size();
-        let mut history = History::new(self.alloc);
-        let mut layer = self.start()?;
         let mut place = 0;
         'places: loop {
             let at_end = place == size;
-            match self.first_stop(&layer, at_end) {
-                Some(k) => return Ok(Some(self.found(&history, k)?)),
+            match self.first_stop(&front.layer, at_end) {
+                Some(k) => return Ok(Some(self.found(&front.history, k)?)),
                 None => {}
             }
-            if at_end || layer.len() == 0 {
+            if at_end || front.layer.len() == 0 {
                 return Ok(None);
             }
-            layer = self.advance(place, &layer, steps)?;
-            history.add(layer.ways(self.alloc)?)?;
+            front.layer = self.advance(place, &front.layer, steps)?;
+            front.history.add(front.layer.ways(self.alloc)?)?;
             place += 1;
         }
     }
