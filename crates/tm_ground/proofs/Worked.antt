@@ -24,7 +24,7 @@ use Rattle.tm_ground.specs.Closed.{Closed, prim, tuple, array, wrap, named, ref,
 use Rattle.tm_ground.specs.ClosedTexts.{closed_text}
 use Rattle.tm_ground.specs.Limits.{depth_passes}
 use Rattle.tm_ground.specs.Occurs.{asked_types, parts_of, Occurs, is_asked, is_part}
-use Rattle.tm_ground.proofs.OpenLemmas.{put_ins}
+use Rattle.tm_ground.proofs.forms.OpenLemmas.{put_ins}
 
 abbrev node : DefId
 node = record { 0 = 0 }

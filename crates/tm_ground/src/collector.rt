@@ -188,7 +188,7 @@ impl Collector {
     }
 
     /// Adds what is written in the arguments and in the fields of a named type.
-    #[tactic(auto, using(crate::proofs::OpenLemmas::put_ins))]
+    #[tactic(auto, using(crate::proofs::forms::OpenLemmas::put_ins))]
     fn add_inside(&mut self, alloc: Global, resolved: &Resolved, ty: &Open) -> Result<(), Stop>
         requires { is_named (closed ty.now) ≡ true }
         ensures { Collecting (inside_of resolved.now (closed ty.now)) self.old self.new result }

@@ -46,7 +46,7 @@ fn numbered_fields(
 }
 
 /// The row of a named type.
-#[tactic(auto, using(crate::proofs::OpenLemmas::put_ins))]
+#[tactic(auto, using(crate::proofs::forms::OpenLemmas::put_ins))]
 fn named_row(
     alloc: Global,
     resolved: &Resolved,
@@ -76,7 +76,7 @@ fn named_row(
 }
 
 /// The row of a reference type.
-#[tactic(auto, using(crate::proofs::OpenLemmas::put_ins))]
+#[tactic(auto, using(crate::proofs::forms::OpenLemmas::put_ins))]
 fn ref_row(alloc: Global, found: &Found, ty: &Open) -> Result<RefRow, Memory>
     requires kind { is_ref (closed ty.now) ≡ true }
     requires numbers { HasNumbersIn found.now (closed ty.now) }

@@ -7,7 +7,7 @@ ghost use Rattle.tm_ground.specs.Sets.{closed_types};
 use tm_names::Open;
 
 /// Whether a closed type is a named one.
-#[tactic(auto, using(crate::proofs::OpenLemmas::put_ins))]
+#[tactic(auto, using(crate::proofs::forms::OpenLemmas::put_ins))]
 pub fn is_named(ty: &Open) -> bool
     ensures { result ≡ is_named (closed ty.now) }
 {
@@ -19,7 +19,7 @@ pub fn is_named(ty: &Open) -> bool
 }
 
 /// Whether a closed type is a reference.
-#[tactic(auto, using(crate::proofs::OpenLemmas::put_ins))]
+#[tactic(auto, using(crate::proofs::forms::OpenLemmas::put_ins))]
 pub fn is_ref(ty: &Open) -> bool
     ensures { result ≡ is_ref (closed ty.now) }
 {
@@ -31,7 +31,7 @@ pub fn is_ref(ty: &Open) -> bool
 }
 
 /// The types that a closed type is written with, but for a named one's arguments.
-#[tactic(auto, using(crate::proofs::OpenLemmas::put_ins))]
+#[tactic(auto, using(crate::proofs::forms::OpenLemmas::put_ins))]
 pub fn parts<'a>(ty: &'a Open) -> &'a [Open]
     ensures { closed_types result.now ≡ parts_in (closed ty.now) }
 {

@@ -17,7 +17,7 @@ use Rattle.tm_needs.specs.Numbers.{number_of}
 use Rattle.tm_needs.proofs.LeastLemmas.{least-unique}
 use Rattle.tm_needs.proofs.NumberLemmas.{number-small, subset-whole}
 use Rattle.tm_report.specs.AnswerLines.{HasWholeWord}
-use Rattle.tm_ground.proofs.ContainsLemmas.{contains-first}
+use Rattle.tm_ground.proofs.finding.ContainsLemmas.{contains-first}
 use Rattle.tm_run.specs.Needs.{HasRefusal, HoldsUnderSome, IsNeed, is_met}
 use Rattle.tm_run.specs.declared.reported.need.Need.{Need}
 use Rattle.tm_run.specs.declared.reported.need.Need.TheVariants.{Least, Refused}

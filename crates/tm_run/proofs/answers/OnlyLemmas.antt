@@ -11,8 +11,8 @@ use Rattle.tm_base.specs.Worlds.{tables_of}
 use Rattle.tm_base.proofs.AnswerLemmas.{IsAnswer-unique}
 use Rattle.tm_ground.specs.Belongs.{BelongsToFile}
 use Rattle.tm_ground.specs.OneWorld.{AreOneWorld}
-use Rattle.tm_ground.proofs.OneWorldLemmas.{one-world}
-use Rattle.tm_ground.proofs.SharedTexts.{no_shared_texts}
+use Rattle.tm_ground.proofs.world.OneWorldLemmas.{one-world}
+use Rattle.tm_ground.proofs.texts.SharedTexts.{no_shared_texts}
 use Rattle.tm_laws.specs.AnswerKinds.{is_yes}
 use Rattle.tm_matrix.specs.Matrix.{IsMatrix}
 use Rattle.tm_matrix.specs.declared.marks.Line.{Line}

@@ -3,7 +3,7 @@ use Rattle.std.proofs.Common.{◌≡◌, suc, ◌⊎◌, inl, inr, ◌↔◌, �
 use Rattle.std.specs.List.{All, AllZip, Any, list_all}
 use Rattle.std.proofs.lemmas.Bool.{and_parts}
 use Rattle.std.proofs.lemmas.List.Elements.{All-cons, All-head, All-nil, All-tail}
-use Rattle.tm_ground.proofs.ContainsLemmas.{contains-behind, contains-first}
+use Rattle.tm_ground.proofs.finding.ContainsLemmas.{contains-behind, contains-first}
 use Rattle.tm_run.specs.Report.{status_when}
 use Rattle.tm_run.specs.declared.status.Status.{Status}
 use Rattle.tm_run.specs.declared.status.Status.TheVariants.{AllYes, Mixed}

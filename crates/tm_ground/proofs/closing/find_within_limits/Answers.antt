@@ -1,4 +1,4 @@
-use Rattle.tm_ground.proofs.CollectedLemmas.{few-types, few-nodes, are-whole}
+use Rattle.tm_ground.proofs.finding.CollectedLemmas.{few-types, few-nodes, are-whole}
 use Rattle.tm_ground.proofs.closing.find_within_limits.Goals as goal
 
 pub returns-clause-whole : goal.returns-clause-whole

@@ -1,4 +1,4 @@
-use Rattle.tm_ground.proofs.DeepLemmas.{tells}
+use Rattle.tm_ground.proofs.sizes.DeepLemmas.{tells}
 use Rattle.tm_ground.proofs.depth.is_too_deep.Goals as goal
 
 pub returns : goal.returns

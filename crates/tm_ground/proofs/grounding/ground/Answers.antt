@@ -1,4 +1,4 @@
-use Rattle.tm_ground.proofs.CollectedLemmas.{no-more-types, no-more-refs}
+use Rattle.tm_ground.proofs.finding.CollectedLemmas.{no-more-types, no-more-refs}
 use Rattle.tm_ground.proofs.grounding.ground.Goals as goal
 
 pub returns-in-Ok-clause-fits : goal.returns-in-Ok-clause-fits

@@ -1,7 +1,7 @@
 use Rattle.std.proofs.lemmas.Result.{IfOk-weaker}
 use Rattle.tm_ground.specs.Sets.{closed_types}
-use Rattle.tm_ground.proofs.BelongsLemmas.{belongs}
-use Rattle.tm_ground.proofs.RowLemmas.{all-rows, world-of}
+use Rattle.tm_ground.proofs.world.BelongsLemmas.{belongs}
+use Rattle.tm_ground.proofs.world.RowLemmas.{all-rows, world-of}
 use Rattle.tm_ground.proofs.grounding.ordered_world.Goals as goal
 
 pub make_world-requires-clause-whole : goal.make_world-requires-clause-whole

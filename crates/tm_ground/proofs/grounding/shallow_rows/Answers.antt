@@ -1,7 +1,7 @@
 use Rattle.std.proofs.Common.{subst}
 use Rattle.tm_ground.specs.Depths.{TellsDepth}
-use Rattle.tm_ground.proofs.CollectedLemmas.{no-more-types, no-more-refs}
-use Rattle.tm_ground.proofs.RowLemmas.{all-rows}
+use Rattle.tm_ground.proofs.finding.CollectedLemmas.{no-more-types, no-more-refs}
+use Rattle.tm_ground.proofs.world.RowLemmas.{all-rows}
 use Rattle.tm_ground.proofs.grounding.shallow_rows.Goals as goal
 
 pub returns-then-branch-clause-cause : goal.returns-then-branch-clause-cause

@@ -1,4 +1,4 @@
-use Rattle.tm_ground.proofs.OneWorldLemmas.{one-world}
+use Rattle.tm_ground.proofs.world.OneWorldLemmas.{one-world}
 use Rattle.tm_ground.proofs.laws.files_have_one_world.Goals as goal
 
 pub returns : goal.returns

@@ -3,9 +3,9 @@ use Rattle.std.proofs.lemmas.List.{drop_all}
 use Rattle.tm_ground.specs.Closed.{as_elements, nodes_in, put_in}
 use Rattle.tm_ground.specs.Rooms.{left_after}
 use Rattle.tm_ground.specs.Sets.{closed_types}
-use Rattle.tm_ground.proofs.NodeLemmas.{then-left, none-left, no-room, all-room, left-Prim, left-Never, left-NonZero, left-Array, left-Wrap, left-Ref, left-Tuple, left-Named, left-Param, nodes-from}
-use Rattle.tm_ground.proofs.OpenLemmas.{put_in-Param, argument-at, argument-none, not-below}
-use Rattle.tm_ground.proofs.SizeLemmas.{size_of, sizes_of, size_of-at, size_of-some, size-Tuple, size-Array, size-Wrap, size-Named, size-Ref}
+use Rattle.tm_ground.proofs.sizes.NodeLemmas.{then-left, none-left, no-room, all-room, left-Prim, left-Never, left-NonZero, left-Array, left-Wrap, left-Ref, left-Tuple, left-Named, left-Param, nodes-from}
+use Rattle.tm_ground.proofs.forms.OpenLemmas.{put_in-Param, argument-at, argument-none, not-below}
+use Rattle.tm_ground.proofs.sizes.SizeLemmas.{size_of, sizes_of, size_of-at, size_of-some, size-Tuple, size-Array, size-Wrap, size-Named, size-Ref}
 use Rattle.tm_ground.proofs.nodes.+left.Goals as goal
 
 pub all_left-left-requires : goal.all_left-left-requires

@@ -3,7 +3,7 @@ use Rattle.tm_base.specs.declared.definition.RegionId.{RegionId}
 use Rattle.tm_ground.specs.Closed.{as_elements, nodes_in, put_in}
 use Rattle.tm_ground.specs.Rooms.{left_after}
 use Rattle.tm_ground.specs.Sets.{closed_types}
-use Rattle.tm_ground.proofs.SizeLemmas.{size_of, sizes_of}
+use Rattle.tm_ground.proofs.sizes.SizeLemmas.{size_of, sizes_of}
 use Rattle.tm_ground.proofs.nodes.+left.Given as goal
 
 -- an argument that is put in has no arguments put in

@@ -4,9 +4,9 @@ use Rattle.std.proofs.lemmas.List.{length-map}
 use Rattle.tm_ground.specs.Closed.{as_elements, put_in, tuple}
 use Rattle.tm_ground.specs.Numbered.{HasNumbers}
 use Rattle.tm_ground.specs.Sets.{closed_types}
-use Rattle.tm_ground.proofs.NumberLemmas.{has-Array, has-Wrap, has-Tuple, has-Named, has-Ref, numbers-Prim, numbers-Never, numbers-Param, numbers-Array, numbers-NonZero, numbers-Wrap, numbers-Named, numbers-Ref, tuple-numbered, unit-numbered, numbered-more, contains-map, numbers-result}
-use Rattle.tm_ground.proofs.OpenLemmas.{put_in-Tuple, put_in-Param, argument-at, argument-none, not-below}
-use Rattle.tm_ground.proofs.SizeLemmas.{size_of, sizes_of, size-Array, size-Tuple, size-Wrap, size_of-at, size_of-some}
+use Rattle.tm_ground.proofs.numbers.NumberLemmas.{has-Array, has-Wrap, has-Tuple, has-Named, has-Ref, numbers-Prim, numbers-Never, numbers-Param, numbers-Array, numbers-NonZero, numbers-Wrap, numbers-Named, numbers-Ref, tuple-numbered, unit-numbered, numbered-more, contains-map, numbers-result}
+use Rattle.tm_ground.proofs.forms.OpenLemmas.{put_in-Tuple, put_in-Param, argument-at, argument-none, not-below}
+use Rattle.tm_ground.proofs.sizes.SizeLemmas.{size_of, sizes_of, size-Array, size-Tuple, size-Wrap, size_of-at, size_of-some}
 use Rattle.tm_ground.proofs.numbering.+numbered.Goals as goal
 
 pub all_numbered-numbered-requires : goal.all_numbered-numbered-requires

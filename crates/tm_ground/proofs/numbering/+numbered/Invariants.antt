@@ -3,7 +3,7 @@ use Rattle.std.specs.List.{AllZip}
 use Rattle.tm_ground.specs.Closed.{put_in}
 use Rattle.tm_ground.specs.Numbered.{IsNumbered}
 use Rattle.tm_ground.specs.Sets.{closed_types}
-use Rattle.tm_ground.proofs.SizeLemmas.{size_of, sizes_of}
+use Rattle.tm_ground.proofs.sizes.SizeLemmas.{size_of, sizes_of}
 use Rattle.tm_ground.proofs.numbering.+numbered.Given as goal
 
 -- the types made so far are the first ones

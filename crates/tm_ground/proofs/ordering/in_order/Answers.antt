@@ -1,9 +1,9 @@
 use Rattle.std.proofs.lemmas.List.Elements.{All-contains}
 use Rattle.tm_ground.specs.Limits.{is_named, is_ref, OccursAs}
 use Rattle.tm_ground.specs.Sets.{closed_types}
-use Rattle.tm_ground.proofs.HasNumbersLemmas.{have-numbers}
-use Rattle.tm_ground.proofs.OrderLemmas.{in-order, moved-whole}
-use Rattle.tm_ground.proofs.RowLemmas.{all-rows, world-of}
+use Rattle.tm_ground.proofs.numbers.HasNumbersLemmas.{have-numbers}
+use Rattle.tm_ground.proofs.world.OrderLemmas.{in-order, moved-whole}
+use Rattle.tm_ground.proofs.world.RowLemmas.{all-rows, world-of}
 use Rattle.tm_ground.proofs.ordering.in_order.Goals as goal
 
 pub make_world-requires-clause-whole : goal.make_world-requires-clause-whole

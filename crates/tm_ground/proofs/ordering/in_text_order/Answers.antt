@@ -8,7 +8,7 @@ use Rattle.std.proofs.lemmas.Result.{IfOk-weaker}
 use Rattle.tm_ground.specs.declared.ordering.Texted.{Texted}
 use Rattle.tm_ground.specs.Sets.{closed_types}
 use Rattle.tm_ground.specs.Texted.{AreInTextOrder}
-use Rattle.tm_ground.proofs.OrderLemmas.{in-text-order, moved-distinct, moved-types}
+use Rattle.tm_ground.proofs.world.OrderLemmas.{in-text-order, moved-distinct, moved-types}
 use Rattle.tm_ground.proofs.ordering.in_text_order.Goals as goal
 
 pub of-requires : goal.of-requires

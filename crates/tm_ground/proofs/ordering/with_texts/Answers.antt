@@ -3,8 +3,8 @@ use Rattle.std.proofs.lemmas.List.Elements.{All-push}
 use Rattle.tm_ground.specs.Closed.{closed}
 use Rattle.tm_ground.specs.Sets.{closed_types}
 use Rattle.tm_ground.specs.Texted.{HasItsText}
-use Rattle.tm_ground.proofs.NumberLemmas.{contains-map}
-use Rattle.tm_ground.proofs.OrderLemmas.{types-more}
+use Rattle.tm_ground.proofs.numbers.NumberLemmas.{contains-map}
+use Rattle.tm_ground.proofs.world.OrderLemmas.{types-more}
 use Rattle.tm_ground.proofs.ordering.with_texts.Goals as goal
 
 pub with_text-requires : goal.with_text-requires

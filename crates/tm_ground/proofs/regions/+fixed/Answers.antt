@@ -1,6 +1,6 @@
 use Rattle.std.proofs.Common.{◌≡◌, ◌+◌, refl, arith}
-use Rattle.tm_ground.proofs.OpenLemmas.{put_in-Prim, put_in-Never, put_in-Tuple, put_in-Array, put_in-NonZero, put_in-Wrap, put_in-Named, put_in-Ref, put_in-Param, argument-at, argument-none, not-below}
-use Rattle.tm_ground.proofs.SizeLemmas.{size_of, sizes_of, size_of-at, size_of-some, size-Tuple, size-Array, size-Wrap, size-Named, size-Ref}
+use Rattle.tm_ground.proofs.forms.OpenLemmas.{put_in-Prim, put_in-Never, put_in-Tuple, put_in-Array, put_in-NonZero, put_in-Wrap, put_in-Named, put_in-Ref, put_in-Param, argument-at, argument-none, not-below}
+use Rattle.tm_ground.proofs.sizes.SizeLemmas.{size_of, sizes_of, size_of-at, size_of-some, size-Tuple, size-Array, size-Wrap, size-Named, size-Ref}
 use Rattle.tm_ground.proofs.regions.+fixed.Goals as goal
 
 pub all_fixed-fixed-requires : goal.all_fixed-fixed-requires

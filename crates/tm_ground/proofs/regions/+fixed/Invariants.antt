@@ -1,7 +1,7 @@
 use Rattle.std.proofs.Common.{◌≡◌, ◌+◌, ◌*◌, map, take}
 use Rattle.tm_ground.specs.Closed.{put_in}
 use Rattle.tm_ground.specs.Sets.{closed_types}
-use Rattle.tm_ground.proofs.SizeLemmas.{size_of, sizes_of}
+use Rattle.tm_ground.proofs.sizes.SizeLemmas.{size_of, sizes_of}
 use Rattle.tm_ground.proofs.regions.+fixed.Given as goal
 
 -- the types made so far are the first ones

@@ -1,6 +1,6 @@
 use Rattle.std.proofs.Common.{[], ◌∙◌, ap, map}
 use Rattle.tm_ground.specs.Closed.{region_of}
-use Rattle.tm_ground.proofs.RowLemmas.{argument-part, field-part, row-of}
+use Rattle.tm_ground.proofs.world.RowLemmas.{argument-part, field-part, row-of}
 use Rattle.tm_ground.proofs.rows.named_row.Goals as goal
 
 pub all_numbered-requires : goal.all_numbered-requires

@@ -5,9 +5,9 @@ use Rattle.tm_ground.specs.Closed.{closed}
 use Rattle.tm_ground.specs.Limits.{is_named, OccursAs}
 use Rattle.tm_ground.specs.Rows.{IsNamedRow}
 use Rattle.tm_ground.specs.Sets.{closed_types}
-use Rattle.tm_ground.proofs.HasNumbersLemmas.{have-numbers}
-use Rattle.tm_ground.proofs.NumberLemmas.{contains-map, numbered-more}
-use Rattle.tm_ground.proofs.SmallLemmas.{occurring-part}
+use Rattle.tm_ground.proofs.numbers.HasNumbersLemmas.{have-numbers}
+use Rattle.tm_ground.proofs.numbers.NumberLemmas.{contains-map, numbered-more}
+use Rattle.tm_ground.proofs.sizes.SmallLemmas.{occurring-part}
 use Rattle.tm_ground.proofs.rows.named_rows.Goals as goal
 
 pub named_row-requires-clause-kind : goal.named_row-requires-clause-kind

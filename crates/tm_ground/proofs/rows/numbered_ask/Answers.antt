@@ -1,6 +1,6 @@
 use Rattle.std.proofs.Common.{[], ◌∷◌}
 use Rattle.tm_ground.specs.Closed.{closed}
-use Rattle.tm_ground.proofs.ContainsLemmas.{contains-first, contains-behind}
+use Rattle.tm_ground.proofs.finding.ContainsLemmas.{contains-first, contains-behind}
 use Rattle.tm_ground.proofs.rows.numbered_ask.Goals as goal
 
 pub numbered-requires : goal.numbered-requires

@@ -1,8 +1,8 @@
 use Rattle.std.proofs.Common.{map}
 use Rattle.tm_ground.specs.Closed.{put_in}
 use Rattle.tm_ground.specs.Sets.{closed_types}
-use Rattle.tm_ground.proofs.ContainsLemmas.{flat_map-contains}
-use Rattle.tm_ground.proofs.NumberLemmas.{contains-map, numbered-more}
+use Rattle.tm_ground.proofs.finding.ContainsLemmas.{flat_map-contains}
+use Rattle.tm_ground.proofs.numbers.NumberLemmas.{contains-map, numbered-more}
 use Rattle.tm_ground.proofs.rows.numbered_fields.Goals as goal
 
 pub all_numbered-requires : goal.all_numbered-requires

@@ -1,7 +1,7 @@
 use Rattle.std.proofs.Common.{subst, flat_map, Contains}
 use Rattle.tm_ground.specs.Occurs.{sides_of, is_asked}
-use Rattle.tm_ground.proofs.HasNumbersLemmas.{have-numbers}
-use Rattle.tm_ground.proofs.NumberLemmas.{contains-each, zip-more}
+use Rattle.tm_ground.proofs.numbers.HasNumbersLemmas.{have-numbers}
+use Rattle.tm_ground.proofs.numbers.NumberLemmas.{contains-each, zip-more}
 use Rattle.tm_ground.proofs.rows.questions.Goals as goal
 
 pub numbered_ask-requires : goal.numbered_ask-requires

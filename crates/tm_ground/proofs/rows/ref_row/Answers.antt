@@ -2,7 +2,7 @@ use Rattle.std.proofs.Common.{[], subst}
 use Rattle.tm_ground.specs.Closed.{closed}
 use Rattle.tm_ground.specs.Numbered.{HasNumbers}
 use Rattle.tm_ground.specs.Sets.{closed_types}
-use Rattle.tm_ground.proofs.NumberLemmas.{has-pointee}
+use Rattle.tm_ground.proofs.numbers.NumberLemmas.{has-pointee}
 use Rattle.tm_ground.proofs.rows.ref_row.Goals as goal
 
 pub numbered-requires : goal.numbered-requires

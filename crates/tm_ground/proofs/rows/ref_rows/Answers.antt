@@ -5,7 +5,7 @@ use Rattle.tm_ground.specs.Closed.{closed}
 use Rattle.tm_ground.specs.Limits.{is_ref}
 use Rattle.tm_ground.specs.Rows.{IsRefRow}
 use Rattle.tm_ground.specs.Sets.{closed_types}
-use Rattle.tm_ground.proofs.NumberLemmas.{contains-map, numbered-more}
+use Rattle.tm_ground.proofs.numbers.NumberLemmas.{contains-map, numbered-more}
 use Rattle.tm_ground.proofs.rows.ref_rows.Goals as goal
 
 pub ref_row-requires-clause-kind : goal.ref_row-requires-clause-kind

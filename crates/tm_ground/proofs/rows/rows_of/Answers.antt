@@ -1,6 +1,6 @@
 use Rattle.std.proofs.lemmas.List.Elements.{All-contains}
 use Rattle.tm_ground.specs.Limits.{is_ref, OccursAs}
-use Rattle.tm_ground.proofs.HasNumbersLemmas.{have-numbers}
+use Rattle.tm_ground.proofs.numbers.HasNumbersLemmas.{have-numbers}
 use Rattle.tm_ground.proofs.rows.rows_of.Goals as goal
 
 pub ref_rows-requires-clause-kind : goal.ref_rows-requires-clause-kind

@@ -1,8 +1,8 @@
 use Rattle.std.proofs.Common.{◌∙◌, arith}
 use Rattle.std.proofs.lemmas.Slice.Zip.{AllZip-long}
-use Rattle.tm_ground.proofs.RowForm.{regions-in_form, rows-in_form}
-use Rattle.tm_ground.proofs.RowsApart.{rows-distinct, ref-rows-distinct}
-use Rattle.tm_ground.proofs.TypesForm.{types-in_form}
+use Rattle.tm_ground.proofs.forms.RowForm.{regions-in_form, rows-in_form}
+use Rattle.tm_ground.proofs.world.RowsApart.{rows-distinct, ref-rows-distinct}
+use Rattle.tm_ground.proofs.forms.TypesForm.{types-in_form}
 use Rattle.tm_ground.proofs.worlds.make_world.Goals as goal
 
 pub invariant_of-result : goal.invariant_of-result

@@ -1,7 +1,7 @@
 use Rattle.std.proofs.Common.{◌≡◌, ◌+◌, sym, arith, append_assoc}
-use Rattle.tm_ground.proofs.OpenLemmas.{put_in-Param, argument-at, argument-none, not-below}
-use Rattle.tm_ground.proofs.SizeLemmas.{size_of, sizes_of, size_of-at, size_of-some, size-Tuple, size-Array, size-Wrap, size-Named, size-Ref}
-use Rattle.tm_ground.proofs.CodeLemmas.{code-Prim, code-Tuple, code-Array, code-NonZero, code-Wrap, code-Named, code-Ref, code-Never, code-Param}
+use Rattle.tm_ground.proofs.forms.OpenLemmas.{put_in-Param, argument-at, argument-none, not-below}
+use Rattle.tm_ground.proofs.sizes.SizeLemmas.{size_of, sizes_of, size_of-at, size_of-some, size-Tuple, size-Array, size-Wrap, size-Named, size-Ref}
+use Rattle.tm_ground.proofs.finding.CodeLemmas.{code-Prim, code-Tuple, code-Array, code-NonZero, code-Wrap, code-Named, code-Ref, code-Never, code-Param}
 use Rattle.tm_ground.proofs.code.Code.+add.Goals as goal
 
 pub add_all-add-requires : goal.add_all-add-requires

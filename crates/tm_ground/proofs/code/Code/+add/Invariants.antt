@@ -2,7 +2,7 @@ use Rattle.std.proofs.Common.{◌≡◌, ◌+◌, ◌*◌, ◌++◌, map, drop}
 use Rattle.tm_ground.specs.Closed.{put_in}
 use Rattle.tm_ground.specs.Codes.{codes_of}
 use Rattle.tm_ground.specs.Sets.{closed_types}
-use Rattle.tm_ground.proofs.SizeLemmas.{size_of, sizes_of}
+use Rattle.tm_ground.proofs.sizes.SizeLemmas.{size_of, sizes_of}
 use Rattle.tm_ground.proofs.code.Code.+add.Given as goal
 
 -- an argument that is put in has no arguments put in

@@ -3,9 +3,9 @@ use Rattle.std.proofs.lemmas.List.{drop_all}
 use Rattle.tm_ground.specs.Closed.{closed}
 use Rattle.tm_ground.specs.Collecting.{AreSmall}
 use Rattle.tm_ground.specs.Sets.{closed_types}
-use Rattle.tm_ground.proofs.FindingLemmas.{collecting-written, finding-stops, parts-small}
-use Rattle.tm_ground.proofs.SeeingLemmas.{goes-step, goes-stop, goes-end, map-drop, collecting-same, contains-item}
-use Rattle.tm_ground.proofs.SizeLemmas.{size_of-at, size_of-parts}
+use Rattle.tm_ground.proofs.finding.FindingLemmas.{collecting-written, finding-stops, parts-small}
+use Rattle.tm_ground.proofs.finding.SeeingLemmas.{goes-step, goes-stop, goes-end, map-drop, collecting-same, contains-item}
+use Rattle.tm_ground.proofs.sizes.SizeLemmas.{size_of-at, size_of-parts}
 use Rattle.tm_ground.proofs.collector.Collector.+add_written.Goals as goal
 
 pub add_all_written-add_written-requires : goal.add_all_written-add_written-requires

@@ -1,7 +1,7 @@
 use Rattle.std.proofs.Common.{◌+◌, ◌*◌, drop}
 use Rattle.tm_ground.specs.Sets.{closed_types}
-use Rattle.tm_ground.proofs.SeeingLemmas.{GoesOn}
-use Rattle.tm_ground.proofs.SizeLemmas.{size_of, sizes_of}
+use Rattle.tm_ground.proofs.finding.SeeingLemmas.{GoesOn}
+use Rattle.tm_ground.proofs.sizes.SizeLemmas.{size_of, sizes_of}
 use Rattle.tm_ground.proofs.collector.Collector.+add_written.Given as goal
 
 abbrev pub decreases-add_written : goal.decreases-add_written

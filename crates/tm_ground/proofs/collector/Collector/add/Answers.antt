@@ -1,7 +1,7 @@
 use Rattle.std.proofs.Common.{◌∷◌, [], sym, ap, ◌∙◌}
 use Rattle.tm_ground.specs.Occurs.{is_small}
-use Rattle.tm_ground.proofs.FindingLemmas.{collecting-big}
-use Rattle.tm_ground.proofs.SeeingLemmas.{collecting-same}
+use Rattle.tm_ground.proofs.finding.FindingLemmas.{collecting-big}
+use Rattle.tm_ground.proofs.finding.SeeingLemmas.{collecting-same}
 use Rattle.tm_ground.proofs.collector.Collector.add.Goals as goal
 
 pub returns-then-not-is_small : goal.returns-then-not-is_small

@@ -2,7 +2,7 @@ use Rattle.std.proofs.Common.{refl, ap, map, ◌∷◌, []}
 use Rattle.std.proofs.lemmas.List.{drop_all}
 use Rattle.tm_ground.specs.Closed.{put_in}
 use Rattle.tm_ground.specs.Sets.{closed_types}
-use Rattle.tm_ground.proofs.SeeingLemmas.{goes-begin, goes-step, goes-stop, goes-end, map-drop}
+use Rattle.tm_ground.proofs.finding.SeeingLemmas.{goes-begin, goes-step, goes-stop, goes-end, map-drop}
 use Rattle.tm_ground.proofs.collector.Collector.add_all.Goals as goal
 
 pub loop-item-init : goal.loop-item-init

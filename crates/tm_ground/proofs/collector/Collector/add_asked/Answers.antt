@@ -2,7 +2,7 @@ use Rattle.std.proofs.Common.{refl, ap}
 use Rattle.std.specs.List.{flat_map}
 use Rattle.std.proofs.lemmas.List.{drop_all}
 use Rattle.tm_ground.specs.Occurs.{sides_of}
-use Rattle.tm_ground.proofs.SeeingLemmas.{goes-begin, goes-step, goes-stop, goes-end, flat_map-drop}
+use Rattle.tm_ground.proofs.finding.SeeingLemmas.{goes-begin, goes-step, goes-stop, goes-end, flat_map-drop}
 use Rattle.tm_ground.proofs.collector.Collector.add_asked.Goals as goal
 
 pub loop-ask-init : goal.loop-ask-init

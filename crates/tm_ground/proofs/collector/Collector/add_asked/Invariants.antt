@@ -1,7 +1,7 @@
 use Rattle.std.proofs.Common.{drop}
 use Rattle.std.specs.List.{flat_map}
 use Rattle.tm_ground.specs.Occurs.{asked_in, sides_of}
-use Rattle.tm_ground.proofs.SeeingLemmas.{GoesOn}
+use Rattle.tm_ground.proofs.finding.SeeingLemmas.{GoesOn}
 use Rattle.tm_ground.proofs.collector.Collector.add_asked.Given as goal
 
 abbrev pub invariant-loop-ask : goal.invariant-loop-ask

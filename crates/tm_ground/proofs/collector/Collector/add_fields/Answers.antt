@@ -3,7 +3,7 @@ use Rattle.std.specs.List.{flat_map}
 use Rattle.std.proofs.lemmas.List.{drop_all}
 use Rattle.tm_ground.specs.Closed.{put_in}
 use Rattle.tm_ground.specs.Sets.{closed_types}
-use Rattle.tm_ground.proofs.SeeingLemmas.{goes-begin, goes-step, goes-stop, goes-end, flat_map-drop, all_fields-each}
+use Rattle.tm_ground.proofs.finding.SeeingLemmas.{goes-begin, goes-step, goes-stop, goes-end, flat_map-drop, all_fields-each}
 use Rattle.tm_ground.proofs.collector.Collector.add_fields.Goals as goal
 
 pub loop-types-init : goal.loop-types-init

@@ -3,7 +3,7 @@ use Rattle.std.specs.List.{flat_map}
 use Rattle.tm_ground.specs.Closed.{put_in}
 use Rattle.tm_ground.specs.Occurs.{all_fields}
 use Rattle.tm_ground.specs.Sets.{closed_types}
-use Rattle.tm_ground.proofs.SeeingLemmas.{GoesOn}
+use Rattle.tm_ground.proofs.finding.SeeingLemmas.{GoesOn}
 use Rattle.tm_ground.proofs.collector.Collector.add_fields.Given as goal
 
 abbrev pub invariant-loop-types : goal.invariant-loop-types

@@ -2,8 +2,8 @@ use Rattle.std.proofs.Common.{ap, [], map, Ok, Err}
 use Rattle.tm_ground.specs.Closed.{region_of}
 use Rattle.tm_ground.specs.Occurs.{fields_of}
 use Rattle.tm_ground.specs.Sets.{closed_types}
-use Rattle.tm_ground.proofs.ClosingLemmas.{inside-named}
-use Rattle.tm_ground.proofs.SeeingLemmas.{collecting-same, collecting-then, collecting-stops}
+use Rattle.tm_ground.proofs.finding.ClosingLemmas.{inside-named}
+use Rattle.tm_ground.proofs.finding.SeeingLemmas.{collecting-same, collecting-then, collecting-stops}
 use Rattle.tm_ground.proofs.collector.Collector.add_inside.Goals as goal
 
 pub returns-in-Err : goal.returns-in-Err

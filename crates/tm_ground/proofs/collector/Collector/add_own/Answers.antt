@@ -1,5 +1,5 @@
 use Rattle.std.proofs.Common.{sym}
-use Rattle.tm_ground.proofs.FindingLemmas.{finds-named, finds-none}
+use Rattle.tm_ground.proofs.finding.FindingLemmas.{finds-named, finds-none}
 use Rattle.tm_ground.proofs.collector.Collector.add_own.Goals as goal
 
 pub returns-then-is_named : goal.returns-then-is_named

@@ -3,7 +3,7 @@ use Rattle.tm_ground.specs.Closed.{closed}
 use Rattle.tm_ground.specs.Growing.{Adding}
 use Rattle.tm_ground.specs.Limits.{ref_limit}
 use Rattle.tm_ground.specs.Sets.{closed_types}
-use Rattle.tm_ground.proofs.FindingLemmas.{finds-ref, finds-many, finds-no_more}
+use Rattle.tm_ground.proofs.finding.FindingLemmas.{finds-ref, finds-many, finds-no_more}
 use Rattle.tm_ground.proofs.collector.Collector.add_ref.Goals as goal
 
 pub returns-then-self : goal.returns-then-self

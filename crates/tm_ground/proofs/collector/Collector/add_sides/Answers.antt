@@ -1,6 +1,6 @@
 use Rattle.std.proofs.Common.{◌∷◌, []}
 use Rattle.tm_ground.specs.Closed.{closed}
-use Rattle.tm_ground.proofs.SeeingLemmas.{collecting-then, collecting-stops}
+use Rattle.tm_ground.proofs.finding.SeeingLemmas.{collecting-then, collecting-stops}
 use Rattle.tm_ground.proofs.collector.Collector.add_sides.Goals as goal
 
 pub returns-in-Ok : goal.returns-in-Ok

@@ -1,8 +1,8 @@
 use Rattle.std.proofs.Common.{◌≡◌, ◌∙◌, sym, ap, subst, arith, length, Some, slice_get}
 use Rattle.std.proofs.lemmas.List.{length-map}
 use Rattle.tm_ground.specs.Closed.{Closed, closed}
-use Rattle.tm_ground.proofs.OpenLemmas.{not-below}
-use Rattle.tm_ground.proofs.ClosingLemmas.{closed-get, closing-begins, closing-fails, closing-named, closing-step, closing-stops, closing-ends}
+use Rattle.tm_ground.proofs.forms.OpenLemmas.{not-below}
+use Rattle.tm_ground.proofs.finding.ClosingLemmas.{closed-get, closing-begins, closing-fails, closing-named, closing-step, closing-stops, closing-ends}
 use Rattle.tm_ground.proofs.collector.Collector.close.Goals as goal
 
 pub returns-in-Err : goal.returns-in-Err

@@ -1,4 +1,4 @@
-use Rattle.tm_ground.proofs.ClosingLemmas.{IsClosing}
+use Rattle.tm_ground.proofs.finding.ClosingLemmas.{IsClosing}
 use Rattle.tm_ground.proofs.collector.Collector.close.Given as goal
 
 abbrev pub invariant-loop-place : goal.invariant-loop-place

@@ -10,8 +10,8 @@ use Rattle.tm_base.specs.Whole.{written_types}
 use Rattle.tm_base.proofs.GroundLemmas.{written_types-Tuple, written_types-Array, written_types-Wrap}
 use Rattle.tm_ground.specs.Depths.{is_deep, passes_by}
 use Rattle.tm_ground.specs.Limits.{depth_limit}
-use Rattle.tm_ground.proofs.TableLemmas.{count-at, deep-Array, deep-Tuple, deep-Wrap, deep-below, deep-itself, deep-leaf}
-use Rattle.tm_ground.proofs.TypesForm.{written-Prim, written-Never, written-Unit, written-NonZero, written-Named, written-Ref}
+use Rattle.tm_ground.proofs.sizes.TableLemmas.{count-at, deep-Array, deep-Tuple, deep-Wrap, deep-below, deep-itself, deep-leaf}
+use Rattle.tm_ground.proofs.forms.TypesForm.{written-Prim, written-Never, written-Unit, written-NonZero, written-Named, written-Ref}
 use Rattle.tm_ground.proofs.depth.Depths.+is_deep.Goals as goal
 
 part-size : (h g : Ground) → ((n : ℕ) × (h ≡ ground_is.Array g n)) ⊎ ((w : Wrapper) × (h ≡ ground_is.Wrap w g)) → length (written_types h) ≡ suc (length (written_types g))

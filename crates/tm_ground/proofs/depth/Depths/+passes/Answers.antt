@@ -3,7 +3,7 @@ use Rattle.std.specs.List.{list_any}
 use Rattle.tm_base.specs.declared.ground.Ground.{out-Ground}
 use Rattle.tm_base.specs.declared.ground.Ground.TheVariants as level
 use Rattle.tm_ground.specs.Depths.{passes_by}
-use Rattle.tm_ground.proofs.TableLemmas.{passes-leaf, passes-next, passes-none, passes-scalar}
+use Rattle.tm_ground.proofs.sizes.TableLemmas.{passes-leaf, passes-next, passes-none, passes-scalar}
 use Rattle.tm_ground.proofs.depth.Depths.+passes.Goals as goal
 
 pub passes-returns-then-number-eq0 : goal.passes-returns-then-number-eq0

@@ -1,7 +1,7 @@
 use Rattle.std.proofs.Common.{◌∙◌, ◌&&◌, sym, ap, arith}
 use Rattle.std.proofs.lemmas.Bool.{eqb-false}
 use Rattle.tm_ground.specs.Depths.{row_passes}
-use Rattle.tm_ground.proofs.DepthLemmas.{next-at, next-first}
+use Rattle.tm_ground.proofs.sizes.DepthLemmas.{next-at, next-first}
 use Rattle.tm_ground.proofs.depth.Depths.next_flag.Goals.{then-number-eq0, else-number-eq0}
 use Rattle.tm_ground.proofs.depth.Depths.next_flag.Goals as goal
 

@@ -1,6 +1,6 @@
 use Rattle.std.proofs.Common.{◌∙◌, arith, ap}
 use Rattle.tm_ground.specs.Depths.{next_flag}
-use Rattle.tm_ground.proofs.DepthLemmas.{first-none, first-more, first-all}
+use Rattle.tm_ground.proofs.sizes.DepthLemmas.{first-none, first-more, first-all}
 use Rattle.tm_ground.proofs.depth.Depths.next_table.Goals as goal
 
 pub loop-row-init : goal.loop-row-init

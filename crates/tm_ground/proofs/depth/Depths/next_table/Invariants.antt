@@ -1,4 +1,4 @@
-use Rattle.tm_ground.proofs.DepthLemmas.{TellsFirst}
+use Rattle.tm_ground.proofs.sizes.DepthLemmas.{TellsFirst}
 use Rattle.tm_ground.proofs.depth.Depths.next_table.Given as goal
 
 -- the flags made so far tell the depths of the first rows

@@ -1,6 +1,6 @@
 use Rattle.std.proofs.Common.{◌+◌, ◌∙◌, refl, sym, ap, length, length-append}
 use Rattle.tm_ground.specs.Limits.{depth_limit}
-use Rattle.tm_ground.proofs.DepthLemmas.{tell-all, tell-more, tell-none}
+use Rattle.tm_ground.proofs.sizes.DepthLemmas.{tell-all, tell-more, tell-none}
 use Rattle.tm_ground.proofs.depth.Depths.of.Goals as goal
 
 pub loop-number-init : goal.loop-number-init

@@ -3,8 +3,8 @@ use Rattle.std.proofs.lemmas.List.{length-map}
 use Rattle.tm_ground.specs.Closed.{closed}
 use Rattle.tm_ground.specs.Growing.{Adds}
 use Rattle.tm_ground.specs.Sets.{closed_types}
-use Rattle.tm_ground.proofs.GrowLemmas.{adds-present, adds-new, overflows-new, contains-from_get}
-use Rattle.tm_ground.proofs.SetLemmas.{type-at, not-there}
+use Rattle.tm_ground.proofs.finding.GrowLemmas.{adds-present, adds-new, overflows-new, contains-from_get}
+use Rattle.tm_ground.proofs.finding.SetLemmas.{type-at, not-there}
 use Rattle.tm_ground.proofs.type_set.TypeSet.insert.Goals as goal
 
 pub returns-in-Some : goal.returns-in-Some

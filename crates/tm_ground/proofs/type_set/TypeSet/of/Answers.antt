@@ -1,4 +1,4 @@
-use Rattle.tm_ground.proofs.SetLemmas.{codes-next}
+use Rattle.tm_ground.proofs.finding.SetLemmas.{codes-next}
 use Rattle.tm_ground.proofs.type_set.TypeSet.of.Goals as goal
 
 pub loop-ty-preserved : goal.loop-ty-preserved

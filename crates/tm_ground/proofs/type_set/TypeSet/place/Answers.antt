@@ -1,4 +1,4 @@
-use Rattle.tm_ground.proofs.SetLemmas.{code-found, code-absent}
+use Rattle.tm_ground.proofs.finding.SetLemmas.{code-found, code-absent}
 use Rattle.tm_ground.proofs.type_set.TypeSet.place.Goals as goal
 
 pub returns-clause-found : goal.returns-clause-found

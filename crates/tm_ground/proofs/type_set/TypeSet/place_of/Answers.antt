@@ -1,4 +1,4 @@
-use Rattle.tm_ground.proofs.SetLemmas.{place-found, place-absent}
+use Rattle.tm_ground.proofs.finding.SetLemmas.{place-found, place-absent}
 use Rattle.tm_ground.proofs.type_set.TypeSet.place_of.Goals as goal
 
 pub returns-clause-found : goal.returns-clause-found

@@ -1,5 +1,5 @@
 use Rattle.std.proofs.Common.{◌∙◌, Contains}
-use Rattle.tm_ground.proofs.SetLemmas.{numbers_in, code-new, codes-added, without-last}
+use Rattle.tm_ground.proofs.finding.SetLemmas.{numbers_in, code-new, codes-added, without-last}
 use Rattle.tm_ground.proofs.type_set.TypeSet.push.Goals as goal
 
 pub invariant_of-self-in-Ok : goal.invariant_of-self-in-Ok

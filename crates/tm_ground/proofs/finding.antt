@@ -1,0 +1,11 @@
+pub mod ContainsLemmas
+pub mod PigeonLemmas
+pub mod CodeLemmas
+pub mod SetLemmas
+pub mod GrowLemmas
+pub mod WrittenLemmas
+pub mod OccursLemmas
+pub mod FindingLemmas
+pub mod SeeingLemmas
+pub mod ClosingLemmas
+pub mod CollectedLemmas

@@ -1,0 +1,4 @@
+pub mod NumberLemmas
+pub mod HasNumbersLemmas
+pub mod StandsLemmas
+pub mod StandsOnce
